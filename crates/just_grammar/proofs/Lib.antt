@@ -1,0 +1,10 @@
+pub mod Taken
+pub mod Shorter
+pub mod Turns
+pub mod Trimmed
+pub mod Fronts
+pub mod Found
+pub mod Again
+pub mod Among
+pub mod Answered
+pub mod Said

@@ -1,0 +1,11 @@
+//! The trees of justfiles and their parser.
+#![tactic(auto)]
+
+pub mod ast;
+mod fault;
+pub mod os;
+pub mod parser;
+
+pub use ast::{Ast, Line, Recipe};
+pub use os::Os;
+pub use parser::Parser;

@@ -1,0 +1,46 @@
+-- What a call is given, by contents.
+use Rattle.std.specs.Prelude.{◌≡◌, ℕ, List, [], ◌∷◌, Option, Some, map}
+use Rattle.std.specs.Option.{option_map, option_cmp}
+use Rattle.std.specs.Prelude.{String}
+use Rattle.std.specs.String.{string_bytes}
+use Rattle.std.specs.Ordering.{nat_cmp}
+use Rattle.std.specs.Cmp.Lexicographic.{slice_cmp}
+use Rattle.std.specs.BTreeMap.{BTreeMap, get_by, get_by_text}
+use Rattle.just_grammar.specs.Shape.{RecipeShape}
+use Rattle.just_grammar.specs.Reads.{Reads}
+use Rattle.just_run.specs.Words.{split}
+use Rattle.just_run.specs.declared.positional.Positional.{Positional}
+
+-- the text at a path
+abbrev pub text_at : {A B : Type 0} → BTreeMap (String A) (String B) → List ℕ → Option (List ℕ)
+text_at sources path = option_map string_bytes (get_by_text sources path)
+
+-- the path of the root file for a search directory, or for none
+abbrev pub root_at : {A B : Type 0} → BTreeMap (Option (String A)) (String B) → Option (List ℕ) → Option (List ℕ)
+root_at roots directory = option_map string_bytes (get_by (λ key. option_cmp (slice_cmp nat_cmp) directory (option_map string_bytes key)) roots)
+
+-- the words split, the root file's path and its text, where there are any
+pub record Inputs : Type 0 where
+  pub words : Positional
+  pub root : Option (List ℕ)
+  pub source : List ℕ → Option (List ℕ)
+
+abbrev pub given : {A B C D : Type 0} → BTreeMap (String A) (String B) → BTreeMap (Option (String C)) (String D) → Positional → Inputs
+given sources roots words = record { words = words; root = root_at roots words.search_directory; source = text_at sources }
+
+abbrev pub inputs_of : {A B C D E : Type 0} → BTreeMap (String A) (String B) → BTreeMap (Option (String C)) (String D) → List (String E) → Inputs
+inputs_of sources roots words = given sources roots (split (map string_bytes words))
+
+-- the root file says these recipes
+pub record Says (i : Inputs) (recipes : List RecipeShape) : Type 0 where
+  pub path : List ℕ
+  pub text : List ℕ
+  pub rooted : i.root ≡ Some path
+  pub there : i.source path ≡ Some text
+  pub reads : Reads text recipes
+
+-- the recipes that the arguments name: without arguments the first
+abbrev pub invoked : List (List ℕ) → List RecipeShape → List (List ℕ)
+invoked [] [] = []
+invoked [] (recipe ∷ recipes) = recipe.name ∷ []
+invoked (word ∷ words) recipes = word ∷ words

@@ -1,0 +1,130 @@
+//! The commands, the scripts and the files of variables that a run asks for.
+ghost use Rattle.std.specs.Prelude.{◌≡◌};
+
+use just_text::{Sequence, Text};
+use std::alloc::AllocError;
+
+/// A variable and its value.
+#[derive(Debug, Drop, PartialEq, Eq)]
+pub struct Pair {
+    pub name: Text,
+    pub value: Text,
+}
+
+/// A command, with what it runs under.
+#[derive(Debug, Drop, PartialEq, Eq)]
+pub struct CommandJob {
+    /// The shell and its words, which the command stands behind.
+    pub shell: Sequence<Text>,
+    pub command: Text,
+    /// The words behind the command.
+    pub positional: Sequence<Text>,
+    /// The variables of the environment, of which a later one of a name counts.
+    pub pairs: Sequence<Pair>,
+    /// The names that the environment lacks.
+    pub removed: Sequence<Text>,
+    /// The folder that the command runs in, where one is given.
+    pub folder: Option<Text>,
+    /// Whether the command runs unprinted.
+    pub quiet: bool,
+}
+
+/// A script, with what it runs under.
+#[derive(Debug, Drop, PartialEq, Eq)]
+pub struct ScriptJob {
+    /// The interpreter's command and its words, which the script's path stands behind.
+    pub interpreter: Sequence<Text>,
+    /// The script's lines, without what ends them.
+    pub lines: Sequence<Text>,
+    /// The words behind the script's path.
+    pub positional: Sequence<Text>,
+    /// The end of the script's name, where one is given.
+    pub extension: Option<Text>,
+    /// The variables of the environment, of which a later one of a name counts.
+    pub pairs: Sequence<Pair>,
+    /// The names that the environment lacks.
+    pub removed: Sequence<Text>,
+    /// The folder that the script runs in, where one is given.
+    pub folder: Option<Text>,
+}
+
+/// Which files of variables are read, and how.
+#[derive(Debug, Drop, PartialEq, Eq)]
+pub struct DotenvRequest {
+    /// The folder that the files are sought in.
+    pub folder: Text,
+    /// Whether files are read without a name or a path of one.
+    pub load: bool,
+    /// The names that are sought in the folder and those above it.
+    pub filenames: Sequence<Text>,
+    /// The paths of files.
+    pub paths: Sequence<Text>,
+    /// The command that prints variables, and its words; none where it is empty.
+    pub command: Sequence<Text>,
+    /// Whether a file's variable comes before the environment's.
+    pub overriding: bool,
+    /// Whether it is a fault that no file is found.
+    pub required: bool,
+}
+
+impl Clone for Pair {
+    ghost is_clone = { λ s t. t ≡ s };
+
+    fn clone(&self) -> Result<Pair, AllocError> {
+        Ok(Pair {
+            name: self.name.clone()?,
+            value: self.value.clone()?,
+        })
+    }
+}
+
+impl Clone for CommandJob {
+    ghost is_clone = { λ s t. t ≡ s };
+
+    #[tactic(auto, using(crate::proofs::Cloned::same_elements))]
+    fn clone(&self) -> Result<CommandJob, AllocError> {
+        Ok(CommandJob {
+            shell: self.shell.clone()?,
+            command: self.command.clone()?,
+            positional: self.positional.clone()?,
+            pairs: self.pairs.clone()?,
+            removed: self.removed.clone()?,
+            folder: self.folder.clone()?,
+            quiet: self.quiet,
+        })
+    }
+}
+
+impl Clone for ScriptJob {
+    ghost is_clone = { λ s t. t ≡ s };
+
+    #[tactic(auto, using(crate::proofs::Cloned::same_elements))]
+    fn clone(&self) -> Result<ScriptJob, AllocError> {
+        Ok(ScriptJob {
+            interpreter: self.interpreter.clone()?,
+            lines: self.lines.clone()?,
+            positional: self.positional.clone()?,
+            extension: self.extension.clone()?,
+            pairs: self.pairs.clone()?,
+            removed: self.removed.clone()?,
+            folder: self.folder.clone()?,
+        })
+    }
+}
+
+impl Clone for DotenvRequest {
+    ghost is_clone = { λ s t. t ≡ s };
+
+    #[tactic(auto, using(crate::proofs::Cloned::same_elements))]
+    fn clone(&self) -> Result<DotenvRequest, AllocError> {
+        Ok(DotenvRequest {
+            folder: self.folder.clone()?,
+            load: self.load,
+            filenames: self.filenames.clone()?,
+            paths: self.paths.clone()?,
+            command: self.command.clone()?,
+            overriding: self.overriding,
+            required: self.required,
+        })
+    }
+}

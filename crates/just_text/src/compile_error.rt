@@ -1,0 +1,116 @@
+//! Why a source is refused.
+ghost use Rattle.std.specs.Prelude.{Some};
+
+use crate::token::Token;
+use crate::token_kind::TokenKind;
+use std::alloc::{AllocError, AllocFailed};
+use std::fmt;
+
+/// What is wrong with a source. It prints its name in lower case, and its fields between backticks.
+#[derive(Debug, Drop)]
+pub enum CompileErrorKind {
+    /// Memory ran out. It has no place in the source.
+    OutOfMemory,
+    /// No 32-bit number is left for a binding or a recipe. It has no place in the source.
+    NumbersUsed,
+    /// No token begins with this character.
+    UnknownStartOfToken(char),
+    /// A carriage return outside strings, comments and commands, and no newline behind it.
+    UnpairedCarriageReturn,
+    /// The white space that begins a body has both spaces and tabs.
+    MixedLeadingWhitespace,
+    /// A body line begins with other white space than the body does.
+    InconsistentLeadingWhitespace,
+    /// A body line begins with more white space than the body does.
+    ExtraLeadingWhitespace,
+    /// No rule of the grammar takes this token here.
+    UnexpectedToken(TokenKind),
+}
+
+/// A refusal and its place.
+#[derive(Debug, Drop)]
+pub struct CompileError<'src> {
+    pub token: Token<'src>,
+    pub kind: CompileErrorKind,
+}
+
+impl CompileError<'_> {
+    ghost use Rattle.std.specs.Prelude.{◌≡◌};
+
+    /// A refusal that has no place: it stands at the start of an empty text.
+    pub fn without_place(kind: CompileErrorKind) -> CompileError<'static>
+        ensures { result.kind ≡ kind }
+    {
+        CompileError {
+            token: Token {
+                column: 0,
+                kind: TokenKind::Eof,
+                length: 0,
+                line: 0,
+                offset: 0,
+                path: "",
+                src: "",
+            },
+            kind,
+        }
+    }
+}
+
+impl fmt::Display for CompileErrorKind {
+    ghost use Rattle.just_text.specs.Texts.{error_text};
+
+    ghost output = { λ kind. Some (error_text kind) };
+
+    fn fmt<W: fmt::Write>(&self, f: &mut fmt::Formatter<W>) -> fmt::Result {
+        match self {
+            CompileErrorKind::OutOfMemory => write!(f, "out of memory"),
+            CompileErrorKind::NumbersUsed => write!(f, "numbers used"),
+            CompileErrorKind::UnknownStartOfToken(start) => {
+                write!(f, "unknown start of token: `{start}`")
+            }
+            CompileErrorKind::UnpairedCarriageReturn => write!(f, "unpaired carriage return"),
+            CompileErrorKind::MixedLeadingWhitespace => write!(f, "mixed leading whitespace"),
+            CompileErrorKind::InconsistentLeadingWhitespace => {
+                write!(f, "inconsistent leading whitespace")
+            }
+            CompileErrorKind::ExtraLeadingWhitespace => write!(f, "extra leading whitespace"),
+            CompileErrorKind::UnexpectedToken(found) => write!(f, "unexpected token: `{found}`"),
+        }
+    }
+}
+
+impl fmt::Display for CompileError<'_> {
+    ghost use Rattle.just_text.specs.Texts.{error_text};
+
+    ghost output = { λ error. Some (error_text error.kind) };
+
+    fn fmt<W: fmt::Write>(&self, f: &mut fmt::Formatter<W>) -> fmt::Result {
+        write!(f, "{}", self.kind)
+    }
+}
+
+impl std::error::Error for CompileErrorKind {}
+
+impl std::error::Error for CompileError<'_> {}
+
+impl<'src> From<AllocError> for CompileError<'src> {
+    ghost use Rattle.std.specs.Prelude.{◌≡◌};
+    ghost use Rattle.just_text.specs.declared.compile_error.CompileErrorKind.TheVariants.{OutOfMemory};
+
+    ghost from_gives = { λ _ e. e.kind ≡ OutOfMemory };
+
+    fn from(_refused: AllocError) -> CompileError<'src> {
+        CompileError::without_place(CompileErrorKind::OutOfMemory)
+    }
+}
+
+impl<'src, T: Drop> From<AllocFailed<T>> for CompileError<'src> {
+    ghost use Rattle.std.specs.Prelude.{◌≡◌};
+    ghost use Rattle.just_text.specs.declared.compile_error.CompileErrorKind.TheVariants.{OutOfMemory};
+
+    ghost from_gives = { λ _ e. e.kind ≡ OutOfMemory };
+
+    fn from(_refused: AllocFailed<T>) -> CompileError<'src> {
+        CompileError::without_place(CompileErrorKind::OutOfMemory)
+    }
+}

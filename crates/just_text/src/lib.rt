@@ -1,0 +1,27 @@
+//! Tokens of justfiles, names, numbers, and the small types that all crates share.
+#![tactic(auto)]
+
+pub mod compile_error;
+pub mod expander;
+pub mod fields;
+pub mod lexer;
+mod mode;
+pub mod name;
+pub mod number;
+mod position;
+mod scan;
+pub mod sequence;
+pub mod text;
+pub mod token;
+pub mod token_kind;
+
+pub use compile_error::{CompileError, CompileErrorKind};
+pub use expander::{ExpandFault, Expander};
+pub use fields::Ticked;
+pub use lexer::Lexer;
+pub use name::Name;
+pub use number::{Number, Numerator};
+pub use sequence::Sequence;
+pub use text::Text;
+pub use token::Token;
+pub use token_kind::TokenKind;
