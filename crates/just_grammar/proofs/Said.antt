@@ -2,13 +2,13 @@
 use Rattle.std.proofs.Common.{◌≡◌, ℕ, List, [], ◌∷◌, Result, Ok, Err, map, refl, sym, subst, ap, ◌∙◌}
 use Rattle.std.specs.Prelude.{IfOk, IfErr, OnOk}
 use Rattle.just_text.specs.Tokens.{words_of, word_of}
-use Rattle.just_text.specs.Lexes.{Piece, pieces, piece_word, Lexes}
-use Rattle.just_text.specs.Lexed.{HasFault}
+use Rattle.just_lexer.specs.Lexes.{Piece, pieces, piece_word, Lexes}
+use Rattle.just_lexer.specs.Lexed.{HasFault}
 use Rattle.just_text.specs.declared.token.Token.{Token}
-use Rattle.just_text.specs.declared.position.Position.{Position}
+use Rattle.just_lexer.specs.declared.position.Position.{Position}
 use Rattle.just_text.specs.declared.compile_error.CompileError.{CompileError}
 use Rattle.just_text.specs.declared.compile_error.CompileErrorKind.{CompileErrorKind}
-use Rattle.just_text.specs.declared.compile_error.CompileErrorKind.TheVariants.{OutOfMemory, NumbersUsed, UnknownStartOfToken, UnpairedCarriageReturn, MixedLeadingWhitespace, InconsistentLeadingWhitespace, ExtraLeadingWhitespace, UnexpectedToken}
+use Rattle.just_text.specs.declared.compile_error.CompileErrorKind.TheVariants.{OutOfMemory, NumbersUsed, UnknownStartOfToken, UnpairedCarriageReturn, MixedLeadingWhitespace, InconsistentLeadingWhitespace, ExtraLeadingWhitespace, UnexpectedToken, UnexpectedCharacter, UnterminatedString, UnterminatedBacktick, UnterminatedInterpolation, InvalidEscapeSequence, MismatchedClosingDelimiter, UnexpectedClosingDelimiter, ShellExpansion}
 use Rattle.just_grammar.specs.declared.ast.Ast.{Ast}
 use Rattle.just_grammar.specs.Shape.{RecipeShape, shape_of}
 use Rattle.just_grammar.specs.Derives.{Derives}
@@ -39,6 +39,14 @@ module _ (text : List ℕ) (found handed : List Token) (same : handed ≡ found)
   nothing_said NumbersUsed h = h
   nothing_said (UnknownStartOfToken c) h = absurd h
   nothing_said UnpairedCarriageReturn h = absurd h
+  nothing_said (UnexpectedCharacter expected) h = absurd h
+  nothing_said UnterminatedString h = absurd h
+  nothing_said UnterminatedBacktick h = absurd h
+  nothing_said UnterminatedInterpolation h = absurd h
+  nothing_said (InvalidEscapeSequence escape) h = absurd h
+  nothing_said (MismatchedClosingDelimiter opener closer) h = absurd h
+  nothing_said (UnexpectedClosingDelimiter closer) h = absurd h
+  nothing_said (ShellExpansion refused) h = absurd h
   nothing_said MixedLeadingWhitespace h = absurd h
   nothing_said InconsistentLeadingWhitespace h = absurd h
   nothing_said ExtraLeadingWhitespace h = absurd h
@@ -57,6 +65,14 @@ module _ (text : List ℕ) (found handed : List Token) (same : handed ≡ found)
     no_fault shape derived ExtraLeadingWhitespace h = h
     no_fault shape derived (UnknownStartOfToken c) h = faultless (UnknownStartOfToken c) h.0 h.1
     no_fault shape derived UnpairedCarriageReturn h = faultless UnpairedCarriageReturn h.0 h.1
+    no_fault shape derived (UnexpectedCharacter expected) h = faultless (UnexpectedCharacter expected) h.0 h.1
+    no_fault shape derived UnterminatedString h = faultless UnterminatedString h.0 h.1
+    no_fault shape derived UnterminatedBacktick h = faultless UnterminatedBacktick h.0 h.1
+    no_fault shape derived UnterminatedInterpolation h = faultless UnterminatedInterpolation h.0 h.1
+    no_fault shape derived (InvalidEscapeSequence escape) h = faultless (InvalidEscapeSequence escape) h.0 h.1
+    no_fault shape derived (MismatchedClosingDelimiter opener closer) h = faultless (MismatchedClosingDelimiter opener closer) h.0 h.1
+    no_fault shape derived (UnexpectedClosingDelimiter closer) h = faultless (UnexpectedClosingDelimiter closer) h.0 h.1
+    no_fault shape derived (ShellExpansion refused) h = faultless (ShellExpansion refused) h.0 h.1
     no_fault shape derived MixedLeadingWhitespace h = faultless MixedLeadingWhitespace h.0 h.1
     no_fault shape derived InconsistentLeadingWhitespace h = faultless InconsistentLeadingWhitespace h.0 h.1
 

@@ -1,41 +1,19 @@
 -- What taking a token says of the tokens.
-use Rattle.std.proofs.Common.{◌≡◌, ℕ, zero, suc, Bool, true, false, List, [], ◌∷◌, Result, Ok, Err, Option, Some, None, refl, sym, ap, subst, ◌∙◌, arith, inl, inr, ◌⊎◌, eqb-true}
+use Rattle.std.proofs.Common.{◌≡◌, Bool, true, false, List, [], ◌∷◌, Result, Ok, Err, Option, Some, None, refl, sym, ap, subst, ◌∙◌, inl, inr, ◌⊎◌}
 use Rattle.just_text.specs.Tokens.{Word}
 use Rattle.just_text.specs.declared.token_kind.TokenKind.{TokenKind}
-use Rattle.just_text.specs.declared.token_kind.TokenKind.TheVariants.{Colon, Comment, Dedent, Eof, Eol, Identifier, Indent, Text, Whitespace}
-use Rattle.just_grammar.specs.Words.{number, is_kind}
+use Rattle.just_text.specs.contracts.token_kind.TokenKind.{the_type}
+use denote.Enum.Bare.{same_true, true_same}
+use Rattle.just_grammar.specs.Words.{is_kind}
 use Rattle.just_grammar.specs.Reading.{◌>>=◌, accept, expect}
 
 -- ---- kinds
 
-kind_of : ℕ → TokenKind
-kind_of zero = Colon
-kind_of (suc zero) = Comment
-kind_of (suc (suc zero)) = Dedent
-kind_of (suc (suc (suc zero))) = Eof
-kind_of (suc (suc (suc (suc zero)))) = Eol
-kind_of (suc (suc (suc (suc (suc zero))))) = Identifier
-kind_of (suc (suc (suc (suc (suc (suc zero)))))) = Indent
-kind_of (suc (suc (suc (suc (suc (suc (suc zero))))))) = Text
-kind_of n = Whitespace
-
-kind_of-number : (k : TokenKind) → kind_of (number k) ≡ k
-unfolding kind_of
-kind_of-number Colon = refl
-kind_of-number Comment = refl
-kind_of-number Dedent = refl
-kind_of-number Eof = refl
-kind_of-number Eol = refl
-kind_of-number Identifier = refl
-kind_of-number Indent = refl
-kind_of-number Text = refl
-kind_of-number Whitespace = refl
-
 pub is_kind-same : (a b : TokenKind) → is_kind a b ≡ true → a ≡ b
-is_kind-same a b h = sym (kind_of-number a) ∙ ap kind_of (eqb-true (number a) (number b) h) ∙ kind_of-number b
+is_kind-same a b h = same_true the_type tt a b h
 
 pub is_kind-itself : (k : TokenKind) → is_kind k k ≡ true
-is_kind-itself k = grind arith
+is_kind-itself k = true_same the_type k k refl
 
 pub other_kind : (k a b : TokenKind) → is_kind k a ≡ true → is_kind a b ≡ false → is_kind k b ≡ false
 other_kind k a b h differ = rw (is_kind-same k a h) differ
@@ -64,6 +42,9 @@ ok_is x y e = cc
 pub turned : {A E : Type 0} (P : A → Type 0) (x y : A) → done {A = A} {E = E} x ≡ Ok y → P x → P y
 turned {A = A} {E = E} P x y e p = subst P (ok_is {A = A} {E = E} x y e) p
 
+pub some_is : {A : Type 0} (x y : A) → Some x ≡ Some y → x ≡ y
+some_is x y e = cc
+
 -- ---- tokens
 
 module _ {T : Type 0} (word : T → Word) where
@@ -77,8 +58,8 @@ module _ {T : Type 0} (word : T → Word) where
   accept_is kind [] p e = absurd cc
   accept_is kind (t ∷ ts) p e =
       elim (test (is_kind (word t).kind kind)) [
-        | inl h ↦ let q : Some (t, ts) ≡ Some p = rw h at e in
-            record { is = cc; of_kind = let s = is_kind-same (word t).kind kind h in cc }
+        | inl h ↦ let q : (t, ts) ≡ p = some_is (t, ts) p (rw h at e) in
+            record { is = ap (λ r. r.0 ∷ r.1) q; of_kind = ap (λ r. (word r.0).kind) (sym q) ∙ is_kind-same (word t).kind kind h }
         | inr h ↦ let q = rw h at e in absurd cc
       ]
 

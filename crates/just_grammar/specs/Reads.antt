@@ -1,8 +1,8 @@
 -- What a text says.
 use Rattle.std.specs.Prelude.{ℕ, List, map}
-use Rattle.just_text.specs.Lexes.{Piece, piece_word, Lexes}
-use Rattle.just_text.specs.Lexed.{HasFault}
-use Rattle.just_text.specs.declared.position.Position.{Position}
+use Rattle.just_lexer.specs.Lexes.{Piece, piece_word, Lexes}
+use Rattle.just_lexer.specs.Lexed.{HasFault}
+use Rattle.just_lexer.specs.declared.position.Position.{Position}
 use Rattle.just_text.specs.declared.compile_error.CompileErrorKind.{CompileErrorKind}
 use Rattle.just_text.specs.declared.compile_error.CompileErrorKind.TheVariants.{OutOfMemory, NumbersUsed, ExtraLeadingWhitespace, UnexpectedToken}
 use Rattle.just_grammar.specs.Shape.{RecipeShape}

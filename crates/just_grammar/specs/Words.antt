@@ -1,24 +1,14 @@
 -- Words as the grammar sees them.
-use Rattle.std.specs.Prelude.{ℕ, ◌≡◌, ◌==◌, List, ◌∷◌, Bool, not, filter}
+use Rattle.std.specs.Prelude.{ℕ, ◌≡◌, List, ◌∷◌, Bool, not, filter}
 use Rattle.just_text.specs.Tokens.{Word}
 use Rattle.just_text.specs.declared.token_kind.TokenKind.{TokenKind}
-use Rattle.just_text.specs.declared.token_kind.TokenKind.TheVariants.{Colon, Comment, Dedent, Eof, Eol, Identifier, Indent, Text, Whitespace}
-
--- a number for each kind
-abbrev pub number : TokenKind → ℕ
-number Colon = 0
-number Comment = 1
-number Dedent = 2
-number Eof = 3
-number Eol = 4
-number Identifier = 5
-number Indent = 6
-number Text = 7
-number Whitespace = 8
+use Rattle.just_text.specs.declared.token_kind.TokenKind.TheVariants.{Whitespace}
+use Rattle.just_text.specs.contracts.token_kind.TokenKind.{the_type}
+use denote.Enum.Bare.{sameb}
 
 -- whether two kinds are the same
 abbrev pub is_kind : TokenKind → TokenKind → Bool
-is_kind a b = number a == number b
+is_kind = sameb the_type
 
 abbrev pub is_significant : Word → Bool
 is_significant w = not (is_kind w.kind Whitespace)

@@ -4,7 +4,7 @@ use Rattle.std.specs.Prelude.{Contains}
 use Rattle.std.specs.List.{list_any}
 use Rattle.just_text.specs.declared.compile_error.CompileError.{CompileError}
 use Rattle.just_text.specs.declared.compile_error.CompileErrorKind.{CompileErrorKind}
-use Rattle.just_text.specs.declared.compile_error.CompileErrorKind.TheVariants.{OutOfMemory, NumbersUsed, UnknownStartOfToken, UnpairedCarriageReturn, MixedLeadingWhitespace, InconsistentLeadingWhitespace, ExtraLeadingWhitespace, UnexpectedToken}
+use Rattle.just_text.specs.declared.compile_error.CompileErrorKind.TheVariants.{OutOfMemory, NumbersUsed, UnknownStartOfToken, UnpairedCarriageReturn, MixedLeadingWhitespace, InconsistentLeadingWhitespace, ExtraLeadingWhitespace, UnexpectedToken, UnexpectedCharacter, UnterminatedString, UnterminatedBacktick, UnterminatedInterpolation, InvalidEscapeSequence, MismatchedClosingDelimiter, UnexpectedClosingDelimiter, ShellExpansion}
 use Rattle.just_grammar.specs.Shape.{RecipeShape}
 use Rattle.just_run.specs.Recipes.{IsRedefined, IsUnknownDependency, IsCircle}
 use Rattle.just_run.specs.Inputs.{Inputs}
@@ -45,6 +45,14 @@ text_clear i recipes read plain path text rooted there OutOfMemory h = read.clea
 text_clear i recipes read plain path text rooted there NumbersUsed h = read.clear path text NumbersUsed rooted there h
 text_clear i recipes read plain path text rooted there (UnknownStartOfToken c) h = read.clear path text (UnknownStartOfToken c) rooted there h
 text_clear i recipes read plain path text rooted there UnpairedCarriageReturn h = read.clear path text UnpairedCarriageReturn rooted there h
+text_clear i recipes read plain path text rooted there (UnexpectedCharacter expected) h = read.clear path text (UnexpectedCharacter expected) rooted there h
+text_clear i recipes read plain path text rooted there UnterminatedString h = read.clear path text UnterminatedString rooted there h
+text_clear i recipes read plain path text rooted there UnterminatedBacktick h = read.clear path text UnterminatedBacktick rooted there h
+text_clear i recipes read plain path text rooted there UnterminatedInterpolation h = read.clear path text UnterminatedInterpolation rooted there h
+text_clear i recipes read plain path text rooted there (InvalidEscapeSequence escape) h = read.clear path text (InvalidEscapeSequence escape) rooted there h
+text_clear i recipes read plain path text rooted there (MismatchedClosingDelimiter opener closer) h = read.clear path text (MismatchedClosingDelimiter opener closer) rooted there h
+text_clear i recipes read plain path text rooted there (UnexpectedClosingDelimiter closer) h = read.clear path text (UnexpectedClosingDelimiter closer) rooted there h
+text_clear i recipes read plain path text rooted there (ShellExpansion refused) h = read.clear path text (ShellExpansion refused) rooted there h
 text_clear i recipes read plain path text rooted there MixedLeadingWhitespace h = read.clear path text MixedLeadingWhitespace rooted there h
 text_clear i recipes read plain path text rooted there InconsistentLeadingWhitespace h = read.clear path text InconsistentLeadingWhitespace rooted there h
 text_clear i recipes read plain path text rooted there (UnexpectedToken found) h = read.clear path text (UnexpectedToken found) rooted there h

@@ -3,9 +3,3 @@ pub mod Texts
 pub mod Tokens
 pub mod Numbers
 pub mod Expansion
-pub mod Classes
-pub mod Modes
-pub mod Longest
-pub mod Lexes
-pub mod Lexed
-pub mod Lexing

@@ -1,6 +1,8 @@
 //! Why a source is refused.
 ghost use Rattle.std.specs.Prelude.{Some};
 
+use crate::delimiter::Delimiter;
+use crate::text::Text;
 use crate::token::Token;
 use crate::token_kind::TokenKind;
 use std::alloc::{AllocError, AllocFailed};
@@ -15,6 +17,22 @@ pub enum CompileErrorKind {
     NumbersUsed,
     /// No token begins with this character.
     UnknownStartOfToken(char),
+    /// This character is expected behind the one before, which is no token alone.
+    UnexpectedCharacter(char),
+    /// A string that no mark closes.
+    UnterminatedString,
+    /// A command that no mark closes.
+    UnterminatedBacktick,
+    /// An interpolation of a body that does not end in its line.
+    UnterminatedInterpolation,
+    /// A backslash and what stands behind it, which no rule reads.
+    InvalidEscapeSequence(Text),
+    /// The bracket that is open, and another that closes.
+    MismatchedClosingDelimiter(Delimiter, Delimiter),
+    /// A closing bracket where none is open.
+    UnexpectedClosingDelimiter(Delimiter),
+    /// Why the text of a string behind `x` is not expanded.
+    ShellExpansion(Text),
     /// A carriage return outside strings, comments and commands, and no newline behind it.
     UnpairedCarriageReturn,
     /// The white space that begins a body has both spaces and tabs.
@@ -68,6 +86,25 @@ impl fmt::Display for CompileErrorKind {
             CompileErrorKind::UnknownStartOfToken(start) => {
                 write!(f, "unknown start of token: `{start}`")
             }
+            CompileErrorKind::UnexpectedCharacter(expected) => {
+                write!(f, "unexpected character: `{expected}`")
+            }
+            CompileErrorKind::UnterminatedString => write!(f, "unterminated string"),
+            CompileErrorKind::UnterminatedBacktick => write!(f, "unterminated backtick"),
+            CompileErrorKind::UnterminatedInterpolation => write!(f, "unterminated interpolation"),
+            CompileErrorKind::InvalidEscapeSequence(text) => {
+                write!(f, "invalid escape sequence: `{text}`")
+            }
+            CompileErrorKind::MismatchedClosingDelimiter(opener, closer) => {
+                let opener = opener.open();
+                let closer = closer.close();
+                write!(f, "mismatched closing delimiter: `{opener}`, `{closer}`")
+            }
+            CompileErrorKind::UnexpectedClosingDelimiter(closer) => {
+                let closer = closer.close();
+                write!(f, "unexpected closing delimiter: `{closer}`")
+            }
+            CompileErrorKind::ShellExpansion(text) => write!(f, "shell expansion: `{text}`"),
             CompileErrorKind::UnpairedCarriageReturn => write!(f, "unpaired carriage return"),
             CompileErrorKind::MixedLeadingWhitespace => write!(f, "mixed leading whitespace"),
             CompileErrorKind::InconsistentLeadingWhitespace => {

@@ -2,23 +2,20 @@
 #![tactic(auto)]
 
 pub mod compile_error;
+pub mod delimiter;
 pub mod expander;
 pub mod fields;
-pub mod lexer;
-mod mode;
 pub mod name;
 pub mod number;
-mod position;
-mod scan;
 pub mod sequence;
 pub mod text;
 pub mod token;
 pub mod token_kind;
 
 pub use compile_error::{CompileError, CompileErrorKind};
+pub use delimiter::Delimiter;
 pub use expander::{ExpandFault, Expander};
 pub use fields::Ticked;
-pub use lexer::Lexer;
 pub use name::Name;
 pub use number::{Number, Numerator};
 pub use sequence::Sequence;

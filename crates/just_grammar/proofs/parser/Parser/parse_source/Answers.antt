@@ -1,5 +1,5 @@
 -- The lexer's answer and the parser's are the text's.
-use Rattle.just_text.specs.Lexes.{pieces}
+use Rattle.just_lexer.specs.Lexes.{pieces}
 use Rattle.just_grammar.proofs.Said.{said, only_said, refused_said, accepted_said}
 use Rattle.just_grammar.proofs.parser.Parser.parse_source.Goals as goal
 

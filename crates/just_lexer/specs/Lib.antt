@@ -1,0 +1,6 @@
+pub mod Classes
+pub mod Modes
+pub mod Longest
+pub mod Lexes
+pub mod Lexed
+pub mod Lexing
