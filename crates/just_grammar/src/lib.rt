@@ -3,9 +3,7 @@
 
 pub mod ast;
 mod fault;
-pub mod os;
 pub mod parser;
 
 pub use ast::{Ast, Line, Recipe};
-pub use os::Os;
 pub use parser::Parser;

@@ -1,6 +1,7 @@
 pub mod Scans
-pub mod Lines
-pub mod Fronts
+pub mod Steps
+pub mod Beats
+pub mod Tokens
 pub mod OnLongest
 pub mod Ends
 pub mod Faults

@@ -1,13 +1,12 @@
 -- A token list lexes a text.
-use Rattle.std.specs.Prelude.{◌≡◌, ℕ, true, false, List, [], ◌∷◌, ◌++◌, length, drop, map}
+use Rattle.std.specs.Prelude.{◌≡◌, ℕ, true, List, [], ◌∷◌, ◌++◌, length, drop, map}
 use Rattle.std.specs.List.{fold}
 use Rattle.just_text.specs.declared.token_kind.TokenKind.{TokenKind}
 use Rattle.just_text.specs.declared.token.Token.{Token}
 use Rattle.just_lexer.specs.declared.position.Position.{Position}
-use Rattle.just_lexer.specs.declared.mode.Mode.{Mode}
-use Rattle.just_lexer.specs.declared.mode.Mode.TheVariants.{Start}
+use Rattle.just_lexer.specs.declared.mode.Line.TheVariants.{Begin}
 use Rattle.just_text.specs.Tokens.{Word, lexeme}
-use Rattle.just_lexer.specs.Modes.{after, is_over, advance}
+use Rattle.just_lexer.specs.Modes.{Mode, after, is_over, moved}
 use Rattle.just_lexer.specs.Longest.{IsLongest}
 
 -- a token and its place, without the texts that it borrows
@@ -38,11 +37,11 @@ pub record Place : Type 0 where
 
 -- the place in front of the first token
 abbrev pub start : List ℕ → Place
-start text = record { mode = Start false; at = record { column = 0; line = 0; offset = 0 }; rest = text }
+start text = record { mode = record { line = Begin; opened = [] }; at = record { column = 0; line = 0; offset = 0 }; rest = text }
 
 -- the place behind a token
 abbrev pub behind : Place → Piece → Place
-behind p t = record { mode = after p.mode t.kind t.text; at = fold advance p.at t.text; rest = drop (length t.text) p.rest }
+behind p t = record { mode = after p.mode t.kind t.text; at = moved p.at t.kind t.text; rest = drop (length t.text) p.rest }
 
 -- the token stands at the place, and is the longest there
 pub record IsTokenAt (p : Place) (t : Piece) : Type 0 where
@@ -58,4 +57,4 @@ AllTokens p (t ∷ ts) = IsTokenAt p t × AllTokens (behind p t) ts
 -- the tokens lex the text: each is the longest at its place, and the last one is the text's end
 pub record Lexes (text : List ℕ) (ts : List Piece) : Type 0 where
   pub each : AllTokens (start text) ts
-  pub whole : is_over (fold behind (start text) ts).mode ≡ true
+  pub whole : is_over (fold behind (start text) ts).mode.line ≡ true

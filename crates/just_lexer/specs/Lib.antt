@@ -1,4 +1,5 @@
 pub mod Classes
+pub mod Strings
 pub mod Modes
 pub mod Longest
 pub mod Lexes

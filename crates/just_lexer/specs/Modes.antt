@@ -1,13 +1,17 @@
 -- What the tokens before a place say of it.
-use Rattle.std.specs.Prelude.{ℕ, ◌+◌, Bool, true, false, ◌==◌, nat_le, if◌then◌else◌, List, length}
-use Rattle.std.specs.List.{prefix_len}
-use Rattle.just_lexer.specs.Classes.{first, is_indented}
+use Rattle.std.specs.Prelude.{ℕ, ◌+◌, ◌-◌, Bool, true, false, not, ◌&&◌, ◌||◌, ◌==◌, nat_le, if◌then◌else◌, List, [], ◌∷◌, ◌++◌, length, take, drop, slice_get, Option, Some, is_some}
+use Rattle.std.specs.List.{prefix_len, fold}
+use Rattle.just_lexer.specs.Classes.{first, is_indented, at_byte_order_mark, breaks_off}
+use Rattle.just_lexer.specs.Strings.{quotes_at, ends_in_hole}
+use Rattle.just_text.specs.declared.delimiter.Delimiter.TheVariants as delimiters
 use Rattle.just_text.specs.declared.token_kind.TokenKind.{TokenKind}
-use Rattle.just_text.specs.declared.token_kind.TokenKind.TheVariants.{Colon, Comment, Dedent, Eof, Eol, Indent, Whitespace}
+use Rattle.just_text.specs.declared.token_kind.TokenKind.TheVariants.{BraceL, BraceR, BracketL, BracketR, ByteOrderMark, Colon, Comment, Dedent, Eof, Eol, FormatStringEnd, FormatStringStart, Indent, InterpolationEnd, InterpolationStart, ParenL, ParenR, Whitespace}
 use Rattle.just_lexer.specs.declared.mode.Indentation.{Indentation}
 use Rattle.just_lexer.specs.declared.mode.Indentation.TheVariants.{Spaces, Tabs}
-use Rattle.just_lexer.specs.declared.mode.Mode.{Mode}
-use Rattle.just_lexer.specs.declared.mode.Mode.TheVariants.{Start, Inside, BodyStart, BodyLine, Over}
+use Rattle.just_lexer.specs.declared.mode.Open.{Open}
+use Rattle.just_lexer.specs.declared.mode.Open.TheVariants.{Bracket, Interpolation, Hole}
+use Rattle.just_lexer.specs.declared.mode.Line.{Line}
+use Rattle.just_lexer.specs.declared.mode.Line.TheVariants.{Begin, Start, Ahead, Inside, BodyStart, BodyLine, Over}
 use Rattle.just_lexer.specs.declared.position.Position.{Position}
 
 -- the byte that an indentation repeats
@@ -28,45 +32,110 @@ has_indentation i text = nat_le (indent_width i) (prefix_len (λ b. b == indent_
 abbrev pub indentation_of : List ℕ → Indentation
 indentation_of lexeme = if first lexeme == 32 then Spaces (length lexeme) else Tabs (length lexeme)
 
--- The mode behind a token. The flag says whether a body may come: a line that is neither blank nor a comment clears it, and a colon in it sets it.
-unfoldable pub after : Mode → TokenKind → List ℕ → Mode
-after (Start may) Eol lexeme = Start may
-after (Start may) Whitespace lexeme = Inside may
-after (Start may) Comment lexeme = Inside may
-after (Start may) Colon lexeme = Inside true
-after (Start may) Indent lexeme = if may then BodyLine (indentation_of lexeme) else Inside false
-after (Start may) Eof lexeme = Over
-after (Start may) _ lexeme = Inside false
-after (Inside may) Eol lexeme = Start may
-after (Inside may) Colon lexeme = Inside true
-after (Inside may) Eof lexeme = Over
-after (Inside may) _ lexeme = Inside may
-after (BodyStart i) Eol lexeme = BodyStart i
-after (BodyStart i) Dedent lexeme = Start false
-after (BodyStart i) _ lexeme = BodyLine i
-after (BodyLine i) Eol lexeme = BodyStart i
-after (BodyLine i) Dedent lexeme = Start false
-after (BodyLine i) _ lexeme = BodyLine i
-after Over _ lexeme = Over
+-- What the tokens before a place say of it: where in its line it stands, and what is open there, the innermost last.
+pub record Mode : Type 0 where
+  pub line : Line
+  pub opened : List Open
+
+-- the innermost of what is open
+abbrev pub innermost : List Open → Option Open
+innermost opened = slice_get opened (length opened - 1)
+
+-- a bracket is open, be it around a format string's expression
+abbrev pub in_brackets : Option Open → Bool
+in_brackets (Some (Bracket _)) = true
+in_brackets (Some (Hole _ around)) = around
+in_brackets _ = false
+
+-- what opens at a format string's start: an expression between parts, unless the whole string is read
+abbrev pub holes_of : Option Open → List ℕ → List Open
+holes_of inner lexeme = if ends_in_hole (length lexeme) lexeme then Hole (quotes_at (drop 1 lexeme)) (in_brackets inner) ∷ [] else []
+
+-- what is open without the innermost
+abbrev pub closed : List Open → List Open
+closed opened = take (length opened - 1) opened
+
+-- what is open behind a token
+unfoldable pub open_after : List Open → TokenKind → List ℕ → List Open
+open_after opened ParenL lexeme = opened ++ Bracket delimiters.Paren ∷ []
+open_after opened BracketL lexeme = opened ++ Bracket delimiters.Bracket ∷ []
+open_after opened BraceL lexeme = opened ++ Bracket delimiters.Brace ∷ []
+open_after opened InterpolationStart lexeme = opened ++ Interpolation ∷ []
+open_after opened FormatStringStart lexeme = opened ++ holes_of (innermost opened) lexeme
+open_after opened ParenR lexeme = closed opened
+open_after opened BracketR lexeme = closed opened
+open_after opened BraceR lexeme = closed opened
+open_after opened InterpolationEnd lexeme = closed opened
+open_after opened FormatStringEnd lexeme = closed opened
+open_after opened _ lexeme = opened
+
+-- Behind a token at the first column outside bodies. The flag says whether a body may come: a blank line and a comment line keep it, a colon sets it, and each other line clears it.
+unfoldable pub start_after : Bool → TokenKind → List ℕ → Line
+start_after may ByteOrderMark lexeme = Start may
+start_after may Eol lexeme = Start may
+start_after may Whitespace lexeme = Ahead may
+start_after may Comment lexeme = Ahead may
+start_after may Colon lexeme = Inside true
+start_after may Indent lexeme = if may then BodyLine (indentation_of lexeme) else Inside false
+start_after may Eof lexeme = Over
+start_after may _ lexeme = Inside false
+
+-- The place in the line behind a token. A line end where something is open leads to no line start, and a colon counts outside brackets.
+unfoldable pub line_after : Line → Option Open → TokenKind → List ℕ → Line
+line_after Begin inner k lexeme = start_after false k lexeme
+line_after (Start may) inner k lexeme = start_after may k lexeme
+line_after (Ahead may) inner Eol lexeme = Start may
+line_after (Ahead may) inner Whitespace lexeme = Ahead may
+line_after (Ahead may) inner Colon lexeme = Inside true
+line_after (Ahead may) inner Eof lexeme = Over
+line_after (Ahead may) inner _ lexeme = Inside false
+line_after (Inside may) inner Eol lexeme = if is_some inner then Inside false else Start may
+line_after (Inside may) inner Colon lexeme = Inside (may || not (in_brackets inner))
+line_after (Inside may) inner Eof lexeme = Over
+line_after (Inside may) inner _ lexeme = Inside may
+line_after (BodyStart i) inner Eol lexeme = BodyStart i
+line_after (BodyStart i) inner Dedent lexeme = Start false
+line_after (BodyStart i) inner _ lexeme = BodyLine i
+line_after (BodyLine i) inner Eol lexeme = BodyStart i
+line_after (BodyLine i) inner Dedent lexeme = Start false
+line_after (BodyLine i) inner _ lexeme = BodyLine i
+line_after Over inner _ lexeme = Over
+
+-- the mode behind a token
+abbrev pub after : Mode → TokenKind → List ℕ → Mode
+after m k lexeme = record { line = line_after m.line (innermost m.opened) k lexeme; opened = open_after m.opened k lexeme }
 
 -- behind the last token
-abbrev pub is_over : Mode → Bool
+abbrev pub is_over : Line → Bool
 is_over Over = true
 is_over _ = false
 
--- in a line outside bodies, behind its leading white space
-abbrev pub is_in_line : Mode → List ℕ → Bool
-is_in_line (Start _) rest = if is_indented rest then false else true
-is_in_line (Inside _) rest = true
-is_in_line _ rest = false
+-- in a line outside bodies, behind its leading white space, or in an expression of a body line
+abbrev pub is_in_code : Line → Option Open → List ℕ → Bool
+is_in_code Begin inner rest = not (at_byte_order_mark rest || is_indented rest)
+is_in_code (Start _) inner rest = not (is_indented rest)
+is_in_code (Ahead _) inner rest = true
+is_in_code (Inside _) inner rest = true
+is_in_code (BodyLine _) inner rest = is_some inner && not (breaks_off rest)
+is_in_code _ inner rest = false
 
--- in a body line, behind its indentation
-abbrev pub is_in_body_line : Mode → Bool
-is_in_body_line (BodyLine _) = true
-is_in_body_line _ = false
+-- behind the indentation of a body's line
+abbrev pub is_in_body : Line → Bool
+is_in_body (BodyLine _) = true
+is_in_body _ = false
 
 -- the position behind a byte
 abbrev pub advance : Position → ℕ → Position
 advance p b =
     if b == 10 then record { column = 0; line = p.line + 1; offset = p.offset + 1 }
     else record { column = p.column + 1; line = p.line; offset = p.offset + 1 }
+
+abbrev pub is_byte_order_mark : TokenKind → Bool
+is_byte_order_mark ByteOrderMark = true
+is_byte_order_mark _ = false
+
+-- the position behind a token: columns count behind a byte order mark
+abbrev pub moved : Position → TokenKind → List ℕ → Position
+moved p k lexeme =
+    if is_byte_order_mark k then record { column = p.column; line = p.line; offset = p.offset + length lexeme }
+    else fold advance p lexeme

@@ -1,6 +1,6 @@
 //! From a text to its tokens.
 
-ghost use Rattle.std.specs.Prelude.{◌≡◌, ◌<◌, ℕ, List, length, IfOk, IfErr};
+ghost use Rattle.std.specs.Prelude.{◌≡◌, ◌⊎◌, ℕ, List, IfOk, IfErr};
 ghost use Rattle.std.specs.List.{flat_map};
 ghost use Rattle.std.specs.Str.{IsCharBoundary};
 ghost use Rattle.just_text.specs.Tokens.{lexeme};
@@ -8,45 +8,34 @@ ghost use Rattle.just_lexer.specs.Lexing.{kind_of};
 ghost use Rattle.just_lexer.specs.Lexes.{Piece, pieces, position_of, Lexes};
 ghost use Rattle.just_lexer.specs.Lexed.{Gives, FaultStands, HasFault, AllBorrow};
 ghost use Rattle.just_text.specs.declared.compile_error.CompileErrorKind.{CompileErrorKind};
+ghost use Rattle.just_text.specs.declared.compile_error.CompileErrorKind.TheVariants.{OutOfMemory};
 ghost use Rattle.just_lexer.specs.declared.position.Position.{Position};
 
-use crate::mode::Mode;
+use crate::fault::{Fault, kind_of};
+use crate::mode::{Line, innermost, step_open};
 use crate::position::Position;
-use crate::scan::{Fault, token_at};
+use crate::scan::place::token_at;
 use just_text::{CompileError, CompileErrorKind, Token, TokenKind};
-use std::alloc::Global;
+use std::alloc::{AllocError, Global};
 
 /// Reads a text token by token.
 #[derive(Clone, Copy)]
 pub struct Lexer<'src> {
-    mode: Mode,
+    line: Line,
     position: Position,
     rest: &'src str,
-}
-
-/// What to print for a fault.
-fn kind_of(fault: Fault, rest: &str) -> CompileErrorKind
-    requires { 0 < length rest.now }
-    ensures { result ≡ kind_of fault rest.now }
-{
-    match fault {
-        Fault::UnknownStart => {
-            let start = rest.chars().next().unwrap_or('\0');
-            CompileErrorKind::UnknownStartOfToken(start)
-        }
-        Fault::UnpairedReturn => CompileErrorKind::UnpairedCarriageReturn,
-        Fault::MixedIndentation => CompileErrorKind::MixedLeadingWhitespace,
-        Fault::OtherIndentation => CompileErrorKind::InconsistentLeadingWhitespace,
-    }
 }
 
 impl<'src> Lexer<'src> {
     /// The tokens of the text, the last of which is `Eof`; they borrow from the path and the text.
     ///
-    /// Refused where memory runs out, and where no token stands behind those before: at a start that
-    /// no kind has, at a carriage return without a newline, at a body's first line that is indented
-    /// by spaces and tabs, and at a later one that is indented otherwise. The refusal's token is empty
-    /// and stands there.
+    /// Refused where memory runs out, and where no token stands behind those before. Outside strings,
+    /// comments and the text of bodies that is: a character that no token begins with, an ampersand or a
+    /// bar alone, a string or a command that nothing ends, a backslash in front of anything but a line end,
+    /// a carriage return without a newline, and a bracket that closes where another is the innermost open
+    /// one, or none. In bodies it is: an expression that isn't ended in its line, a first line that is
+    /// indented by spaces and tabs, and a later one that is indented otherwise. The refusal's token is
+    /// empty and stands there. What is open at the end of the text is no refusal, but in a body.
     pub fn lex(
         alloc: Global,
         path: &'src str,
@@ -64,19 +53,20 @@ impl<'src> Lexer<'src> {
         ensures fault { IfErr result (λ e. FaultStands path.now src.now e.kind e.token) }
     {
         let mut tokens = Vec::new(alloc);
+        let mut opened = Vec::new(alloc);
         let mut lexer = Lexer {
-            mode: Mode::Start(false),
-            position: Position {
-                column: 0,
-                line: 0,
-                offset: 0,
-            },
+            line: Line::Begin,
+            position: Position::START,
             rest: src,
         };
-        while !lexer.mode.is_over() {
-            let (kind, length) = match token_at(lexer.mode, lexer.rest.as_bytes()) {
+        while !lexer.line.is_over() {
+            let inner = innermost(opened.as_slice());
+            let (kind, length) = match token_at(lexer.line, inner, lexer.rest.as_bytes()) {
                 Ok(found) => found,
-                Err(fault) => return Err(lexer.refusal(fault, path, src)),
+                Err(fault) => {
+                    let kind = kind_of(alloc, fault, lexer.rest)?;
+                    return Err(lexer.refusal(kind, path, src));
+                }
             };
             let (lexeme, rest) = lexer.rest.split_at(length);
             let token = Token {
@@ -89,20 +79,20 @@ impl<'src> Lexer<'src> {
                 src,
             };
             tokens.push(token)?;
+            step_open(&mut opened, kind, lexeme)?;
             lexer = Lexer {
-                mode: lexer.mode.after(kind, lexeme),
-                position: lexer.position.past(kind, length),
+                line: lexer.line.after(inner, kind, lexeme),
+                position: lexer.position.moved(kind, lexeme),
                 rest,
             };
         }
         Ok(tokens)
     }
 
-    /// The refusal at this place.
-    fn refusal(self, fault: Fault, path: &'src str, src: &'src str) -> CompileError<'src>
-        requires boundary { IsCharBoundary src.now self.position.offset }
-        requires more { 0 < length self.rest.now }
-        ensures kind { result.kind ≡ kind_of fault self.entry.rest.now }
+    /// The refusal of this kind at this place.
+    fn refusal(self, kind: CompileErrorKind, path: &'src str, src: &'src str) -> CompileError<'src>
+        requires { IsCharBoundary src.now self.position.offset }
+        ensures kind { result.kind ≡ kind }
         ensures at { position_of result.token ≡ self.entry.position }
         ensures empty { result.token.length ≡ 0 }
         ensures of_path { result.token.path.now ≡ path.now }
@@ -118,7 +108,7 @@ impl<'src> Lexer<'src> {
                 path,
                 src,
             },
-            kind: kind_of(fault, self.rest),
+            kind,
         }
     }
 }

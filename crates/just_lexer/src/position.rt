@@ -1,7 +1,8 @@
 //! Places in a text.
 
-ghost use Rattle.std.specs.Prelude.{◌≡◌, ◌+◌, ◌<◌, ◌^◌};
-ghost use Rattle.just_lexer.specs.Lexing.{past};
+ghost use Rattle.std.specs.Prelude.{◌≡◌, ◌+◌, ◌<◌, ◌^◌, length};
+ghost use Rattle.std.specs.List.{fold};
+ghost use Rattle.just_lexer.specs.Modes.{advance, moved};
 
 use just_text::TokenKind;
 
@@ -14,25 +15,48 @@ pub struct Position {
 }
 
 impl Position {
-    /// The position behind a token of this kind and length. Only a line end leads to another line.
-    pub fn past(self, kind: TokenKind, length: usize) -> Position
-        requires offset { self.offset + length < 2 ^ 63 }
-        requires line { self.line < 2 ^ 63 }
-        requires column { self.column + length < 2 ^ 63 }
-        ensures { result ≡ past self kind length }
+    /// In front of a text.
+    pub const START: Position = Position {
+        column: 0,
+        line: 0,
+        offset: 0,
+    };
+
+    /// The position behind a text that begins here.
+    fn behind(self, text: &str) -> Position
+        requires offset { self.offset + length text.now < 2 ^ 63 }
+        requires line { self.line + length text.now < 2 ^ 63 }
+        requires column { self.column + length text.now < 2 ^ 63 }
+        ensures { result ≡ fold advance self text.now }
     {
-        let offset = self.offset + length;
+        let mut position = self;
+        let bytes = text.as_bytes();
+        for byte in bytes {
+            position.offset += 1;
+            if *byte == b'\n' {
+                position.line += 1;
+                position.column = 0;
+            } else {
+                position.column += 1;
+            }
+        }
+        position
+    }
+
+    /// The position behind a token. A byte order mark takes no column.
+    pub fn moved(self, kind: TokenKind, lexeme: &str) -> Position
+        requires offset { self.offset + length lexeme.now < 2 ^ 63 }
+        requires line { self.line + length lexeme.now < 2 ^ 63 }
+        requires column { self.column + length lexeme.now < 2 ^ 63 }
+        ensures { result ≡ moved self kind lexeme.now }
+    {
         match kind {
-            TokenKind::Eol => Position {
-                column: 0,
-                line: self.line + 1,
-                offset,
-            },
-            _ => Position {
-                column: self.column + length,
+            TokenKind::ByteOrderMark => Position {
+                column: self.column,
                 line: self.line,
-                offset,
+                offset: self.offset + lexeme.len(),
             },
+            _ => self.behind(lexeme),
         }
     }
 }

@@ -5,10 +5,10 @@ use Rattle.std.proofs.Math.ListN.{drop_of_length-le}
 use Rattle.just_grammar.specs.declared.ast.Line.{Line}
 use Rattle.just_grammar.specs.Shape.{line_text}
 use Rattle.just_run.specs.Setup.{Setup}
-use Rattle.just_run.specs.Record.{Record}
+use Rattle.just_host.specs.Record.{Record}
 use Rattle.just_run.specs.Goes.{Failure, LineGoes, Lines, all_went, went, failed}
 use Rattle.just_run.specs.Ran.{IfRan}
-use Rattle.just_run.specs.declared.entry.Entry.{Entry}
+use Rattle.just_host.specs.declared.entry.Entry.{Entry}
 use Rattle.just_run.specs.declared.run.RunFault.{RunFault}
 use Rattle.just_run.specs.declared.run.RunFault.TheVariants as faults
 

@@ -5,7 +5,7 @@ use Rattle.just_text.specs.declared.compile_error.CompileErrorKind.{CompileError
 use Rattle.just_text.specs.declared.compile_error.CompileErrorKind.TheVariants as kinds
 use Rattle.just_grammar.specs.Shape.{RecipeShape}
 use Rattle.just_grammar.specs.Reads.{Reads, IsSyntaxFault, IsRefusal}
-use Rattle.just_run.specs.Record.{Record}
+use Rattle.just_host.specs.Record.{Record}
 use Rattle.just_run.specs.Goes.{Failure}
 use Rattle.just_run.specs.Ran.{IfRan}
 use Rattle.just_run.specs.Inputs.{Inputs}

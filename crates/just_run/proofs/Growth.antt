@@ -1,10 +1,10 @@
 -- Some piece of the record in several steps, and what a record that can still grow tells.
 use Rattle.std.proofs.Common.{List, false, ◌≡◌, [], ◌++◌, ◌∙◌, ap}
-use Rattle.just_run.specs.declared.entry.Entry.{Entry}
-use Rattle.just_run.specs.Record.{Record}
-use Rattle.just_run.specs.Follows.{Follows}
-use Rattle.just_run.specs.Steps.{idle, then, was_open}
-use Rattle.just_run.specs.Follows.{Nothing, Joins}
+use Rattle.just_host.specs.declared.entry.Entry.{Entry}
+use Rattle.just_host.specs.Record.{Record}
+use Rattle.just_host.specs.Follows.{Follows}
+use Rattle.just_host.specs.Steps.{idle, then, was_open}
+use Rattle.just_host.specs.Follows.{Nothing, Joins}
 
 -- by some piece
 abbrev pub Some_piece : {H : Type 0} → (H → List Entry → H → Type 0) → Record H → Record H → Type 0

@@ -1,5 +1,3 @@
-pub mod Cloned
-pub mod Cuts
 pub mod Growth
 pub mod Bodies
 pub mod Known

@@ -10,7 +10,7 @@ use Rattle.just_run.specs.Recipes.{recipe_named}
 use Rattle.just_run.specs.Setup.{Setup}
 use Rattle.just_run.specs.Order.{PlannedShape, name_at, name_or_empty, IsOrder}
 use Rattle.just_run.specs.Goes.{Failure, Goes, over, again, entered, prior_failed, body_failed, is_done, priors_of, entries, each_once, Runs}
-use Rattle.just_run.specs.declared.entry.Entry.{Entry}
+use Rattle.just_host.specs.declared.entry.Entry.{Entry}
 use Rattle.just_run.proofs.Owed.{RunOf}
 use Rattle.just_run.proofs.StackTurns.{place_there, apart}
 

@@ -4,7 +4,7 @@ use Rattle.just_grammar.specs.Shape.{RecipeShape}
 use Rattle.just_run.specs.Recipes.{recipe_named}
 use Rattle.just_run.specs.Setup.{Setup}
 use Rattle.just_run.specs.Goes.{Failure, Lines, Goes, over, again, entered, prior_failed, body_failed, is_done, priors_of}
-use Rattle.just_run.specs.declared.entry.Entry.{Entry}
+use Rattle.just_host.specs.declared.entry.Entry.{Entry}
 
 -- what is to do by name: recipes in order, and the body of a recipe whose priors are done
 pub data Work : Type 0 where

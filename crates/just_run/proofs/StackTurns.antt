@@ -14,7 +14,7 @@ use Rattle.just_run.specs.Setup.{Setup}
 use Rattle.just_run.specs.Order.{PlannedShape, name_at, name_or_empty, IsOrder}
 use Rattle.just_run.specs.Todo.{Todo, Calls, Body}
 use Rattle.just_run.specs.Goes.{Failure, Lines, is_done, priors_of}
-use Rattle.just_run.specs.declared.entry.Entry.{Entry}
+use Rattle.just_host.specs.declared.entry.Entry.{Entry}
 use Rattle.just_run.proofs.Owed.{Work, Names, BodyOf, RunOf, Owes, starts, emptied, passed, opened, body_ran, body_fails, ends}
 
 abbrev pub body_or_empty : Option PlannedShape → List (List ℕ)

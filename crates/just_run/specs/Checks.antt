@@ -1,6 +1,6 @@
 -- What is wrong with overrides.
 use Rattle.std.specs.Prelude.{List, map, Contains}
-use Rattle.just_run.specs.declared.positional.Override.{Override}
+use Rattle.just_value.specs.declared.positional.Override.{Override}
 use Rattle.just_run.specs.Rules.{unknown_override}
 use Rattle.just_run.specs.Rules as rules
 use Rattle.just_run.specs.Drives.{Verdict, ran_out, breaks}

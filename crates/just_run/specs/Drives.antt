@@ -1,12 +1,12 @@
 -- What a call answers.
 use Rattle.std.specs.Prelude.{◌≡◌, List, true, false, Option, Some, None, Result, Ok, Err, map}
 use Rattle.just_grammar.specs.Shape.{RecipeShape, name_text}
-use Rattle.just_run.specs.Record.{Record}
+use Rattle.just_host.specs.Record.{Record}
 use Rattle.just_run.specs.Setup.{Setup}
 use Rattle.just_run.specs.Inputs.{Inputs, Says, invoked}
 use Rattle.just_run.specs.Rules.{Rule, no_root_for_word, missing_root, syntax, redefinition, unknown_dependency, circular_recipe, unknown_override, unknown_recipe, unknown_module, no_recipes, is_of_words, Broken}
 use Rattle.just_run.specs.Goes.{Failure, by_code, by_signal, not_started, Runs}
-use Rattle.just_run.specs.declared.entry.Entry.{Entry}
+use Rattle.just_host.specs.declared.entry.Entry.{Entry}
 use Rattle.just_run.specs.declared.outcome.Outcome.{Outcome}
 use Rattle.just_run.specs.declared.outcome.Outcome.TheVariants.{Ran}
 use Rattle.just_run.specs.declared.fault.Fault.{Fault}

@@ -1,8 +1,11 @@
 -- The printed texts and the statuses of faults, and how a part's faults become a call's.
-use Rattle.std.specs.Prelude.{ℕ, List, [], ◌∷◌, ◌++◌, ◌+◌, codes, map, min}
+use Rattle.std.specs.Prelude.{ℕ, List, [], ◌∷◌, ◌++◌, ◌+◌, codes, map, min, Option, Some, None}
 use Rattle.std.specs.Fmt.{decimal}
 use Rattle.just_text.specs.Fields.{ticked, with_fields}
 use Rattle.just_text.specs.Texts.{error_text}
+use Rattle.just_text.specs.Tokens.{place_of}
+use Rattle.just_text.specs.declared.token.Token.{Token}
+use Rattle.just_text.specs.declared.name.Name.{Name}
 use Rattle.just_text.specs.declared.compile_error.CompileErrorKind.{CompileErrorKind}
 use Rattle.just_text.specs.declared.compile_error.CompileErrorKind.TheVariants as kinds
 use Rattle.just_text.specs.declared.compile_error.CompileError.{CompileError}
@@ -35,6 +38,18 @@ abbrev pub status_of : Fault → ℕ
 status_of (Code recipe code) = code
 status_of (Signal recipe signal) = min 255 (signal + 128)
 status_of _ = 1
+
+abbrev pub first_token : List Name → Option Token
+first_token [] = None
+first_token (name ∷ names) = Some name.token
+
+-- where in a source a fault stands, if it has a place
+abbrev pub fault_place : Fault → Option Token
+fault_place (Syntax error) = place_of error
+fault_place (Redefinition name) = Some name.token
+fault_place (UnknownDependency recipe dependency) = Some dependency.token
+fault_place (CircularRecipe names) = first_token names
+fault_place _ = None
 
 abbrev pub by_kind : CompileErrorKind → CompileError → Fault
 by_kind kinds.OutOfMemory error = OutOfMemory

@@ -6,10 +6,10 @@ use Rattle.std.specs.Str.{bytes_eq}
 use Rattle.just_grammar.specs.Shape.{RecipeShape}
 use Rattle.just_run.specs.Recipes.{recipe_named}
 use Rattle.just_run.specs.Setup.{Setup, shows, job_of}
-use Rattle.just_run.specs.declared.host.Status.{Status}
-use Rattle.just_run.specs.declared.host.Status.TheVariants.{Code, Signal, NotStarted}
-use Rattle.just_run.specs.declared.entry.Entry.{Entry}
-use Rattle.just_run.specs.declared.entry.Entry.TheVariants.{Line, Show}
+use Rattle.just_host.specs.declared.host.Status.{Status}
+use Rattle.just_host.specs.declared.host.Status.TheVariants.{Code, Signal, NotStarted}
+use Rattle.just_host.specs.declared.entry.Entry.{Entry}
+use Rattle.just_host.specs.declared.entry.Entry.TheVariants.{Line, Show}
 
 -- how a recipe failed: the code or the signal of its command, or a command that could not start
 pub data Failure : Type 0 where

@@ -8,8 +8,8 @@ use Rattle.std.specs.Cmp.Lexicographic.{slice_cmp}
 use Rattle.std.specs.BTreeMap.{BTreeMap, get_by, get_by_text}
 use Rattle.just_grammar.specs.Shape.{RecipeShape}
 use Rattle.just_grammar.specs.Reads.{Reads}
-use Rattle.just_run.specs.Words.{split}
-use Rattle.just_run.specs.declared.positional.Positional.{Positional}
+use Rattle.just_value.specs.Words.{split}
+use Rattle.just_value.specs.declared.positional.Positional.{Positional}
 
 -- the text at a path
 abbrev pub text_at : {A B : Type 0} → BTreeMap (String A) (String B) → List ℕ → Option (List ℕ)

@@ -2,12 +2,7 @@ pub mod Recipes
 pub mod Order
 pub mod Marked
 pub mod Search
-pub mod Faults
-pub mod Record
-pub mod Follows
-pub mod Steps
 pub mod Out
-pub mod Words
 pub mod Setup
 pub mod Goes
 pub mod Ran

@@ -2,8 +2,8 @@
 use Rattle.std.specs.Prelude.{ℕ, List, [], ◌∷◌, Bool, not, ◌||◌, Some, unwrap_or, map, codes}
 use Rattle.std.specs.Option.{option_map}
 use Rattle.std.specs.String.{string_bytes}
-use Rattle.just_run.specs.declared.config.Config.{Config}
-use Rattle.just_run.specs.declared.job.CommandJob.{CommandJob}
+use Rattle.just_host.specs.declared.config.Config.{Config}
+use Rattle.just_host.specs.declared.job.CommandJob.{CommandJob}
 
 pub record Setup : Type 0 where
   pub shell : List (List ℕ)

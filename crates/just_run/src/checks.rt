@@ -12,9 +12,9 @@ ghost use Rattle.just_run.specs.Checks.{IsUnwanted};
 
 use crate::fault::Fault;
 use crate::order::Order;
-use crate::positional::{Override, Positional};
 use just_grammar::{Line, Recipe};
 use just_text::{CompileError, CompileErrorKind};
+use just_value::{Override, Positional};
 use std::alloc::Global;
 
 /// Whether a body line begins with a space or a tab.

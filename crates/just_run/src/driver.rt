@@ -6,22 +6,20 @@ ghost use Rattle.just_run.specs.Rules.{Rule, Broken};
 ghost use Rattle.just_run.specs.Drives.{verdict, NamesBroken, IsRefusal, RunsOf, IfRun};
 ghost use Rattle.just_run.specs.Stages.{IsRead};
 ghost use Rattle.just_run.specs.Setup.{setup_of};
-ghost use Rattle.just_run.specs.Follows.{Follows};
-ghost use Rattle.just_run.specs.declared.entry.Entry.{Entry};
+ghost use Rattle.just_host.specs.Follows.{Follows};
+ghost use Rattle.just_host.specs.declared.entry.Entry.{Entry};
 
 use crate::checks::check;
-use crate::config::Config;
 use crate::fault::Fault;
-use crate::host::RunHost;
 use crate::invocations::invocations;
 use crate::outcome::{Action, Outcome};
 use crate::output::Out;
-use crate::positional::Positional;
-use crate::recorded::Recorded;
 use crate::root::read_root;
 use crate::run::run;
 use just_grammar::Ast;
+use just_host::{Config, Recorded, RunHost};
 use just_text::Expander;
+use just_value::Positional;
 use std::alloc::Global;
 use std::collections::BTreeMap;
 

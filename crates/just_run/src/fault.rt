@@ -3,7 +3,7 @@ ghost use Rattle.std.specs.Prelude.{◌≡◌, Some};
 
 use crate::order::OrderFault;
 use crate::run::RunFault;
-use just_text::{CompileError, CompileErrorKind, Name, Sequence, Text};
+use just_text::{CompileError, CompileErrorKind, Name, Sequence, Text, Token};
 use std::alloc::{AllocError, AllocFailed};
 use std::fmt;
 
@@ -44,8 +44,8 @@ pub enum Fault<'src> {
     CouldNotStart(Name<'src>),
 }
 
-impl Fault<'_> {
-    ghost use Rattle.just_run.specs.Faulted.{status_of};
+impl<'src> Fault<'src> {
+    ghost use Rattle.just_run.specs.Faulted.{status_of, fault_place};
 
     /// The status that a program ends with: the code of a failed command; 128 and the number of a
     /// signal, at most 255; else 1.
@@ -56,6 +56,20 @@ impl Fault<'_> {
             Fault::Code(_, code) => *code,
             Fault::Signal(_, signal) => signal.saturating_add(128),
             _ => 1,
+        }
+    }
+
+    /// Where in a source the refusal stands: at the token that is refused, the later definition's name, the
+    /// dependency that isn't there, or the name of a recipe of the circle. Other faults have no place.
+    pub fn place(&self) -> Option<Token<'src>>
+        ensures { result ≡ fault_place self.now }
+    {
+        match self {
+            Fault::Syntax(error) => error.place(),
+            Fault::Redefinition(name) => Some(name.token),
+            Fault::UnknownDependency { dependency, .. } => Some(dependency.token),
+            Fault::CircularRecipe(names) => Some(names.as_slice().first()?.token),
+            _ => None,
         }
     }
 }

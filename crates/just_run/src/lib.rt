@@ -2,33 +2,26 @@
 #![tactic(auto)]
 
 mod checks;
-pub mod config;
 pub mod driver;
-pub mod entry;
 pub mod fault;
 pub mod frame;
-pub mod host;
 mod invocations;
-pub mod job;
 mod marks;
 pub mod order;
 pub mod outcome;
 pub mod output;
-pub mod positional;
-pub mod recorded;
 mod root;
 pub mod run;
 mod search;
 pub mod stack;
 
-pub use config::Config;
 pub use driver::drive;
-pub use entry::Entry;
 pub use fault::Fault;
-pub use host::{Answer, Confirmation, Host, HostFault, MachineFact, Question, RunHost, Status};
-pub use job::{CommandJob, DotenvRequest, Pair, ScriptJob};
+pub use just_host::{
+    Answer, CommandJob, Config, Confirmation, DotenvRequest, Entry, Host, HostFault, MachineFact,
+    Pair, Question, Recorded, RunHost, ScriptJob, Status,
+};
+pub use just_value::{Override, Positional};
 pub use order::{Order, OrderFault, Planned};
 pub use outcome::{Action, Outcome};
 pub use output::{Collected, Device, Out, WriteFailed, write_all};
-pub use positional::{Override, Positional};
-pub use recorded::Recorded;

@@ -9,9 +9,9 @@ ghost use Rattle.std.specs.Option.{option_map};
 ghost use Rattle.std.specs.String.{string_bytes};
 
 use crate::fault::Fault;
-use crate::positional::Positional;
 use just_grammar::{Ast, Parser};
 use just_text::Text;
+use just_value::Positional;
 use std::alloc::{AllocError, Global};
 use std::collections::BTreeMap;
 

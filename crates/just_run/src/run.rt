@@ -7,18 +7,15 @@ ghost use Rattle.just_run.specs.Setup.{setup_of, shell_words, shows, job_of};
 ghost use Rattle.just_run.specs.Goes.{Hands, LineGoes, Lines, Goes, Runs};
 ghost use Rattle.just_run.specs.Order.{IsRanked, IsOrder, planned_shape, name_at};
 ghost use Rattle.just_run.specs.Ran.{IfRan};
-ghost use Rattle.just_run.specs.Follows.{Follows};
-ghost use Rattle.just_run.specs.declared.entry.Entry.{Entry};
+ghost use Rattle.just_host.specs.Follows.{Follows};
+ghost use Rattle.just_host.specs.declared.entry.Entry.{Entry};
 ghost use Rattle.just_run.specs.declared.run.RunFault.TheVariants.{OutOfMemory};
 
-use crate::config::Config;
 use crate::frame::Frame;
-use crate::host::{RunHost, Status};
-use crate::job::CommandJob;
 use crate::order::Planned;
-use crate::recorded::Recorded;
 use crate::stack::Stack;
 use just_grammar::Line;
+use just_host::{CommandJob, Config, Recorded, RunHost, Status};
 use just_text::{Name, Sequence, Text};
 use std::alloc::{AllocError, AllocFailed, Global};
 

@@ -3,3 +3,7 @@ pub mod Texts
 pub mod Tokens
 pub mod Numbers
 pub mod Expansion
+pub mod Order
+pub mod Keywords
+pub mod Counts
+pub mod Names

@@ -52,8 +52,9 @@ pub struct CompileError<'src> {
     pub kind: CompileErrorKind,
 }
 
-impl CompileError<'_> {
+impl<'src> CompileError<'src> {
     ghost use Rattle.std.specs.Prelude.{◌≡◌};
+    ghost use Rattle.just_text.specs.Tokens.{place_of};
 
     /// A refusal that has no place: it stands at the start of an empty text.
     pub fn without_place(kind: CompileErrorKind) -> CompileError<'static>
@@ -70,6 +71,16 @@ impl CompileError<'_> {
                 src: "",
             },
             kind,
+        }
+    }
+
+    /// Where the refusal stands. Want of memory and of numbers has no place.
+    pub fn place(&self) -> Option<Token<'src>>
+        ensures { result ≡ place_of self.now }
+    {
+        match self.kind {
+            CompileErrorKind::OutOfMemory | CompileErrorKind::NumbersUsed => None,
+            _ => Some(self.token),
         }
     }
 }

@@ -2,22 +2,30 @@
 #![tactic(auto)]
 
 pub mod compile_error;
+pub mod count;
 pub mod delimiter;
 pub mod expander;
 pub mod fields;
+pub mod keyword;
 pub mod name;
+pub mod namepath;
 pub mod number;
+pub mod os;
 pub mod sequence;
 pub mod text;
 pub mod token;
 pub mod token_kind;
 
 pub use compile_error::{CompileError, CompileErrorKind};
+pub use count::Count;
 pub use delimiter::Delimiter;
 pub use expander::{ExpandFault, Expander};
 pub use fields::Ticked;
+pub use keyword::Keyword;
 pub use name::Name;
+pub use namepath::Namepath;
 pub use number::{Number, Numerator};
+pub use os::Os;
 pub use sequence::Sequence;
 pub use text::Text;
 pub use token::Token;

@@ -1,7 +1,14 @@
 //! Names in a source.
 ghost use Rattle.std.specs.Prelude.{◌≡◌, Some};
+ghost use Rattle.std.specs.Cmp.{partial_order_from_own_ties};
+ghost use Rattle.std.specs.Cmp.Rules.{comparing};
+ghost use Rattle.std.specs.Ordering.{as_partial_cmp};
+ghost use Rattle.std.proofs.Common.{rules};
+ghost use Rattle.just_text.specs.Order.{name_cmp, name_eq, name_ties};
+ghost use Rattle.just_text.specs.Tokens.{lexeme};
 
 use crate::token::Token;
+use std::cmp::Ordering;
 use std::fmt;
 
 /// A name where it is written.
@@ -11,8 +18,6 @@ pub struct Name<'src> {
 }
 
 impl<'src> Name<'src> {
-    ghost use Rattle.just_text.specs.Tokens.{lexeme};
-
     pub fn from_token(token: Token<'src>) -> Name<'src>
         ensures { result.token ≡ token.entry }
     {
@@ -28,11 +33,51 @@ impl<'src> Name<'src> {
 }
 
 impl fmt::Display for Name<'_> {
-    ghost use Rattle.just_text.specs.Tokens.{lexeme};
-
     ghost output = { λ name. Some (lexeme name.token) };
 
     fn fmt<W: fmt::Write>(&self, f: &mut fmt::Formatter<W>) -> fmt::Result {
         f.write_str(self.lexeme())
+    }
+}
+
+impl PartialEq for Name<'_> {
+    ghost eq = { name_eq };
+
+    ghost laws = { Prim.search (comparing, rules) depth 9 };
+
+    fn eq(&self, other: &Name<'_>) -> bool {
+        self.lexeme() == other.lexeme() && self.token == other.token
+    }
+}
+
+impl Eq for Name<'_> {
+    ghost laws = { Prim.search (comparing, rules) depth 9 };
+}
+
+impl PartialOrd for Name<'_> {
+    ghost partial_cmp = { as_partial_cmp name_cmp };
+
+    ghost laws = { partial_order_from_own_ties (Prim.search (comparing, rules) depth 9) name_ties };
+
+    fn partial_cmp(&self, other: &Name<'_>) -> Option<Ordering> {
+        Some(self.cmp(other))
+    }
+}
+
+/// By the names' texts, then by where they are written.
+impl Ord for Name<'_> {
+    ghost cmp = { name_cmp };
+
+    ghost total = { Prim.search (comparing, rules) depth 9 };
+
+    ghost matches_partial_cmp = { Prim.search (comparing, rules) };
+
+    ghost matches_eq = { name_ties };
+
+    fn cmp(&self, other: &Name<'_>) -> Ordering {
+        match self.lexeme().cmp(other.lexeme()) {
+            Ordering::Equal => self.token.cmp(&other.token),
+            unequal => unequal,
+        }
     }
 }

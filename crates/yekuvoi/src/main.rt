@@ -9,8 +9,9 @@ use crate::expander::NoExpansion;
 use crate::host::Printing;
 use crate::input::read_justfile;
 use anyhow::{Context, Result};
-use just_grammar::Os;
+use just_excerpt::Excerpt;
 use just_run::{Action, Collected, Config, Recorded, drive};
+use just_text::Os;
 use semver::Version;
 use std::alloc::Global;
 use std::collections::BTreeMap;
@@ -93,6 +94,9 @@ fn run(rt: &HostRuntime) -> Result<u8> {
         Ok(_) => Ok(0),
         Err(fault) => {
             let _ = writeln!(shown, "error: {fault}");
+            if let Some(token) = fault.place() {
+                let _ = writeln!(shown, "{}", Excerpt(&token));
+            }
             let _ = shown.flush();
             Ok(fault.status())
         }

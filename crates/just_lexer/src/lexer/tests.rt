@@ -4,23 +4,44 @@ use super::*;
 use std::alloc::AllocError;
 use std::test::Fail;
 
-/// The kinds of the text's tokens, each by a letter.
+/// A letter for the token's kind, or the mark itself.
+fn letter<'src>(token: &Token<'src>) -> &'src str {
+    match token.kind {
+        TokenKind::Backtick => "b",
+        TokenKind::ByteOrderMark => "^",
+        TokenKind::Comment => "#",
+        TokenKind::Dedent => "<",
+        TokenKind::Eof => ".",
+        TokenKind::Eol => "n",
+        TokenKind::FormatStringContinue => "m",
+        TokenKind::FormatStringEnd => "e",
+        TokenKind::FormatStringStart => "f",
+        TokenKind::Identifier => "i",
+        TokenKind::Indent => ">",
+        TokenKind::StringToken => "s",
+        TokenKind::Text => "t",
+        TokenKind::Whitespace => "w",
+        _ => token.lexeme(),
+    }
+}
+
+/// The letters of the text's tokens.
 fn kinds(rt: &HostRuntime, src: &str) -> Result<String, Fail> {
     let tokens = Lexer::lex(rt.alloc(), "justfile", src)?;
     let mut text = String::new(rt.alloc());
     for token in &tokens {
-        text.push(match token.kind {
-            TokenKind::Colon => ':',
-            TokenKind::Comment => '#',
-            TokenKind::Dedent => '<',
-            TokenKind::Eof => '.',
-            TokenKind::Eol => 'n',
-            TokenKind::Identifier => 'i',
-            TokenKind::Indent => '>',
-            TokenKind::Text => 't',
-            TokenKind::Whitespace => 'w',
-            _ => '?',
-        })?;
+        text.push_str(letter(token))?;
+    }
+    Ok(text)
+}
+
+/// The texts of the tokens, a bar behind each.
+fn lexemes(rt: &HostRuntime, src: &str) -> Result<String, Fail> {
+    let tokens = Lexer::lex(rt.alloc(), "justfile", src)?;
+    let mut text = String::new(rt.alloc());
+    for token in &tokens {
+        text.push_str(token.lexeme())?;
+        text.push('|')?;
     }
     Ok(text)
 }
@@ -63,6 +84,42 @@ fn reads_tokens(rt: HostRuntime) -> Result<(), Fail> {
         ("a:\n  {b}\r# {\n", "i:n>tn<."),
         ("a:\n  \r\n\n", "i:nwnn."),
         ("# \r {{ \0", "#."),
+        // Strings, commands and what is in them.
+        ("a := \"\\u{110000}\\q\"\n", "iw:=wsn."),
+        ("a := 'b' + \"\\\"\"\n", "iw:=wsw+wsn."),
+        ("''''''x''f''", "ssf."),
+        ("'''a''b'''\"\"\"\\\"\"\"\"", "ss."),
+        ("xx'a'fx'b'_f'c'", "isisis."),
+        ("'a\nb\r\\'`c\n'````` ```", "sbb."),
+        // Brackets and continuations.
+        ("a := (\n'x'\n)\n", "iw:=w(wsw)n."),
+        ("a \\\n : b\n  c\n", "iwww:win>tn<."),
+        ("\\\n  # b\n", "ww#n."),
+        ("a:\n\\\n  # b\n c\n", "i:nww#n>in."),
+        ("a:\n\\\n\n  b\n", "i:nwn>tn<."),
+        ("a: (b :\n [{}])\n  c\n", "i:w(iw:ww[{}])n>tn<."),
+        ("a (b:)\n  c\n", "iw(i:)n>in."),
+        ("(# :\n  )\n", "(#ww)n."),
+        // Expressions in bodies.
+        ("a:\n  b {{c}} d }}\n", "i:n>t{{i}}tn<."),
+        ("a:\n  {{{{{b{{{c}}}}\n", "i:n>t{{{i}}}tn<."),
+        ("a:\n  {{ '}}\n' + f(x) }}\n", "i:n>{{wsw+wi(i)w}}n<."),
+        ("a:\n  {{`b\n`}}{{ }}", "i:n>{{b}}{{w}}<."),
+        // Expressions in format strings.
+        ("f'a{{b}}c{{ d + 'e' }}f'\n", "fimwiw+wswen."),
+        ("f\"{{{{\\\"}}{{f'{{x}}'}}\"", "ffiee."),
+        ("f'''a'{{b}}''{{c}}'''", "fimie."),
+        ("f'{{ {'a'} }}'", "fw{s}we."),
+        ("f'{{\n  # a\n}}'\n", "fnw#nen."),
+        ("(f'{{\n}}'\n)", "(fwew)."),
+        ("f'{{a:\n}}'\n  b\n", "fi:nen>in."),
+        ("a: f'{{b}}'\n  c\n", "i:wfien>tn<."),
+        ("f'{{(", "f(."),
+        ("f'{{", "f."),
+        // A byte order mark.
+        ("\u{feff}a:\n  b\n", "^i:n>tn<."),
+        ("\u{feff}# a\n  b\n", "^#n>in."),
+        ("\u{feff}  a", "^>i."),
     ] {
         let found = kinds(&rt, src)?;
         assert_eq!(rt; found.as_str(), want, "in {src:?}");
@@ -74,14 +131,51 @@ fn reads_tokens(rt: HostRuntime) -> Result<(), Fail> {
 fn refuses(rt: HostRuntime) -> Result<(), Fail> {
     for (src, want) in [
         ("a\0", "unknown start of token: `\0` at 0:1:1"),
-        ("a::b", "unknown start of token: `:` at 0:1:1"),
-        ("a := b", "unknown start of token: `:` at 0:2:2"),
         ("a:\n\né", "unknown start of token: `é` at 2:0:4"),
-        ("\u{feff}a", "unknown start of token: `\u{feff}` at 0:0:0"),
-        ("a 'b'", "unknown start of token: `'` at 0:2:2"),
-        ("a\\\n", "unknown start of token: `\\` at 0:1:1"),
-        ("a:\n  b {{{c}}\n", "unknown start of token: `{` at 1:4:7"),
-        ("a:\n  b\n  {{{{\n", "unknown start of token: `{` at 2:2:9"),
+        ("a\u{feff}", "unknown start of token: `\u{feff}` at 0:1:1"),
+        (
+            "\u{feff}\u{feff}",
+            "unknown start of token: `\u{feff}` at 0:0:3",
+        ),
+        ("a -b", "unknown start of token: `-` at 0:2:2"),
+        ("a & b", "unexpected character: `&` at 0:2:2"),
+        ("a|", "unexpected character: `|` at 0:1:1"),
+        ("x := 'a", "unterminated string at 0:5:5"),
+        ("x := '''a'", "unterminated string at 0:5:5"),
+        ("x := '''''", "unterminated string at 0:5:5"),
+        ("x\"\\\"", "unterminated string at 0:0:0"),
+        ("f'a}}", "unterminated string at 0:0:0"),
+        ("f'{{a}}b", "unterminated string at 0:5:5"),
+        ("x := `a", "unterminated backtick at 0:5:5"),
+        ("```a`", "unterminated backtick at 0:0:0"),
+        ("a:\n  echo {{x", "unterminated interpolation at 1:10:13"),
+        ("a:\n  {{x\n}}", "unterminated interpolation at 1:5:8"),
+        ("a:\n  {{(\r\n", "unterminated interpolation at 1:5:8"),
+        ("a:\n  {{\\\n}}", "unterminated interpolation at 1:4:7"),
+        ("a:\n  {{f'{{\n", "unterminated interpolation at 1:8:11"),
+        (
+            "a:\n  b {{{c}}\n",
+            "unexpected closing delimiter: `}` at 1:9:12",
+        ),
+        ("a:\n  b {{{c}\n", "unterminated interpolation at 1:9:12"),
+        ("a:\n  {{# }}\n", "unterminated interpolation at 1:8:11"),
+        ("a\\b", "invalid escape sequence: `\\b` at 0:1:1"),
+        ("\\é", "invalid escape sequence: `\\é` at 0:0:0"),
+        ("\\\r", "invalid escape sequence: `\\\r` at 0:0:0"),
+        ("a\\", "invalid escape sequence: `\\` at 0:1:1"),
+        ("a := (]", "mismatched closing delimiter: `(`, `]` at 0:6:6"),
+        (
+            "a:\n  {{(}}",
+            "mismatched closing delimiter: `(`, `}` at 1:5:8",
+        ),
+        (
+            "f'{{[) }}'",
+            "mismatched closing delimiter: `[`, `)` at 0:5:5",
+        ),
+        ("a)", "unexpected closing delimiter: `)` at 0:1:1"),
+        ("}}", "unexpected closing delimiter: `}` at 0:0:0"),
+        ("(f'{{ ) }}'", "unexpected closing delimiter: `)` at 0:6:6"),
+        ("a:\n  {{}", "unexpected closing delimiter: `}` at 1:4:7"),
         ("a\rb", "unpaired carriage return at 0:1:1"),
         ("a:\n  b\n\rc", "unpaired carriage return at 2:0:7"),
         ("a:\n \tb\n", "mixed leading whitespace at 1:0:3"),
@@ -97,13 +191,31 @@ fn refuses(rt: HostRuntime) -> Result<(), Fail> {
 }
 
 #[test]
+fn takes_the_longest_mark(rt: HostRuntime) -> Result<(), Fail> {
+    for (src, want) in [
+        (":::=::=", "::|:=|::|=||"),
+        ("===~=!=!~!", "==|=~|=|!=|!~|!||"),
+        ("&&||+++*/@$?,", "&&||||++|+|*|/|@|$|?|,||"),
+        ("a:b::c-d=e", "a|:|b|::|c-d|=|e||"),
+        ("x'a'f\"{{b}}\"", "x'a'|f\"{{|b|}}\"||"),
+        ("f'{{{{{{a}}}}b{{c}}'", "f'{{{{{{|a|}}}}b{{|c|}}'||"),
+        ("a:\n  {{{{{b{{{c}}}}", "a|:|\n|  |{{{{{b|{{|{|c|}|}}|}|||"),
+        ("a \\\n  b(\r\n )", "a| |\\\n|  |b|(|\r\n| |)||"),
+    ] {
+        let found = lexemes(&rt, src)?;
+        assert_eq!(rt; found.as_str(), want, "in {src:?}");
+    }
+    Ok(())
+}
+
+#[test]
 fn places_tokens(rt: HostRuntime) -> Result<(), Fail> {
-    let src = "a: é # é\r\n";
+    let src = "\u{feff}a 'é\n' é";
     assert_eq!(rt;
         refusal(&rt, src)?.as_str(),
-        "unknown start of token: `é` at 0:3:3"
+        "unknown start of token: `é` at 1:2:11"
     );
-    let src = "# é\r\nb :\n\tc";
+    let src = "\u{feff}# é\r\nb :\n\tc";
     let tokens = Lexer::lex(rt.alloc(), "justfile", src)?;
     let mut text = String::new(rt.alloc());
     for token in &tokens {
@@ -117,7 +229,7 @@ fn places_tokens(rt: HostRuntime) -> Result<(), Fail> {
         text.push_str(part.as_str())?;
     }
     let want =
-        "0:0:0 \"# é\";0:4:4 \"\\r\\n\";1:0:6 \"b\";1:1:7 \" \";1:2:8 \":\";1:3:9 \"\\n\";2:0:10 \"\\t\";2:1:11 \"c\";2:2:12 \"\";2:2:12 \"\";";
+        "0:0:0 \"\\u{feff}\";0:0:3 \"# é\";0:4:7 \"\\r\\n\";1:0:9 \"b\";1:1:10 \" \";1:2:11 \":\";1:3:12 \"\\n\";2:0:13 \"\\t\";2:1:14 \"c\";2:2:15 \"\";2:2:15 \"\";";
     assert_eq!(rt; text.as_str(), want);
     Ok(())
 }

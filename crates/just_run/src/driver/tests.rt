@@ -1,11 +1,11 @@
 //! What is handed over, and what is answered, for small justfiles.
 use super::*;
-use crate::entry::Entry;
-use crate::host::{Answer, Confirmation, Host, HostFault, Question, Status};
-use crate::job::{CommandJob, DotenvRequest, Pair, ScriptJob};
 use crate::output::Collected;
-use just_grammar::Os;
-use just_text::{ExpandFault, Sequence, Text};
+use just_host::{
+    Answer, CommandJob, Confirmation, DotenvRequest, Entry, Host, HostFault, Pair, Question,
+    ScriptJob, Status,
+};
+use just_text::{ExpandFault, Os, Sequence, Text};
 use semver::Version;
 use std::alloc::AllocError;
 use std::process::Abort;

@@ -2,7 +2,7 @@ use Rattle.std.proofs.Common.{◌≡◌, false, drop, map, List, Option}
 use Rattle.just_grammar.specs.Shape.{line_text, name_text}
 use Rattle.just_run.specs.Goes.{Lines, Failure}
 use Rattle.just_run.specs.Setup.{setup_of}
-use Rattle.just_run.specs.declared.entry.Entry.{Entry}
+use Rattle.just_host.specs.declared.entry.Entry.{Entry}
 use Rattle.just_run.proofs.Growth.{Some_piece}
 use Rattle.just_run.proofs.run.run_body.Given as goal
 

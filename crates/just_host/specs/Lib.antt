@@ -1,0 +1,4 @@
+pub mod Faults
+pub mod Record
+pub mod Follows
+pub mod Steps

@@ -1,0 +1,14 @@
+//! What a run asks of the world: configuration, questions, jobs, hosts, and the record of what was asked.
+#![tactic(auto)]
+
+pub mod config;
+pub mod entry;
+pub mod host;
+pub mod job;
+pub mod recorded;
+
+pub use config::Config;
+pub use entry::Entry;
+pub use host::{Answer, Confirmation, Host, HostFault, MachineFact, Question, RunHost, Status};
+pub use job::{CommandJob, DotenvRequest, Pair, ScriptJob};
+pub use recorded::Recorded;

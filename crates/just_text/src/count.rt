@@ -1,0 +1,103 @@
+//! How many there are of something, as it is printed.
+ghost use Rattle.std.specs.Prelude.{◌≡◌, ◌++◌, ◌==◌, Some, codes, if◌then◌else◌};
+ghost use Rattle.std.specs.Fmt.{decimal};
+ghost use Rattle.just_text.specs.Counts.{count_text};
+
+use std::fmt;
+
+/// A noun for so many things, with the number or without it.
+#[derive(Clone, Copy, Debug)]
+pub struct Count<'a> {
+    number: Option<usize>,
+    noun: &'a str,
+    ending: &'a str,
+}
+
+impl<'a> Count<'a> {
+    ghost use Rattle.just_text.specs.Counts.{counted};
+
+    /// Prints the number, a space and the noun, with `s` unless the number is 1.
+    pub fn numbered(noun: &'a str, count: usize) -> Count<'a>
+        ensures { count_text result ≡ decimal count ++ codes " " ++ counted noun.now count }
+    {
+        Count {
+            number: Some(count),
+            noun,
+            ending: ending(count),
+        }
+    }
+
+    /// Prints the number, a space, and the singular if the number is 1, else the plural.
+    pub fn numbered_irregular(singular: &'a str, plural: &'a str, count: usize) -> Count<'a>
+        ensures { count_text result ≡ decimal count ++ codes " " ++ (if count == 1 then singular.now else plural.now) }
+    {
+        Count {
+            number: Some(count),
+            noun: if count == 1 { singular } else { plural },
+            ending: "",
+        }
+    }
+
+    /// Prints the noun alone, with `s` unless the number is 1.
+    pub fn unnumbered(noun: &'a str, count: usize) -> Count<'a>
+        ensures { count_text result ≡ counted noun.now count }
+    {
+        Count {
+            number: None,
+            noun,
+            ending: ending(count),
+        }
+    }
+}
+
+/// What stands behind a regular noun.
+fn ending(count: usize) -> &'static str
+    ensures { result.now ≡ (if count == 1 then codes "" else codes "s") }
+{
+    if count == 1 { "" } else { "s" }
+}
+
+impl fmt::Display for Count<'_> {
+    ghost output = { λ count. Some (count_text count) };
+
+    fn fmt<W: fmt::Write>(&self, f: &mut fmt::Formatter<W>) -> fmt::Result {
+        let noun = self.noun;
+        let ending = self.ending;
+        match self.number {
+            Some(number) => write!(f, "{number} {noun}{ending}"),
+            None => write!(f, "{noun}{ending}"),
+        }
+    }
+}
+
+#[cfg(test)]
+mod tests {
+    use super::*;
+    use std::test::Fail;
+
+    #[test]
+    fn prints_one_and_many(rt: HostRuntime) -> Result<(), Fail> {
+        let cases = [
+            (Count::numbered("argument", 0), "0 arguments"),
+            (Count::numbered("argument", 1), "1 argument"),
+            (Count::numbered("argument", 12), "12 arguments"),
+            (Count::numbered_irregular("alias", "aliases", 1), "1 alias"),
+            (
+                Count::numbered_irregular("alias", "aliases", 2),
+                "2 aliases",
+            ),
+            (
+                Count::unnumbered("environment variable", 1),
+                "environment variable",
+            ),
+            (
+                Count::unnumbered("environment variable", 2),
+                "environment variables",
+            ),
+        ];
+        for (count, expected) in cases {
+            assert_eq!(rt; format!(in rt.alloc(); "{count}")?.as_str(), expected);
+        }
+        Ok(())
+    }
+}
