@@ -84,6 +84,16 @@ fn reads_tokens(rt: HostRuntime) -> Result<(), Fail> {
         ("a:\n  {b}\r# {\n", "i:n>tn<."),
         ("a:\n  \r\n\n", "i:nwnn."),
         ("# \r {{ \0", "#."),
+    ] {
+        let found = kinds(&rt, src)?;
+        assert_eq!(rt; found.as_str(), want, "in {src:?}");
+    }
+    Ok(())
+}
+
+#[test]
+fn reads_strings_and_brackets(rt: HostRuntime) -> Result<(), Fail> {
+    for (src, want) in [
         // Strings, commands and what is in them.
         ("a := \"\\u{110000}\\q\"\n", "iw:=wsn."),
         ("a := 'b' + \"\\\"\"\n", "iw:=wsw+wsn."),
@@ -100,6 +110,16 @@ fn reads_tokens(rt: HostRuntime) -> Result<(), Fail> {
         ("a: (b :\n [{}])\n  c\n", "i:w(iw:ww[{}])n>tn<."),
         ("a (b:)\n  c\n", "iw(i:)n>in."),
         ("(# :\n  )\n", "(#ww)n."),
+    ] {
+        let found = kinds(&rt, src)?;
+        assert_eq!(rt; found.as_str(), want, "in {src:?}");
+    }
+    Ok(())
+}
+
+#[test]
+fn reads_expressions(rt: HostRuntime) -> Result<(), Fail> {
+    for (src, want) in [
         // Expressions in bodies.
         ("a:\n  b {{c}} d }}\n", "i:n>t{{i}}tn<."),
         ("a:\n  {{{{{b{{{c}}}}\n", "i:n>t{{{i}}}tn<."),
@@ -128,7 +148,7 @@ fn reads_tokens(rt: HostRuntime) -> Result<(), Fail> {
 }
 
 #[test]
-fn refuses(rt: HostRuntime) -> Result<(), Fail> {
+fn refuses_characters(rt: HostRuntime) -> Result<(), Fail> {
     for (src, want) in [
         ("a\0", "unknown start of token: `\0` at 0:1:1"),
         ("a:\n\né", "unknown start of token: `é` at 2:0:4"),
@@ -140,6 +160,16 @@ fn refuses(rt: HostRuntime) -> Result<(), Fail> {
         ("a -b", "unknown start of token: `-` at 0:2:2"),
         ("a & b", "unexpected character: `&` at 0:2:2"),
         ("a|", "unexpected character: `|` at 0:1:1"),
+    ] {
+        let found = refusal(&rt, src)?;
+        assert_eq!(rt; found.as_str(), want, "in {src:?}");
+    }
+    Ok(())
+}
+
+#[test]
+fn refuses_what_has_no_end(rt: HostRuntime) -> Result<(), Fail> {
+    for (src, want) in [
         ("x := 'a", "unterminated string at 0:5:5"),
         ("x := '''a'", "unterminated string at 0:5:5"),
         ("x := '''''", "unterminated string at 0:5:5"),
@@ -159,6 +189,16 @@ fn refuses(rt: HostRuntime) -> Result<(), Fail> {
         ),
         ("a:\n  b {{{c}\n", "unterminated interpolation at 1:9:12"),
         ("a:\n  {{# }}\n", "unterminated interpolation at 1:8:11"),
+    ] {
+        let found = refusal(&rt, src)?;
+        assert_eq!(rt; found.as_str(), want, "in {src:?}");
+    }
+    Ok(())
+}
+
+#[test]
+fn refuses_escapes_and_brackets(rt: HostRuntime) -> Result<(), Fail> {
+    for (src, want) in [
         ("a\\b", "invalid escape sequence: `\\b` at 0:1:1"),
         ("\\é", "invalid escape sequence: `\\é` at 0:0:0"),
         ("\\\r", "invalid escape sequence: `\\\r` at 0:0:0"),
@@ -176,6 +216,16 @@ fn refuses(rt: HostRuntime) -> Result<(), Fail> {
         ("}}", "unexpected closing delimiter: `}` at 0:0:0"),
         ("(f'{{ ) }}'", "unexpected closing delimiter: `)` at 0:6:6"),
         ("a:\n  {{}", "unexpected closing delimiter: `}` at 1:4:7"),
+    ] {
+        let found = refusal(&rt, src)?;
+        assert_eq!(rt; found.as_str(), want, "in {src:?}");
+    }
+    Ok(())
+}
+
+#[test]
+fn refuses_returns_and_indentation(rt: HostRuntime) -> Result<(), Fail> {
+    for (src, want) in [
         ("a\rb", "unpaired carriage return at 0:1:1"),
         ("a:\n  b\n\rc", "unpaired carriage return at 2:0:7"),
         ("a:\n \tb\n", "mixed leading whitespace at 1:0:3"),

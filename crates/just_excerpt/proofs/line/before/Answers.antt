@@ -1,5 +1,5 @@
 -- The text before the token is cut at its offset, which is no shorter for the nothing that is left out before it.
-use Rattle.std.proofs.Common.{◌≡◌, ℕ, ◌-◌, take, ap, ◌∙◌, arith}
+use Rattle.std.proofs.Common.{◌≡◌, ◌-◌, take, ap, ◌∙◌, arith}
 use Rattle.just_excerpt.specs.Excerpts.{behind_mark, last_line}
 use Rattle.just_excerpt.proofs.line.before.Goals as goal
 

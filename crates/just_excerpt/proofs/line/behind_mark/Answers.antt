@@ -1,5 +1,5 @@
 -- A byte order mark at the front is left out.
-use Rattle.std.proofs.Common.{◌≡◌, refl, ap, ◌∙◌}
+use Rattle.std.proofs.Common.{refl, ap, ◌∙◌}
 use Rattle.just_excerpt.proofs.Lines.{behind_mark_is}
 use Rattle.just_excerpt.proofs.line.behind_mark.Goals as goal
 

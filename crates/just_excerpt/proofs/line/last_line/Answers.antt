@@ -1,5 +1,5 @@
 -- What stands behind the last newline, or all where there is none.
-use Rattle.std.proofs.Common.{◌≡◌, Some, None, ◌∙◌, sym, arith}
+use Rattle.std.proofs.Common.{Some, None, ◌∙◌, sym, arith}
 use Rattle.std.proofs.lemmas.Str.Pattern.{rfind_char}
 use Rattle.just_excerpt.proofs.Lines.{after_last_newline, after_no_newline}
 use Rattle.just_excerpt.proofs.line.last_line.Goals as goal

@@ -1,0 +1,7 @@
+mod Braces
+mod Cuts
+mod Lines
+mod Longest
+mod Meanings
+mod Turns
+mod Written

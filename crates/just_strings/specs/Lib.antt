@@ -1,0 +1,11 @@
+pub mod Answering
+pub mod Cooking
+pub mod Cutting
+pub mod Escaping
+pub mod Forms
+pub mod Indentation
+pub mod Kinds
+pub mod Literals
+pub mod Longest
+pub mod Meaning
+pub mod Parts
