@@ -1,0 +1,16 @@
+pub mod Words
+pub mod Found
+pub mod Parts
+pub mod Texts
+pub mod Stays
+pub mod Stands
+pub mod Begins
+pub mod Table
+pub mod InCode
+pub mod Lines
+pub mod Bodies
+pub mod WholeBodies
+pub mod PartsBack
+pub mod Shrinks
+pub mod Lexemes
+pub mod Beside

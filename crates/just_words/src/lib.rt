@@ -1,0 +1,4 @@
+//! Words, and when they are the tokens of their joined text.
+#![tactic(auto)]
+
+pub mod law;
