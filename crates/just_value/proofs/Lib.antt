@@ -1,1 +1,4 @@
 pub mod Cuts
+pub mod TextsInRow
+pub mod Escapes
+pub mod Rows

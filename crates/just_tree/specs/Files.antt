@@ -1,0 +1,91 @@
+-- Items and files: what they say, and how items are printed.
+use Rattle.std.specs.Prelude.{ℕ, List, ◌++◌, codes}
+use Rattle.just_tree.specs.declared.ast.Item.{Item}
+use Rattle.just_tree.specs.declared.ast.Item.TheVariants.{Alias, Assignment, Comment, Function, Import, Module, Newline, Recipe, Set, Unexport}
+use Rattle.just_tree.specs.declared.ast.ItemKind.{ItemKind}
+use Rattle.just_tree.specs.declared.ast.ItemKind.TheVariants.{Alias as AliasKind, Assignment as AssignmentKind, Comment as CommentKind, Function as FunctionKind, Import as ImportKind, Module as ModuleKind, Newline as NewlineKind, Recipe as RecipeKind, Set as SetKind, Unexport as UnexportKind}
+use Rattle.just_tree.specs.declared.ast.UnstableFeature.{UnstableFeature}
+use Rattle.just_tree.specs.declared.ast.UnstableFeature.TheVariants.{CachedRecipes, DefinedFunctions, Lists}
+use Rattle.just_tree.specs.declared.ast.ListFeature.{ListFeature}
+use Rattle.just_tree.specs.declared.ast.ListFeature.TheVariants.{Comparison, Concatenation, ConditionalWithoutElse, Literal, Not, StarredArgument}
+use Rattle.just_tree.specs.Attributes.{AttributeShape, attribute_shapes, attributes_text}
+use Rattle.just_tree.specs.Items.{AliasShape, alias_shape, alias_text, AssignmentShape, assignment_shape, assignment_text, FunctionShape, function_shape, function_text, ImportShape, import_shape, import_text, ModuleShape, module_shape, module_text, unexport_shape, unexport_text}
+use Rattle.just_tree.specs.Recipes.{RecipeShape, recipe_shape, recipe_text}
+use Rattle.just_tree.specs.Settings.{SetShape, set_shape, set_text}
+
+abbrev pub kind_text : ItemKind → List ℕ
+kind_text AliasKind = codes "alias"
+kind_text AssignmentKind = codes "assignment"
+kind_text CommentKind = codes "comment"
+kind_text FunctionKind = codes "function"
+kind_text ImportKind = codes "import"
+kind_text ModuleKind = codes "module"
+kind_text NewlineKind = codes "newline"
+kind_text RecipeKind = codes "recipe"
+kind_text SetKind = codes "setting"
+kind_text UnexportKind = codes "unexport"
+
+-- an item with its attributes, without places
+pub data ItemShape : Type 0 where
+  alias_item : List AttributeShape → AliasShape → ItemShape
+  assignment_item : List AttributeShape → AssignmentShape → ItemShape
+  comment_item : List ℕ → ItemShape
+  function_item : FunctionShape → ItemShape
+  import_item : ImportShape → ItemShape
+  module_item : List AttributeShape → ModuleShape → ItemShape
+  newline_item : ItemShape
+  recipe_item : List AttributeShape → RecipeShape → ItemShape
+  set_item : List AttributeShape → SetShape → ItemShape
+  unexport_item : List ℕ → ItemShape
+
+abbrev pub item_shape : Item → ItemShape
+item_shape (Alias a) = alias_item (attribute_shapes a.attributes.items) (alias_shape a)
+item_shape (Assignment a) = assignment_item (attribute_shapes a.attributes.items) (assignment_shape a)
+item_shape (Comment text) = comment_item text.now
+item_shape (Function f) = function_item (function_shape f)
+item_shape (Import i) = import_item (import_shape i)
+item_shape (Module m) = module_item (attribute_shapes m.attributes.items) (module_shape m)
+item_shape Newline = newline_item
+item_shape (Recipe r) = recipe_item (attribute_shapes r.attributes.items) (recipe_shape r)
+item_shape (Set s) = set_item (attribute_shapes s.attributes.items) (set_shape s)
+item_shape (Unexport u) = unexport_item (unexport_shape u)
+
+abbrev pub kind_of : ItemShape → ItemKind
+kind_of (alias_item attributes a) = AliasKind
+kind_of (assignment_item attributes a) = AssignmentKind
+kind_of (comment_item text) = CommentKind
+kind_of (function_item f) = FunctionKind
+kind_of (import_item i) = ImportKind
+kind_of (module_item attributes m) = ModuleKind
+kind_of newline_item = NewlineKind
+kind_of (recipe_item attributes r) = RecipeKind
+kind_of (set_item attributes s) = SetKind
+kind_of (unexport_item name) = UnexportKind
+
+-- an item behind its attributes, bodies with this indentation; a comment as it is
+abbrev pub item_text : List ℕ → ItemShape → List ℕ
+item_text indentation (alias_item attributes a) = attributes_text attributes ++ alias_text a
+item_text indentation (assignment_item attributes a) = attributes_text attributes ++ assignment_text a
+item_text indentation (comment_item text) = text
+item_text indentation (function_item f) = function_text f
+item_text indentation (import_item i) = import_text i
+item_text indentation (module_item attributes m) = attributes_text attributes ++ module_text m
+item_text indentation newline_item = codes ""
+item_text indentation (recipe_item attributes r) = attributes_text attributes ++ recipe_text indentation r
+item_text indentation (set_item attributes s) = attributes_text attributes ++ set_text s
+item_text indentation (unexport_item name) = unexport_text name
+
+-- features that must be asked for
+abbrev pub unstable_text : UnstableFeature → List ℕ
+unstable_text CachedRecipes = codes "[cache]"
+unstable_text DefinedFunctions = codes "defined functions"
+unstable_text Lists = codes "lists"
+
+-- features of lists
+abbrev pub list_text : ListFeature → List ℕ
+list_text Comparison = codes "comparison"
+list_text Concatenation = codes "++"
+list_text ConditionalWithoutElse = codes "if without else"
+list_text Literal = codes "list literal"
+list_text Not = codes "!"
+list_text StarredArgument = codes "starred argument"

@@ -1,0 +1,78 @@
+-- Lines of bodies: what they say, how they are printed, and their marks.
+use Rattle.std.specs.Prelude.{ℕ, ◌==◌, Bool, true, false, not, ◌&&◌, if◌then◌else◌, List, [], ◌∷◌, ◌++◌, map, Option, Some, None, codes, length, ◌-◌, slice_get}
+use Rattle.std.specs.List.{flat_map}
+use Rattle.std.specs.Option.{option_map, option_map_or}
+use Rattle.just_text.specs.Tokens.{lexeme}
+use Rattle.just_tree.specs.declared.line.Fragment.{Fragment}
+use Rattle.just_tree.specs.declared.line.Fragment.TheVariants.{Interpolation, Text}
+use Rattle.just_tree.specs.declared.line.Line.{Line}
+use Rattle.just_tree.specs.declared.line.Sigils.{Sigils}
+use Rattle.just_tree.specs.Shape.{Shape, shape_of}
+use Rattle.just_tree.specs.Printing.{text_of}
+
+-- a part of a line
+pub data Piece : Type 0 where
+  text : List ℕ → Piece
+  interpolation : Shape → Piece
+
+abbrev pub piece_of : Fragment → Piece
+piece_of (Interpolation e) = interpolation (shape_of e)
+piece_of (Text token) = text (lexeme token)
+
+-- a line by its parts
+abbrev pub pieces_of : Line → List Piece
+pieces_of line = map piece_of line.fragments.items
+
+-- how a part is printed
+abbrev pub piece_text : Piece → List ℕ
+piece_text (text t) = t
+piece_text (interpolation e) = codes "{{ " ++ text_of e ++ codes " }}"
+
+-- how a line is printed, without its indentation
+abbrev pub line_text : List Piece → List ℕ
+line_text pieces = flat_map piece_text pieces
+
+abbrev pub no_sigils : Sigils
+no_sigils = record { guard = false; infallible = false; quiet = false }
+
+-- the marks with one more, unless the byte is no mark or a mark that is there
+abbrev pub next_sigils : Bool → Sigils → ℕ → Option Sigils
+next_sigils guards s byte =
+    if (byte == 64) && not s.quiet then Some (record s { quiet = true })
+    else if (byte == 45) && not s.infallible then Some (record s { infallible = true })
+    else if (byte == 63) && guards && not s.guard then Some (record s { guard = true })
+    else None
+
+-- the marks at the front of a text, beside those that are there
+unfoldable pub read_sigils : Bool → Sigils → List ℕ → Sigils
+read_sigils guards s [] = s
+read_sigils guards s (byte ∷ bytes) = option_map_or (λ more. read_sigils guards more bytes) (next_sigils guards s byte) s
+
+-- the first part of a line, and the last
+abbrev pub first_piece : Line → Option Piece
+first_piece line = option_map piece_of (slice_get line.fragments.items 0)
+
+abbrev pub last_piece : Line → Option Piece
+last_piece line = option_map piece_of (slice_get line.fragments.items (length line.fragments.items - 1))
+
+-- the marks of a line by its first part: those at the front of its text
+abbrev pub sigils_of : Bool → Option Piece → Sigils
+sigils_of guards None = no_sigils
+sigils_of guards (Some (text t)) = read_sigils guards no_sigils t
+sigils_of guards (Some (interpolation e)) = no_sigils
+
+abbrev pub is_byte : ℕ → Option ℕ → Bool
+is_byte byte None = false
+is_byte byte (Some b) = b == byte
+
+-- a line whose first part is this begins with `#`
+abbrev pub is_comment : Option Piece → Bool
+is_comment None = false
+is_comment (Some (text t)) = is_byte 35 (slice_get t 0)
+is_comment (Some (interpolation e)) = false
+
+-- a line whose last part is this ends with a backslash
+abbrev pub is_continuation : Option Piece → Bool
+is_continuation None = false
+is_continuation (Some (text t)) = is_byte 92 (slice_get t (length t - 1))
+is_continuation (Some (interpolation e)) = false

@@ -1,0 +1,178 @@
+//! Whole files.
+ghost use Rattle.std.specs.Prelude.{◌≡◌, ◌++◌, Some, codes};
+ghost use Rattle.std.specs.Fmt.{WritesOnOk};
+ghost use Rattle.just_tree.specs.Files as spec;
+
+use crate::item::{Alias, Assignment, FunctionDefinition, Import, Module, Unexport};
+use crate::recipe::{Recipe, UnresolvedDependency};
+use crate::rows::Attributes;
+use crate::setting::Set;
+use just_text::Namepath;
+use std::fmt;
+
+/// What an item is.
+#[derive(Clone, Copy, Debug, PartialEq, Eq, PartialOrd, Ord)]
+pub enum ItemKind {
+    Alias,
+    Assignment,
+    Comment,
+    Function,
+    Import,
+    Module,
+    Newline,
+    Recipe,
+    Set,
+    Unexport,
+}
+
+impl fmt::Display for ItemKind {
+    ghost output = { λ kind. Some (spec.kind_text kind) };
+
+    fn fmt<W: fmt::Write>(&self, f: &mut fmt::Formatter<W>) -> fmt::Result {
+        f.write_str(match self {
+            ItemKind::Alias => "alias",
+            ItemKind::Assignment => "assignment",
+            ItemKind::Comment => "comment",
+            ItemKind::Function => "function",
+            ItemKind::Import => "import",
+            ItemKind::Module => "module",
+            ItemKind::Newline => "newline",
+            ItemKind::Recipe => "recipe",
+            ItemKind::Set => "setting",
+            ItemKind::Unexport => "unexport",
+        })
+    }
+}
+
+/// An item of a file.
+#[derive(Debug, Drop)]
+pub enum Item<'src> {
+    Alias(Alias<'src, Namepath<'src>>),
+    Assignment(Assignment<'src>),
+    /// A comment from its `#` on, without white space at its end.
+    Comment(&'src str),
+    Function(FunctionDefinition<'src>),
+    Import(Import<'src>),
+    Module(Module<'src>),
+    /// A blank line.
+    Newline,
+    Recipe(Recipe<'src, UnresolvedDependency<'src>>),
+    Set(Set<'src>),
+    Unexport(Unexport<'src>),
+}
+
+impl Item<'_> {
+    pub fn kind(&self) -> ItemKind
+        ensures { result ≡ spec.kind_of (spec.item_shape self.now) }
+    {
+        match self {
+            Item::Alias(_) => ItemKind::Alias,
+            Item::Assignment(_) => ItemKind::Assignment,
+            Item::Comment(_) => ItemKind::Comment,
+            Item::Function(_) => ItemKind::Function,
+            Item::Import(_) => ItemKind::Import,
+            Item::Module(_) => ItemKind::Module,
+            Item::Newline => ItemKind::Newline,
+            Item::Recipe(_) => ItemKind::Recipe,
+            Item::Set(_) => ItemKind::Set,
+            Item::Unexport(_) => ItemKind::Unexport,
+        }
+    }
+
+    /// Writes the item behind its attributes, bodies with this indentation, and no newline at its
+    /// end.
+    pub fn print<W: fmt::Write>(&self, f: &mut fmt::Formatter<W>, indentation: &str) -> fmt::Result
+        ensures { WritesOnOk W.write_str_gives f.old result (spec.item_text indentation.now (spec.item_shape self.now)) f.new }
+    {
+        match self {
+            Item::Alias(alias) => {
+                let attributes = Attributes(alias.attributes.as_slice());
+                write!(f, "{attributes}{alias}")
+            }
+            Item::Assignment(assignment) => {
+                let attributes = Attributes(assignment.attributes.as_slice());
+                write!(f, "{attributes}{assignment}")
+            }
+            Item::Comment(text) => f.write_str(text),
+            Item::Function(function) => write!(f, "{function}"),
+            Item::Import(import) => write!(f, "{import}"),
+            Item::Module(module) => {
+                let attributes = Attributes(module.attributes.as_slice());
+                write!(f, "{attributes}{module}")
+            }
+            Item::Newline => Ok(()),
+            Item::Recipe(recipe) => {
+                let attributes = Attributes(recipe.attributes.as_slice());
+                write!(f, "{attributes}")?;
+                recipe.print(f, indentation)
+            }
+            Item::Set(set) => {
+                let attributes = Attributes(set.attributes.as_slice());
+                write!(f, "{attributes}{set}")
+            }
+            Item::Unexport(unexport) => write!(f, "{unexport}"),
+        }
+    }
+}
+
+/// With an indentation of four spaces.
+impl fmt::Display for Item<'_> {
+    ghost output = { λ item. Some (spec.item_text (codes "    ") (spec.item_shape item)) };
+
+    fn fmt<W: fmt::Write>(&self, f: &mut fmt::Formatter<W>) -> fmt::Result {
+        self.print(f, "    ")
+    }
+}
+
+/// What a file may only use where it is asked for.
+#[derive(Clone, Copy, Debug, PartialEq, Eq, PartialOrd, Ord)]
+pub enum UnstableFeature {
+    CachedRecipes,
+    DefinedFunctions,
+    Lists,
+}
+
+impl fmt::Display for UnstableFeature {
+    ghost output = { λ feature. Some (spec.unstable_text feature) };
+
+    fn fmt<W: fmt::Write>(&self, f: &mut fmt::Formatter<W>) -> fmt::Result {
+        f.write_str(match self {
+            UnstableFeature::CachedRecipes => "[cache]",
+            UnstableFeature::DefinedFunctions => "defined functions",
+            UnstableFeature::Lists => "lists",
+        })
+    }
+}
+
+/// What a file may only use where lists are set.
+#[derive(Clone, Copy, Debug, PartialEq, Eq, PartialOrd, Ord)]
+pub enum ListFeature {
+    Comparison,
+    Concatenation,
+    ConditionalWithoutElse,
+    Literal,
+    Not,
+    StarredArgument,
+}
+
+impl fmt::Display for ListFeature {
+    ghost output = { λ feature. Some (spec.list_text feature) };
+
+    fn fmt<W: fmt::Write>(&self, f: &mut fmt::Formatter<W>) -> fmt::Result {
+        f.write_str(match self {
+            ListFeature::Comparison => "comparison",
+            ListFeature::Concatenation => "++",
+            ListFeature::ConditionalWithoutElse => "if without else",
+            ListFeature::Literal => "list literal",
+            ListFeature::Not => "!",
+            ListFeature::StarredArgument => "starred argument",
+        })
+    }
+}
+
+/// A file: its items in order, and the features that it uses.
+#[derive(Drop)]
+pub struct Ast<'src> {
+    pub items: Vec<Item<'src>>,
+    pub unstable_features: Vec<UnstableFeature>,
+}

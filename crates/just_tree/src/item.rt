@@ -1,0 +1,139 @@
+//! Items but recipes and settings.
+ghost use Rattle.std.specs.Prelude.{Some};
+ghost use Rattle.just_tree.specs.Items as spec;
+
+use crate::attribute::Attribute;
+use crate::expression::Expression;
+use crate::rows::Names;
+use just_strings::StringLiteral;
+use just_text::{Name, Namepath, Number};
+use std::fmt;
+
+/// Another name of a recipe; `T` is what stands for the recipe.
+#[derive(Debug, Drop)]
+pub struct Alias<'src, T> {
+    pub attributes: Vec<Attribute<'src>>,
+    pub name: Name<'src>,
+    pub target: T,
+}
+
+impl<'src> fmt::Display for Alias<'src, Namepath<'src>> {
+    ghost output = { λ alias. Some (spec.alias_text (spec.alias_shape alias)) };
+
+    fn fmt<W: fmt::Write>(&self, f: &mut fmt::Formatter<W>) -> fmt::Result {
+        let name = self.name;
+        let target = &self.target;
+        write!(f, "alias {name} := {target}")
+    }
+}
+
+/// A name and what it stands for.
+#[derive(Debug, Drop)]
+pub struct Binding<'src, V> {
+    pub attributes: Vec<Attribute<'src>>,
+    /// Whether it is evaluated even where nothing reads it.
+    pub eager: bool,
+    /// Whether it is exported to the environment.
+    pub export: bool,
+    /// How many imports lead to its file.
+    pub file_depth: u32,
+    pub name: Name<'src>,
+    pub number: Number,
+    /// Whether it is a constant of the language.
+    pub prelude: bool,
+    pub private: bool,
+    pub value: V,
+}
+
+/// A variable and its expression.
+pub type Assignment<'src> = Binding<'src, Expression<'src>>;
+
+impl<'src> fmt::Display for Binding<'src, Expression<'src>> {
+    ghost output = { λ assignment. Some (spec.assignment_text (spec.assignment_shape assignment)) };
+
+    fn fmt<W: fmt::Write>(&self, f: &mut fmt::Formatter<W>) -> fmt::Result {
+        let export = if self.export { "export " } else { "" };
+        let eager = if self.eager { "eager " } else { "" };
+        let name = self.name;
+        let value = &self.value;
+        write!(f, "{export}{eager}{name} := {value}")
+    }
+}
+
+/// A function that the file defines.
+#[derive(Debug, Drop)]
+pub struct FunctionDefinition<'src> {
+    pub body: Expression<'src>,
+    pub name: Name<'src>,
+    pub parameters: Vec<(Name<'src>, Number)>,
+}
+
+impl fmt::Display for FunctionDefinition<'_> {
+    ghost output = { λ function. Some (spec.function_text (spec.function_shape function)) };
+
+    fn fmt<W: fmt::Write>(&self, f: &mut fmt::Formatter<W>) -> fmt::Result {
+        let name = self.name;
+        let parameters = Names(self.parameters.as_slice());
+        let body = &self.body;
+        write!(f, "{name}({parameters}) := {body}")
+    }
+}
+
+/// The file whose items stand here too.
+#[derive(Debug, Drop)]
+pub struct Import<'src> {
+    /// `?`: the file may be missing.
+    pub optional: bool,
+    pub path: StringLiteral<'src>,
+}
+
+impl fmt::Display for Import<'_> {
+    ghost output = { λ import. Some (spec.import_text (spec.import_shape import)) };
+
+    fn fmt<W: fmt::Write>(&self, f: &mut fmt::Formatter<W>) -> fmt::Result {
+        let question = if self.optional { "?" } else { "" };
+        let path = self.path.token.lexeme();
+        write!(f, "import{question} {path}")
+    }
+}
+
+/// A submodule, and its file where one is named.
+#[derive(Debug, Drop)]
+pub struct Module<'src> {
+    pub attributes: Vec<Attribute<'src>>,
+    pub name: Name<'src>,
+    /// `?`: the file may be missing.
+    pub optional: bool,
+    pub path: Option<StringLiteral<'src>>,
+}
+
+impl fmt::Display for Module<'_> {
+    ghost output = { λ submodule. Some (spec.module_text (spec.module_shape submodule)) };
+
+    fn fmt<W: fmt::Write>(&self, f: &mut fmt::Formatter<W>) -> fmt::Result {
+        let question = if self.optional { "?" } else { "" };
+        let name = self.name;
+        match &self.path {
+            None => write!(f, "mod{question} {name}"),
+            Some(path) => {
+                let path = path.token.lexeme();
+                write!(f, "mod{question} {name} {path}")
+            }
+        }
+    }
+}
+
+/// A name that is not exported.
+#[derive(Debug, Drop)]
+pub struct Unexport<'src> {
+    pub name: Name<'src>,
+}
+
+impl fmt::Display for Unexport<'_> {
+    ghost output = { λ unexport. Some (spec.unexport_text (spec.unexport_shape unexport)) };
+
+    fn fmt<W: fmt::Write>(&self, f: &mut fmt::Formatter<W>) -> fmt::Result {
+        let name = self.name;
+        write!(f, "unexport {name}")
+    }
+}

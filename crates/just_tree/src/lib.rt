@@ -1,0 +1,25 @@
+//! The trees of justfiles and their printed texts.
+#![tactic(auto)]
+
+mod ast;
+mod attribute;
+mod expression;
+mod item;
+mod line;
+mod operator;
+mod printing;
+mod recipe;
+mod rows;
+mod setting;
+
+pub use ast::{Ast, Item, ItemKind, ListFeature, UnstableFeature};
+pub use attribute::{ArgumentOptions, Attribute, AttributeKind, LongName};
+pub use expression::Expression;
+pub use item::{Alias, Assignment, Binding, FunctionDefinition, Import, Module, Unexport};
+pub use line::{Fragment, Line, Sigils};
+pub use operator::{ConditionalOperator, ListOperator};
+pub use recipe::{DependencyArgument, Parameter, ParameterKind, Recipe, UnresolvedDependency};
+pub use setting::{Interpreter, Set, Setting};
+
+#[cfg(test)]
+mod tests;

@@ -1,0 +1,146 @@
+//! Lines of bodies.
+ghost use Rattle.std.specs.Prelude.{◌≡◌, ◌-◌, length, slice_get, option_copied, Some};
+ghost use Rattle.just_tree.specs.Lines as spec;
+ghost use Rattle.just_tree.specs.Lines.{piece_of, piece_text, pieces_of, line_text, first_piece, last_piece, sigils_of, next_sigils, no_sigils, read_sigils, is_comment, is_continuation};
+
+use crate::expression::Expression;
+use just_text::Token;
+use std::fmt;
+
+/// A part of a body line.
+#[derive(Debug, Drop)]
+pub enum Fragment<'src> {
+    /// `{{ expression }}`
+    Interpolation { expression: Expression<'src> },
+    Text { token: Token<'src> },
+}
+
+impl fmt::Display for Fragment<'_> {
+    ghost output = { λ fragment. Some (piece_text (piece_of fragment)) };
+
+    fn fmt<W: fmt::Write>(&self, f: &mut fmt::Formatter<W>) -> fmt::Result {
+        match self {
+            Fragment::Interpolation { expression } => write!(f, "{{{{ {expression} }}}}"),
+            Fragment::Text { token } => f.write_str(token.lexeme()),
+        }
+    }
+}
+
+/// A line of a body, without its indentation; a blank line has no fragments.
+#[derive(Debug, Drop)]
+pub struct Line<'src> {
+    pub fragments: Vec<Fragment<'src>>,
+}
+
+/// The marks at the front of a line.
+#[derive(Clone, Copy, Debug, PartialEq, Eq)]
+pub struct Sigils {
+    /// `?`: the code 1 ends the body with success.
+    pub guard: bool,
+    /// `-`: a failure is ignored.
+    pub infallible: bool,
+    /// `@`: the command is shown or not, against the recipe's rule.
+    pub quiet: bool,
+}
+
+impl Sigils {
+    /// The marks with one more, unless the byte is no mark or a mark that is there.
+    fn with(self, guards: bool, byte: u8) -> Option<Sigils>
+        ensures { result ≡ next_sigils guards self byte }
+    {
+        match byte {
+            b'@' if !self.quiet => Some(Sigils {
+                quiet: true,
+                ..self
+            }),
+            b'-' if !self.infallible => Some(Sigils {
+                infallible: true,
+                ..self
+            }),
+            b'?' if guards && !self.guard => Some(Sigils {
+                guard: true,
+                ..self
+            }),
+            _ => None,
+        }
+    }
+}
+
+/// The marks at the front of a text.
+
+fn read_marks(text: &str, guards: bool) -> Sigils
+    ensures { result ≡ read_sigils guards no_sigils text.now }
+{
+    let mut sigils = Sigils {
+        guard: false,
+        infallible: false,
+        quiet: false,
+    };
+    for byte in text.as_bytes() {
+        match sigils.with(guards, *byte) {
+            Some(more) => sigils = more,
+            None => return sigils,
+        }
+    }
+    sigils
+}
+
+/// Whether there is a byte, and this one.
+fn is_byte(found: Option<&u8>, byte: u8) -> bool
+    ensures { result ≡ spec.is_byte byte (option_copied found.entry) }
+{
+    match found {
+        Some(found) => *found == byte,
+        None => false,
+    }
+}
+
+impl Line<'_> {
+    /// The marks at the line's front, each at most once and in any order, up to the first byte that
+    /// is no mark or a second one of its kind; `?` is a mark only under `guards`. A line that begins
+    /// with an interpolation has none.
+    pub fn sigils(&self, guards: bool) -> Sigils
+        ensures { result ≡ sigils_of guards (first_piece self.now) }
+    {
+        match self.fragments.first() {
+            Some(Fragment::Text { token }) => read_marks(token.lexeme(), guards),
+            _ => Sigils {
+                guard: false,
+                infallible: false,
+                quiet: false,
+            },
+        }
+    }
+
+    /// Whether the line begins with `#`.
+    pub fn is_comment(&self) -> bool
+        ensures { result ≡ is_comment (first_piece self.now) }
+    {
+        match self.fragments.first() {
+            Some(Fragment::Text { token }) => is_byte(token.lexeme().as_bytes().first(), b'#'),
+            _ => false,
+        }
+    }
+
+    /// Whether the line ends with a backslash, so that the next one goes on with it.
+    pub fn is_continuation(&self) -> bool
+        ensures { result ≡ is_continuation (last_piece self.now) }
+    {
+        match self.fragments.last() {
+            Some(Fragment::Text { token }) => is_byte(token.lexeme().as_bytes().last(), b'\\'),
+            _ => false,
+        }
+    }
+}
+
+impl fmt::Display for Line<'_> {
+    ghost output = { λ line. Some (line_text (pieces_of line)) };
+
+    #[tactic(auto, using(crate::proofs::TextsInRow::texts_next))]
+    fn fmt<W: fmt::Write>(&self, f: &mut fmt::Formatter<W>) -> fmt::Result {
+        for fragment in &self.fragments {
+            write!(f, "{fragment}")?;
+        }
+        Ok(())
+    }
+}

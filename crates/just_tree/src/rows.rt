@@ -1,0 +1,199 @@
+//! Lists as they are printed.
+ghost use Rattle.std.specs.Prelude.{Some};
+ghost use Rattle.just_tree.specs.Items as items;
+ghost use Rattle.just_tree.specs.Recipes as spec;
+
+use crate::attribute::Attribute;
+use crate::expression::Expression;
+use crate::line::Line;
+use crate::recipe::{DependencyArgument, Parameter, UnresolvedDependency};
+use just_strings::StringLiteral;
+use just_text::{Name, Number};
+use std::fmt;
+
+/// Parameters, each behind a space.
+#[derive(Clone, Copy)]
+pub struct Parameters<'a, 'src>(pub &'a [Parameter<'src>]);
+
+impl fmt::Display for Parameters<'_, '_> {
+    ghost output = { λ row. Some (spec.parameters_text (spec.parameter_shapes row.0.now)) };
+
+    #[tactic(auto, using(crate::proofs::TextsInRow::texts_next))]
+    fn fmt<W: fmt::Write>(&self, f: &mut fmt::Formatter<W>) -> fmt::Result {
+        for parameter in self.0 {
+            write!(f, " {parameter}")?;
+        }
+        Ok(())
+    }
+}
+
+/// Arguments of a dependency, each behind a space.
+#[derive(Clone, Copy)]
+pub struct Arguments<'a, 'src>(pub &'a [DependencyArgument<'src>]);
+
+impl fmt::Display for Arguments<'_, '_> {
+    ghost output = { λ row. Some (spec.arguments_text (spec.argument_shapes row.0.now)) };
+
+    #[tactic(auto, using(crate::proofs::TextsInRow::texts_next))]
+    fn fmt<W: fmt::Write>(&self, f: &mut fmt::Formatter<W>) -> fmt::Result {
+        for argument in self.0 {
+            write!(f, " {argument}")?;
+        }
+        Ok(())
+    }
+}
+
+/// Dependencies, each behind a space.
+#[derive(Clone, Copy)]
+pub struct Dependencies<'a, 'src>(pub &'a [UnresolvedDependency<'src>]);
+
+impl fmt::Display for Dependencies<'_, '_> {
+    ghost output = { λ row. Some (spec.dependencies_text (spec.dependency_shapes row.0.now)) };
+
+    #[tactic(auto, using(crate::proofs::TextsInRow::texts_next))]
+    fn fmt<W: fmt::Write>(&self, f: &mut fmt::Formatter<W>) -> fmt::Result {
+        for dependency in self.0 {
+            write!(f, " {dependency}")?;
+        }
+        Ok(())
+    }
+}
+
+/// The dependencies behind a recipe's body, behind ` &&` if there are any.
+#[derive(Clone, Copy)]
+pub struct Subsequents<'a, 'src>(pub &'a [UnresolvedDependency<'src>]);
+
+impl fmt::Display for Subsequents<'_, '_> {
+    ghost output = { λ row. Some (spec.subsequents_text (spec.dependency_shapes row.0.now)) };
+
+    fn fmt<W: fmt::Write>(&self, f: &mut fmt::Formatter<W>) -> fmt::Result {
+        if self.0.is_empty() {
+            return Ok(());
+        }
+        let dependencies = Dependencies(self.0);
+        write!(f, " &&{dependencies}")
+    }
+}
+
+/// A line of a body behind the indentation; a blank line is empty.
+#[derive(Clone, Copy)]
+pub struct Indented<'a, 'src> {
+    pub indentation: &'a str,
+    pub line: &'a Line<'src>,
+}
+
+impl fmt::Display for Indented<'_, '_> {
+    ghost use Rattle.just_tree.specs.Lines.{pieces_of};
+
+    ghost output = { λ row. Some (spec.indented row.indentation.now (pieces_of row.line.now)) };
+
+    fn fmt<W: fmt::Write>(&self, f: &mut fmt::Formatter<W>) -> fmt::Result {
+        let indentation = self.indentation;
+        let line = self.line;
+        if line.fragments.is_empty() {
+            return Ok(());
+        }
+        write!(f, "{indentation}{line}")
+    }
+}
+
+/// A body, each line behind a newline.
+#[derive(Clone, Copy)]
+pub struct Body<'a, 'src> {
+    pub indentation: &'a str,
+    pub lines: &'a [Line<'src>],
+}
+
+impl fmt::Display for Body<'_, '_> {
+    ghost output = { λ body. Some (spec.body_text body.indentation.now (spec.body_shape body.lines.now)) };
+
+    #[tactic(auto, using(crate::proofs::TextsInRow::texts_next))]
+    fn fmt<W: fmt::Write>(&self, f: &mut fmt::Formatter<W>) -> fmt::Result {
+        let indentation = self.indentation;
+        for line in self.lines {
+            let row = Indented { indentation, line };
+            write!(f, "\n{row}")?;
+        }
+        Ok(())
+    }
+}
+
+/// Names of parameters, with a comma and a space between two.
+#[derive(Clone, Copy)]
+pub struct Names<'a, 'src>(pub &'a [(Name<'src>, Number)]);
+
+impl fmt::Display for Names<'_, '_> {
+    ghost output = { λ row. Some (items.names_text (items.names_of row.0.now)) };
+
+    #[tactic(auto, using(crate::proofs::TextsInRow::texts_next))]
+    fn fmt<W: fmt::Write>(&self, f: &mut fmt::Formatter<W>) -> fmt::Result {
+        let parameters = self.0;
+        let Some((first, others)) = parameters.split_first() else {
+            return Ok(());
+        };
+        let name = first.0;
+        write!(f, "{name}")?;
+        for parameter in others {
+            let name = parameter.0;
+            write!(f, ", {name}")?;
+        }
+        Ok(())
+    }
+}
+
+/// Expressions, each behind a comma and a space.
+#[derive(Clone, Copy)]
+pub struct Elements<'a, 'src>(pub &'a [Expression<'src>]);
+
+impl fmt::Display for Elements<'_, '_> {
+    ghost use Rattle.std.specs.Prelude.{map};
+    ghost use Rattle.just_tree.specs.Shape.{shape_of};
+    ghost use Rattle.just_tree.specs.Settings.{elements_text};
+
+    ghost output = { λ row. Some (elements_text (map shape_of row.0.now)) };
+
+    #[tactic(auto, using(crate::proofs::TextsInRow::texts_next))]
+    fn fmt<W: fmt::Write>(&self, f: &mut fmt::Formatter<W>) -> fmt::Result {
+        for expression in self.0 {
+            write!(f, ", {expression}")?;
+        }
+        Ok(())
+    }
+}
+
+/// Strings, each behind a comma and a space.
+#[derive(Clone, Copy)]
+pub struct Strings<'a, 'src>(pub &'a [StringLiteral<'src>]);
+
+impl fmt::Display for Strings<'_, '_> {
+    ghost use Rattle.just_tree.specs.Attributes.{strings_text, strings_of};
+
+    ghost output = { λ row. Some (strings_text (strings_of row.0.now)) };
+
+    #[tactic(auto, using(crate::proofs::TextsInRow::texts_next))]
+    fn fmt<W: fmt::Write>(&self, f: &mut fmt::Formatter<W>) -> fmt::Result {
+        for string in self.0 {
+            let text = string.token.lexeme();
+            write!(f, ", {text}")?;
+        }
+        Ok(())
+    }
+}
+
+/// Attributes, one a line.
+#[derive(Clone, Copy)]
+pub struct Attributes<'a, 'src>(pub &'a [Attribute<'src>]);
+
+impl fmt::Display for Attributes<'_, '_> {
+    ghost use Rattle.just_tree.specs.Attributes.{attributes_text, attribute_shapes};
+
+    ghost output = { λ row. Some (attributes_text (attribute_shapes row.0.now)) };
+
+    #[tactic(auto, using(crate::proofs::TextsInRow::texts_next))]
+    fn fmt<W: fmt::Write>(&self, f: &mut fmt::Formatter<W>) -> fmt::Result {
+        for attribute in self.0 {
+            write!(f, "[{attribute}]\n")?;
+        }
+        Ok(())
+    }
+}

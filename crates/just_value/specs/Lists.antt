@@ -1,0 +1,19 @@
+-- Texts in a row, as sentences have them.
+use Rattle.std.specs.Prelude.{ℕ, List, [], ◌∷◌, ◌++◌, codes}
+
+-- a text with a mark on both sides
+abbrev pub enclosed : List ℕ → List ℕ → List ℕ
+enclosed mark text = mark ++ (text ++ mark)
+
+-- three or more: a comma behind each but the last, and the conjunction before the last
+abbrev pub many : List ℕ → List (List ℕ) → List ℕ
+many conjunction [] = []
+many conjunction (last ∷ []) = conjunction ++ (codes " " ++ last)
+many conjunction (text ∷ other ∷ others) = text ++ (codes ", " ++ many conjunction (other ∷ others))
+
+-- nothing for no text, one alone, and two with the conjunction between
+abbrev pub list_text : List ℕ → List (List ℕ) → List ℕ
+list_text conjunction [] = []
+list_text conjunction (text ∷ []) = text
+list_text conjunction (text ∷ other ∷ []) = text ++ (codes " " ++ (conjunction ++ (codes " " ++ other)))
+list_text conjunction (text ∷ other ∷ another ∷ others) = many conjunction (text ∷ other ∷ another ∷ others)
