@@ -8,7 +8,7 @@ use Rattle.just_text.specs.declared.token.Token.{Token}
 use Rattle.just_lexer.specs.declared.position.Position.{Position}
 use Rattle.just_text.specs.declared.compile_error.CompileError.{CompileError}
 use Rattle.just_text.specs.declared.compile_error.CompileErrorKind.{CompileErrorKind}
-use Rattle.just_text.specs.declared.compile_error.CompileErrorKind.TheVariants.{OutOfMemory, NumbersUsed, UnknownStartOfToken, UnpairedCarriageReturn, MixedLeadingWhitespace, InconsistentLeadingWhitespace, ExtraLeadingWhitespace, UnexpectedToken, UnexpectedCharacter, UnterminatedString, UnterminatedBacktick, UnterminatedInterpolation, InvalidEscapeSequence, MismatchedClosingDelimiter, UnexpectedClosingDelimiter, ShellExpansion}
+use Rattle.just_text.specs.declared.compile_error.CompileErrorKind.TheVariants.{OutOfMemory, NumbersUsed, UnknownStartOfToken, UnpairedCarriageReturn, MixedLeadingWhitespace, InconsistentLeadingWhitespace, ExtraLeadingWhitespace, UnexpectedToken, UnexpectedCharacter, UnterminatedString, UnterminatedBacktick, UnterminatedInterpolation, InvalidEscapeSequence, MismatchedClosingDelimiter, UnexpectedClosingDelimiter, ShellExpansion, ParsingRecursionDepthExceeded, BacktickShebang, UnknownSetting, UnknownAttribute, AttributeArgumentCount, InvalidAttribute, DuplicateAttribute, DuplicateParameter, ParameterFollowsVariadic, RequiredParameterFollowsDefault, MinimumVersion, GuardAndInfallible, TwoStars, InvalidSetting}
 use Rattle.just_grammar.specs.declared.ast.Ast.{Ast}
 use Rattle.just_grammar.specs.Shape.{RecipeShape, shape_of}
 use Rattle.just_grammar.specs.Derives.{Derives}
@@ -50,6 +50,20 @@ module _ (text : List ℕ) (found handed : List Token) (same : handed ≡ found)
   nothing_said MixedLeadingWhitespace h = absurd h
   nothing_said InconsistentLeadingWhitespace h = absurd h
   nothing_said ExtraLeadingWhitespace h = absurd h
+  nothing_said ParsingRecursionDepthExceeded h = absurd h
+  nothing_said BacktickShebang h = absurd h
+  nothing_said (UnknownSetting name) h = absurd h
+  nothing_said (UnknownAttribute name) h = absurd h
+  nothing_said (AttributeArgumentCount name found) h = absurd h
+  nothing_said (InvalidAttribute name item) h = absurd h
+  nothing_said (DuplicateAttribute name) h = absurd h
+  nothing_said (DuplicateParameter name) h = absurd h
+  nothing_said (ParameterFollowsVariadic name) h = absurd h
+  nothing_said (RequiredParameterFollowsDefault name) h = absurd h
+  nothing_said (MinimumVersion required current) h = absurd h
+  nothing_said GuardAndInfallible h = absurd h
+  nothing_said TwoStars h = absurd h
+  nothing_said (InvalidSetting name given) h = absurd h
 
   pub refused_said : (result : Result Ast CompileError) → IfErr result (λ e. RefusalHolds (words_of handed) e.kind) → IfErr result (λ e. IsRefusal text e.kind)
   refused_said (Ok ast) h = tt
@@ -75,6 +89,20 @@ module _ (text : List ℕ) (found handed : List Token) (same : handed ≡ found)
     no_fault shape derived (ShellExpansion refused) h = faultless (ShellExpansion refused) h.0 h.1
     no_fault shape derived MixedLeadingWhitespace h = faultless MixedLeadingWhitespace h.0 h.1
     no_fault shape derived InconsistentLeadingWhitespace h = faultless InconsistentLeadingWhitespace h.0 h.1
+    no_fault shape derived ParsingRecursionDepthExceeded h = faultless ParsingRecursionDepthExceeded h.0 h.1
+    no_fault shape derived BacktickShebang h = faultless BacktickShebang h.0 h.1
+    no_fault shape derived (UnknownSetting name) h = faultless (UnknownSetting name) h.0 h.1
+    no_fault shape derived (UnknownAttribute name) h = faultless (UnknownAttribute name) h.0 h.1
+    no_fault shape derived (AttributeArgumentCount name found) h = faultless (AttributeArgumentCount name found) h.0 h.1
+    no_fault shape derived (InvalidAttribute name item) h = faultless (InvalidAttribute name item) h.0 h.1
+    no_fault shape derived (DuplicateAttribute name) h = faultless (DuplicateAttribute name) h.0 h.1
+    no_fault shape derived (DuplicateParameter name) h = faultless (DuplicateParameter name) h.0 h.1
+    no_fault shape derived (ParameterFollowsVariadic name) h = faultless (ParameterFollowsVariadic name) h.0 h.1
+    no_fault shape derived (RequiredParameterFollowsDefault name) h = faultless (RequiredParameterFollowsDefault name) h.0 h.1
+    no_fault shape derived (MinimumVersion required current) h = faultless (MinimumVersion required current) h.0 h.1
+    no_fault shape derived GuardAndInfallible h = faultless GuardAndInfallible h.0 h.1
+    no_fault shape derived TwoStars h = faultless TwoStars h.0 h.1
+    no_fault shape derived (InvalidSetting name given) h = faultless (InvalidSetting name given) h.0 h.1
 
     pub accepted_said : (result : Result Ast CompileError) → IfOk result (λ ast. Derives (words_of handed) (shape_of ast)) → OnOk result ((kind : CompileErrorKind) → IsSyntaxFault text kind → ⊥)
     accepted_said (Ok ast) derived = no_fault (shape_of ast) derived

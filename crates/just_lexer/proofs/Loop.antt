@@ -262,6 +262,20 @@ reason_going kinds.NumbersUsed mode rest r = absurd r
 reason_going kinds.ExtraLeadingWhitespace mode rest r = absurd r
 reason_going (kinds.ShellExpansion text) mode rest r = absurd r
 reason_going (kinds.UnexpectedToken found) mode rest r = absurd r
+reason_going kinds.ParsingRecursionDepthExceeded mode rest r = absurd r
+reason_going kinds.BacktickShebang mode rest r = absurd r
+reason_going (kinds.UnknownSetting name) mode rest r = absurd r
+reason_going (kinds.UnknownAttribute name) mode rest r = absurd r
+reason_going (kinds.AttributeArgumentCount name found) mode rest r = absurd r
+reason_going (kinds.InvalidAttribute name item) mode rest r = absurd r
+reason_going (kinds.DuplicateAttribute name) mode rest r = absurd r
+reason_going (kinds.DuplicateParameter name) mode rest r = absurd r
+reason_going (kinds.ParameterFollowsVariadic name) mode rest r = absurd r
+reason_going (kinds.RequiredParameterFollowsDefault name) mode rest r = absurd r
+reason_going (kinds.MinimumVersion required current) mode rest r = absurd r
+reason_going kinds.GuardAndInfallible mode rest r = absurd r
+reason_going kinds.TwoStars mode rest r = absurd r
+reason_going (kinds.InvalidSetting name text) mode rest r = absurd r
 
 pub faultless : (text : List ℕ) (ts : List Piece) (kind : CompileErrorKind) (at : Position) → Lexes text ts → HasFault text kind at → ⊥
 faultless text ts kind at all h =

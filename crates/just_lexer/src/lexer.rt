@@ -16,7 +16,7 @@ use crate::mode::{Line, innermost, step_open};
 use crate::position::Position;
 use crate::scan::place::token_at;
 use just_text::{CompileError, CompileErrorKind, Token, TokenKind};
-use std::alloc::{AllocError, Global};
+use std::alloc::Global;
 
 /// Reads a text token by token.
 #[derive(Clone, Copy)]
@@ -118,6 +118,3 @@ pub fn law()
     ensures one { (text : List ℕ) (ts us : List Piece) → Lexes text ts → Lexes text us → ts ≡ us }
     ensures faultless { (text : List ℕ) (ts : List Piece) (kind : CompileErrorKind) (at : Position) → Lexes text ts → HasFault text kind at → ⊥ }
 {}
-
-#[cfg(test)]
-mod tests;

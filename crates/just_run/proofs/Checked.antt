@@ -4,7 +4,7 @@ use Rattle.std.specs.Prelude.{Contains}
 use Rattle.std.specs.List.{list_any}
 use Rattle.just_text.specs.declared.compile_error.CompileError.{CompileError}
 use Rattle.just_text.specs.declared.compile_error.CompileErrorKind.{CompileErrorKind}
-use Rattle.just_text.specs.declared.compile_error.CompileErrorKind.TheVariants.{OutOfMemory, NumbersUsed, UnknownStartOfToken, UnpairedCarriageReturn, MixedLeadingWhitespace, InconsistentLeadingWhitespace, ExtraLeadingWhitespace, UnexpectedToken, UnexpectedCharacter, UnterminatedString, UnterminatedBacktick, UnterminatedInterpolation, InvalidEscapeSequence, MismatchedClosingDelimiter, UnexpectedClosingDelimiter, ShellExpansion}
+use Rattle.just_text.specs.declared.compile_error.CompileErrorKind.TheVariants.{OutOfMemory, NumbersUsed, UnknownStartOfToken, UnpairedCarriageReturn, MixedLeadingWhitespace, InconsistentLeadingWhitespace, ExtraLeadingWhitespace, UnexpectedToken, UnexpectedCharacter, UnterminatedString, UnterminatedBacktick, UnterminatedInterpolation, InvalidEscapeSequence, MismatchedClosingDelimiter, UnexpectedClosingDelimiter, ShellExpansion, ParsingRecursionDepthExceeded, BacktickShebang, UnknownSetting, UnknownAttribute, AttributeArgumentCount, InvalidAttribute, DuplicateAttribute, DuplicateParameter, ParameterFollowsVariadic, RequiredParameterFollowsDefault, MinimumVersion, GuardAndInfallible, TwoStars, InvalidSetting}
 use Rattle.just_grammar.specs.Shape.{RecipeShape}
 use Rattle.just_run.specs.Recipes.{IsRedefined, IsUnknownDependency, IsCircle}
 use Rattle.just_run.specs.Inputs.{Inputs}
@@ -56,6 +56,20 @@ text_clear i recipes read plain path text rooted there (ShellExpansion refused) 
 text_clear i recipes read plain path text rooted there MixedLeadingWhitespace h = read.clear path text MixedLeadingWhitespace rooted there h
 text_clear i recipes read plain path text rooted there InconsistentLeadingWhitespace h = read.clear path text InconsistentLeadingWhitespace rooted there h
 text_clear i recipes read plain path text rooted there (UnexpectedToken found) h = read.clear path text (UnexpectedToken found) rooted there h
+text_clear i recipes read plain path text rooted there ParsingRecursionDepthExceeded h = read.clear path text ParsingRecursionDepthExceeded rooted there h
+text_clear i recipes read plain path text rooted there BacktickShebang h = read.clear path text BacktickShebang rooted there h
+text_clear i recipes read plain path text rooted there (UnknownSetting name) h = read.clear path text (UnknownSetting name) rooted there h
+text_clear i recipes read plain path text rooted there (UnknownAttribute name) h = read.clear path text (UnknownAttribute name) rooted there h
+text_clear i recipes read plain path text rooted there (AttributeArgumentCount name found) h = read.clear path text (AttributeArgumentCount name found) rooted there h
+text_clear i recipes read plain path text rooted there (InvalidAttribute name item) h = read.clear path text (InvalidAttribute name item) rooted there h
+text_clear i recipes read plain path text rooted there (DuplicateAttribute name) h = read.clear path text (DuplicateAttribute name) rooted there h
+text_clear i recipes read plain path text rooted there (DuplicateParameter name) h = read.clear path text (DuplicateParameter name) rooted there h
+text_clear i recipes read plain path text rooted there (ParameterFollowsVariadic name) h = read.clear path text (ParameterFollowsVariadic name) rooted there h
+text_clear i recipes read plain path text rooted there (RequiredParameterFollowsDefault name) h = read.clear path text (RequiredParameterFollowsDefault name) rooted there h
+text_clear i recipes read plain path text rooted there (MinimumVersion required current) h = read.clear path text (MinimumVersion required current) rooted there h
+text_clear i recipes read plain path text rooted there GuardAndInfallible h = read.clear path text GuardAndInfallible rooted there h
+text_clear i recipes read plain path text rooted there TwoStars h = read.clear path text TwoStars rooted there h
+text_clear i recipes read plain path text rooted there (InvalidSetting name given) h = read.clear path text (InvalidSetting name given) rooted there h
 
 -- where all checks pass, only rules of words may be broken
 module _ (i : Inputs) (recipes : List RecipeShape) (read : IsRead i recipes) (plain : has_extra recipes ≡ false)

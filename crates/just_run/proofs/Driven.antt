@@ -88,6 +88,20 @@ syntax_kind i path text kinds.MixedLeadingWhitespace e is rooted there h = let Q
 syntax_kind i path text kinds.InconsistentLeadingWhitespace e is rooted there h = let Q : CompileErrorKind → Type 0 = λ k. Broken i (syntax k) in let b : Q e.kind = subst Q is (path, text, rooted, there, h) in (b, refl)
 syntax_kind i path text kinds.ExtraLeadingWhitespace e is rooted there h = absurd h
 syntax_kind i path text (kinds.UnexpectedToken found) e is rooted there h = let Q : CompileErrorKind → Type 0 = λ k. Broken i (syntax k) in let b : Q e.kind = subst Q is (path, text, rooted, there, h) in (b, refl)
+syntax_kind i path text kinds.ParsingRecursionDepthExceeded e is rooted there h = let Q : CompileErrorKind → Type 0 = λ k. Broken i (syntax k) in let b : Q e.kind = subst Q is (path, text, rooted, there, h) in (b, refl)
+syntax_kind i path text kinds.BacktickShebang e is rooted there h = let Q : CompileErrorKind → Type 0 = λ k. Broken i (syntax k) in let b : Q e.kind = subst Q is (path, text, rooted, there, h) in (b, refl)
+syntax_kind i path text (kinds.UnknownSetting name) e is rooted there h = let Q : CompileErrorKind → Type 0 = λ k. Broken i (syntax k) in let b : Q e.kind = subst Q is (path, text, rooted, there, h) in (b, refl)
+syntax_kind i path text (kinds.UnknownAttribute name) e is rooted there h = let Q : CompileErrorKind → Type 0 = λ k. Broken i (syntax k) in let b : Q e.kind = subst Q is (path, text, rooted, there, h) in (b, refl)
+syntax_kind i path text (kinds.AttributeArgumentCount name found) e is rooted there h = let Q : CompileErrorKind → Type 0 = λ k. Broken i (syntax k) in let b : Q e.kind = subst Q is (path, text, rooted, there, h) in (b, refl)
+syntax_kind i path text (kinds.InvalidAttribute name item) e is rooted there h = let Q : CompileErrorKind → Type 0 = λ k. Broken i (syntax k) in let b : Q e.kind = subst Q is (path, text, rooted, there, h) in (b, refl)
+syntax_kind i path text (kinds.DuplicateAttribute name) e is rooted there h = let Q : CompileErrorKind → Type 0 = λ k. Broken i (syntax k) in let b : Q e.kind = subst Q is (path, text, rooted, there, h) in (b, refl)
+syntax_kind i path text (kinds.DuplicateParameter name) e is rooted there h = let Q : CompileErrorKind → Type 0 = λ k. Broken i (syntax k) in let b : Q e.kind = subst Q is (path, text, rooted, there, h) in (b, refl)
+syntax_kind i path text (kinds.ParameterFollowsVariadic name) e is rooted there h = let Q : CompileErrorKind → Type 0 = λ k. Broken i (syntax k) in let b : Q e.kind = subst Q is (path, text, rooted, there, h) in (b, refl)
+syntax_kind i path text (kinds.RequiredParameterFollowsDefault name) e is rooted there h = let Q : CompileErrorKind → Type 0 = λ k. Broken i (syntax k) in let b : Q e.kind = subst Q is (path, text, rooted, there, h) in (b, refl)
+syntax_kind i path text (kinds.MinimumVersion required current) e is rooted there h = let Q : CompileErrorKind → Type 0 = λ k. Broken i (syntax k) in let b : Q e.kind = subst Q is (path, text, rooted, there, h) in (b, refl)
+syntax_kind i path text kinds.GuardAndInfallible e is rooted there h = let Q : CompileErrorKind → Type 0 = λ k. Broken i (syntax k) in let b : Q e.kind = subst Q is (path, text, rooted, there, h) in (b, refl)
+syntax_kind i path text kinds.TwoStars e is rooted there h = let Q : CompileErrorKind → Type 0 = λ k. Broken i (syntax k) in let b : Q e.kind = subst Q is (path, text, rooted, there, h) in (b, refl)
+syntax_kind i path text (kinds.InvalidSetting name given) e is rooted there h = let Q : CompileErrorKind → Type 0 = λ k. Broken i (syntax k) in let b : Q e.kind = subst Q is (path, text, rooted, there, h) in (b, refl)
 
 -- a text that is no justfile is told
 pub syntax_told : (i : Inputs) (path text : List ℕ) (e : CompileError) → i.root ≡ Some path → i.source path ≡ Some text → IsRefusal text e.kind → IsTold i (verdict (by_syntax e))

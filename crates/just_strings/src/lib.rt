@@ -15,6 +15,3 @@ pub use format_part::cook_part;
 pub use indentation::unindent;
 pub use string_kind::{StringDelimiter, StringKind, StringPrefix};
 pub use string_literal::StringLiteral;
-
-#[cfg(test)]
-mod tests;

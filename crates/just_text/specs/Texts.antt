@@ -1,12 +1,13 @@
 -- The printed texts of token kinds and of refusals.
 use Rattle.std.specs.Prelude.{ℕ, List, [], ◌∷◌, codes, encode_utf8}
+use Rattle.std.specs.Fmt.{decimal}
 use Rattle.just_text.specs.Fields.{with_fields}
 use Rattle.just_text.specs.declared.token_kind.TokenKind.{TokenKind}
 use Rattle.just_text.specs.declared.token_kind.TokenKind.TheVariants.{AmpersandAmpersand, Asterisk, At, Backtick, Bang, BangEquals, BangTilde, BarBar, BraceL, BraceR, BracketL, BracketR, ByteOrderMark, Colon, ColonColon, ColonEquals, Comma, Comment, Dedent, Dollar, Eof, Eol, Equals, EqualsEquals, EqualsTilde, FormatStringContinue, FormatStringEnd, FormatStringStart, Identifier, Indent, InterpolationEnd, InterpolationStart, ParenL, ParenR, Plus, PlusPlus, QuestionMark, Slash, StringToken, Text, Whitespace}
 use Rattle.just_text.specs.declared.delimiter.Delimiter.{Delimiter}
 use Rattle.just_text.specs.declared.delimiter.Delimiter.TheVariants.{Brace, Bracket, Paren}
 use Rattle.just_text.specs.declared.compile_error.CompileErrorKind.{CompileErrorKind}
-use Rattle.just_text.specs.declared.compile_error.CompileErrorKind.TheVariants.{OutOfMemory, NumbersUsed, UnknownStartOfToken, UnpairedCarriageReturn, MixedLeadingWhitespace, InconsistentLeadingWhitespace, ExtraLeadingWhitespace, UnexpectedToken, UnexpectedCharacter, UnterminatedString, UnterminatedBacktick, UnterminatedInterpolation, InvalidEscapeSequence, MismatchedClosingDelimiter, UnexpectedClosingDelimiter, ShellExpansion}
+use Rattle.just_text.specs.declared.compile_error.CompileErrorKind.TheVariants.{OutOfMemory, NumbersUsed, UnknownStartOfToken, UnpairedCarriageReturn, MixedLeadingWhitespace, InconsistentLeadingWhitespace, ExtraLeadingWhitespace, UnexpectedToken, UnexpectedCharacter, UnterminatedString, UnterminatedBacktick, UnterminatedInterpolation, InvalidEscapeSequence, MismatchedClosingDelimiter, UnexpectedClosingDelimiter, ShellExpansion, ParsingRecursionDepthExceeded, BacktickShebang, UnknownSetting, UnknownAttribute, AttributeArgumentCount, InvalidAttribute, DuplicateAttribute, DuplicateParameter, ParameterFollowsVariadic, RequiredParameterFollowsDefault, MinimumVersion, GuardAndInfallible, TwoStars, InvalidSetting}
 
 abbrev pub kind_text : TokenKind → List ℕ
 kind_text AmpersandAmpersand = codes "'&&'"
@@ -80,3 +81,17 @@ error_text (UnexpectedToken found) = with_fields (codes "unexpected token") (kin
 error_text (MismatchedClosingDelimiter opener closer) = with_fields (codes "mismatched closing delimiter") (encode_utf8 (opening opener) ∷ encode_utf8 (closing closer) ∷ [])
 error_text (UnexpectedClosingDelimiter closer) = with_fields (codes "unexpected closing delimiter") (encode_utf8 (closing closer) ∷ [])
 error_text (ShellExpansion text) = with_fields (codes "shell expansion") (text ∷ [])
+error_text ParsingRecursionDepthExceeded = codes "parsing recursion depth exceeded"
+error_text BacktickShebang = codes "backtick shebang"
+error_text (UnknownSetting name) = with_fields (codes "unknown setting") (name ∷ [])
+error_text (UnknownAttribute name) = with_fields (codes "unknown attribute") (name ∷ [])
+error_text (AttributeArgumentCount name found) = with_fields (codes "attribute argument count") (name ∷ decimal found ∷ [])
+error_text (InvalidAttribute name item) = with_fields (codes "invalid attribute") (name ∷ item ∷ [])
+error_text (DuplicateAttribute name) = with_fields (codes "duplicate attribute") (name ∷ [])
+error_text (DuplicateParameter name) = with_fields (codes "duplicate parameter") (name ∷ [])
+error_text (ParameterFollowsVariadic name) = with_fields (codes "parameter follows variadic") (name ∷ [])
+error_text (RequiredParameterFollowsDefault name) = with_fields (codes "required parameter follows default") (name ∷ [])
+error_text (MinimumVersion required current) = with_fields (codes "minimum version") (required ∷ current ∷ [])
+error_text GuardAndInfallible = codes "guard and infallible"
+error_text TwoStars = codes "two stars"
+error_text (InvalidSetting name text) = with_fields (codes "invalid setting") (name ∷ text ∷ [])

@@ -43,6 +43,34 @@ pub enum CompileErrorKind {
     ExtraLeadingWhitespace,
     /// No rule of the grammar takes this token here.
     UnexpectedToken(TokenKind),
+    /// An expression that nests deeper than 256 levels.
+    ParsingRecursionDepthExceeded,
+    /// A command that begins with `#!`.
+    BacktickShebang,
+    /// No setting has this name.
+    UnknownSetting(Text),
+    /// No attribute has this name.
+    UnknownAttribute(Text),
+    /// An attribute, and a number of arguments that it doesn't take.
+    AttributeArgumentCount(Text, usize),
+    /// An attribute, and the name of the item that it doesn't fit.
+    InvalidAttribute(Text, Text),
+    /// An attribute that an item has twice, though it may have one.
+    DuplicateAttribute(Text),
+    /// The name of two parameters.
+    DuplicateParameter(Text),
+    /// A parameter behind one that takes all values that remain.
+    ParameterFollowsVariadic(Text),
+    /// A parameter without a default behind one that has one.
+    RequiredParameterFollowsDefault(Text),
+    /// The version that the file asks for, and the lower one that reads it.
+    MinimumVersion(Text, Text),
+    /// A body line that begins with both marks, the guard's and that of infallible lines.
+    GuardAndInfallible,
+    /// A dependency with more than one starred argument.
+    TwoStars,
+    /// A setting, and a text that is no value of it.
+    InvalidSetting(Text, Text),
 }
 
 /// A refusal and its place.
@@ -123,6 +151,47 @@ impl fmt::Display for CompileErrorKind {
             }
             CompileErrorKind::ExtraLeadingWhitespace => write!(f, "extra leading whitespace"),
             CompileErrorKind::UnexpectedToken(found) => write!(f, "unexpected token: `{found}`"),
+            CompileErrorKind::ParsingRecursionDepthExceeded => write!(
+                f,
+                "parsing recursion depth exceeded"
+            ),
+            CompileErrorKind::BacktickShebang => write!(f, "backtick shebang"),
+            CompileErrorKind::UnknownSetting(name) => write!(f, "unknown setting: `{name}`"),
+            CompileErrorKind::UnknownAttribute(name) => write!(f, "unknown attribute: `{name}`"),
+            CompileErrorKind::AttributeArgumentCount(name, found) => write!(
+                f,
+                "attribute argument count: `{name}`, `{found}`"
+            ),
+            CompileErrorKind::InvalidAttribute(name, item) => write!(
+                f,
+                "invalid attribute: `{name}`, `{item}`"
+            ),
+            CompileErrorKind::DuplicateAttribute(name) => write!(
+                f,
+                "duplicate attribute: `{name}`"
+            ),
+            CompileErrorKind::DuplicateParameter(name) => write!(
+                f,
+                "duplicate parameter: `{name}`"
+            ),
+            CompileErrorKind::ParameterFollowsVariadic(name) => write!(
+                f,
+                "parameter follows variadic: `{name}`"
+            ),
+            CompileErrorKind::RequiredParameterFollowsDefault(name) => write!(
+                f,
+                "required parameter follows default: `{name}`"
+            ),
+            CompileErrorKind::MinimumVersion(required, current) => write!(
+                f,
+                "minimum version: `{required}`, `{current}`"
+            ),
+            CompileErrorKind::GuardAndInfallible => write!(f, "guard and infallible"),
+            CompileErrorKind::TwoStars => write!(f, "two stars"),
+            CompileErrorKind::InvalidSetting(name, text) => write!(
+                f,
+                "invalid setting: `{name}`, `{text}`"
+            ),
         }
     }
 }

@@ -117,21 +117,3 @@ impl fmt::Display for Keyword {
         f.write_str(self.lexeme())
     }
 }
-
-#[cfg(test)]
-mod tests {
-    use super::*;
-
-    #[test]
-    fn spells_words_with_dashes(rt: HostRuntime) {
-        for (keyword, word) in [
-            (Keyword::Alias, "alias"),
-            (Keyword::DotenvRequired, "dotenv-required"),
-            (Keyword::MinimumVersion, "minimum-version"),
-            (Keyword::X, "x"),
-        ] {
-            assert!(rt; keyword.spells(word), "{word}");
-            assert!(rt; !keyword.spells("Alias"), "{word}");
-        }
-    }
-}

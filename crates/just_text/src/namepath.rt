@@ -134,6 +134,3 @@ impl Ord for Namepath<'_> {
         self.names.cmp(&other.names)
     }
 }
-
-#[cfg(test)]
-mod tests;

@@ -1,3 +1,4 @@
 pub mod Printed
 pub mod Marks
 pub mod TextsInRow
+pub mod Filed

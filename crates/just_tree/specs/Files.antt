@@ -1,7 +1,9 @@
 -- Items and files: what they say, and how items are printed.
-use Rattle.std.specs.Prelude.{ℕ, List, ◌++◌, codes}
+use Rattle.std.specs.Prelude.{ℕ, ◌+◌, ◌==◌, Bool, true, false, not, if◌then◌else◌, List, [], ◌∷◌, ◌++◌, map, codes}
+use Rattle.std.specs.List.{list_any}
 use Rattle.just_tree.specs.declared.ast.Item.{Item}
 use Rattle.just_tree.specs.declared.ast.Item.TheVariants.{Alias, Assignment, Comment, Function, Import, Module, Newline, Recipe, Set, Unexport}
+use Rattle.just_tree.specs.declared.line.Line.{Line}
 use Rattle.just_tree.specs.declared.ast.ItemKind.{ItemKind}
 use Rattle.just_tree.specs.declared.ast.ItemKind.TheVariants.{Alias as AliasKind, Assignment as AssignmentKind, Comment as CommentKind, Function as FunctionKind, Import as ImportKind, Module as ModuleKind, Newline as NewlineKind, Recipe as RecipeKind, Set as SetKind, Unexport as UnexportKind}
 use Rattle.just_tree.specs.declared.ast.UnstableFeature.{UnstableFeature}
@@ -10,6 +12,7 @@ use Rattle.just_tree.specs.declared.ast.ListFeature.{ListFeature}
 use Rattle.just_tree.specs.declared.ast.ListFeature.TheVariants.{Comparison, Concatenation, ConditionalWithoutElse, Literal, Not, StarredArgument}
 use Rattle.just_tree.specs.Attributes.{AttributeShape, attribute_shapes, attributes_text}
 use Rattle.just_tree.specs.Items.{AliasShape, alias_shape, alias_text, AssignmentShape, assignment_shape, assignment_text, FunctionShape, function_shape, function_text, ImportShape, import_shape, import_text, ModuleShape, module_shape, module_text, unexport_shape, unexport_text}
+use Rattle.just_tree.specs.Lines.{ends_in_return, last_piece}
 use Rattle.just_tree.specs.Recipes.{RecipeShape, recipe_shape, recipe_text}
 use Rattle.just_tree.specs.Settings.{SetShape, set_shape, set_text}
 
@@ -89,3 +92,42 @@ list_text ConditionalWithoutElse = codes "if without else"
 list_text Literal = codes "list literal"
 list_text Not = codes "!"
 list_text StarredArgument = codes "starred argument"
+
+abbrev pub item_shapes : List Item → List ItemShape
+item_shapes = map item_shape
+
+-- a blank line
+abbrev pub is_blank : ItemShape → Bool
+is_blank newline_item = true
+is_blank other = false
+
+-- blank lines, two at most
+abbrev pub blank_lines : ℕ → List ℕ
+blank_lines n = if n == 0 then codes "" else if n == 1 then codes "\n" else codes "\n\n"
+
+-- an item behind blank lines, and a newline behind it
+abbrev pub text_behind : List ℕ → ℕ → ItemShape → List ℕ
+text_behind indentation blank item = blank_lines blank ++ item_text indentation item ++ codes "\n"
+
+-- items behind blank lines; those behind the last item are not written
+unfoldable pub file_text_behind : List ℕ → ℕ → List ItemShape → List ℕ
+file_text_behind indentation blank [] = []
+file_text_behind indentation blank (item ∷ items) =
+    if is_blank item then file_text_behind indentation (blank + 1) items else text_behind indentation blank item ++ file_text_behind indentation 0 items
+
+-- a file: between items and at the start a run of blank lines is cut to two, and one newline stands behind the last item
+abbrev pub file_text : List ℕ → List ItemShape → List ℕ
+file_text indentation items = file_text_behind indentation 0 items
+
+-- a line ends in a carriage return
+abbrev pub line_has_return : Line → Bool
+line_has_return line = ends_in_return (last_piece line)
+
+-- a line of the item's body does
+abbrev pub has_return : Item → Bool
+has_return (Recipe r) = list_any line_has_return r.body.items
+has_return other = false
+
+-- no line of a body ends in a carriage return
+abbrev pub printable : List Item → Bool
+printable items = not (list_any has_return items)

@@ -76,3 +76,9 @@ abbrev pub is_continuation : Option Piece → Bool
 is_continuation None = false
 is_continuation (Some (text t)) = is_byte 92 (slice_get t (length t - 1))
 is_continuation (Some (interpolation e)) = false
+
+-- a line whose last part is this ends with a carriage return
+abbrev pub ends_in_return : Option Piece → Bool
+ends_in_return None = false
+ends_in_return (Some (text t)) = is_byte 13 (slice_get t (length t - 1))
+ends_in_return (Some (interpolation e)) = false

@@ -1,9 +1,11 @@
 //! Whole files.
 ghost use Rattle.std.specs.Prelude.{◌≡◌, ◌++◌, Some, codes};
 ghost use Rattle.std.specs.Fmt.{WritesOnOk};
+ghost use Rattle.std.specs.List.{list_any};
 ghost use Rattle.just_tree.specs.Files as spec;
 
 use crate::item::{Alias, Assignment, FunctionDefinition, Import, Module, Unexport};
+use crate::line::Line;
 use crate::recipe::{Recipe, UnresolvedDependency};
 use crate::rows::Attributes;
 use crate::setting::Set;
@@ -175,4 +177,97 @@ impl fmt::Display for ListFeature {
 pub struct Ast<'src> {
     pub items: Vec<Item<'src>>,
     pub unstable_features: Vec<UnstableFeature>,
+}
+
+/// Blank lines, two at most.
+fn blank_lines(count: usize) -> &'static str
+    ensures { result.now ≡ spec.blank_lines count }
+{
+    if count == 0 {
+        ""
+    } else if count == 1 {
+        "\n"
+    } else {
+        "\n\n"
+    }
+}
+
+/// Writes an item behind blank lines, and a newline behind it.
+fn print_behind<W: fmt::Write>(
+    f: &mut fmt::Formatter<W>,
+    blank: usize,
+    item: &Item,
+    indentation: &str,
+) -> fmt::Result
+    ensures { WritesOnOk W.write_str_gives f.old result (spec.text_behind indentation.now blank (spec.item_shape item.now)) f.new }
+{
+    f.write_str(blank_lines(blank))?;
+    item.print(f, indentation)?;
+    f.write_str("\n")
+}
+
+impl Ast<'_> {
+    /// Writes the file, bodies with this indentation. Between items and at the start, a run of blank
+    /// lines is cut to two; behind the last item there is one newline.
+    pub fn print<W: fmt::Write>(&self, f: &mut fmt::Formatter<W>, indentation: &str) -> fmt::Result
+        ensures { WritesOnOk W.write_str_gives f.old result (spec.file_text indentation.now (spec.item_shapes self.now.items.items)) f.new }
+    {
+        let mut blank = 0;
+        for item in &self.items {
+            if is_blank(item) {
+                blank += 1;
+            } else {
+                print_behind(f, blank, item, indentation)?;
+                blank = 0;
+            }
+        }
+        Ok(())
+    }
+
+    /// Whether no line of a body ends in a carriage return.
+    pub fn printable(&self) -> bool
+        ensures { result ≡ spec.printable self.now.items.items }
+    {
+        !any_return(&self.items)
+    }
+}
+
+fn is_blank(item: &Item) -> bool
+    ensures { result ≡ spec.is_blank (spec.item_shape item.now) }
+{
+    match item {
+        Item::Newline => true,
+        _ => false,
+    }
+}
+
+/// Whether a line of the item's body ends in a carriage return.
+fn has_return(item: &Item) -> bool
+    ensures { result ≡ spec.has_return item.now }
+{
+    match item {
+        Item::Recipe(recipe) => body_has_return(&recipe.body),
+        _ => false,
+    }
+}
+
+fn body_has_return(lines: &[Line]) -> bool
+    ensures { result ≡ list_any spec.line_has_return lines.now }
+{
+    lines.iter().any(|line| line.ends_in_return())
+}
+
+fn any_return(items: &[Item]) -> bool
+    ensures { result ≡ list_any spec.has_return items.now }
+{
+    items.iter().any(|item| has_return(item))
+}
+
+/// With an indentation of four spaces.
+impl fmt::Display for Ast<'_> {
+    ghost output = { λ ast. Some (spec.file_text (codes "    ") (spec.item_shapes ast.items.items)) };
+
+    fn fmt<W: fmt::Write>(&self, f: &mut fmt::Formatter<W>) -> fmt::Result {
+        self.print(f, "    ")
+    }
 }

@@ -1,5 +1,5 @@
 //! Items but recipes and settings.
-ghost use Rattle.std.specs.Prelude.{Some};
+ghost use Rattle.std.specs.Prelude.{◌≡◌, Some};
 ghost use Rattle.just_tree.specs.Items as spec;
 
 use crate::attribute::Attribute;
@@ -8,6 +8,7 @@ use crate::rows::Names;
 use just_strings::StringLiteral;
 use just_text::{Name, Namepath, Number};
 use std::fmt;
+use std::marker::Model;
 
 /// Another name of a recipe; `T` is what stands for the recipe.
 #[derive(Debug, Drop)]
@@ -60,12 +61,48 @@ impl<'src> fmt::Display for Binding<'src, Expression<'src>> {
     }
 }
 
+/// A parameter of a function. Contracts see it as its name and its number.
+#[derive(Debug, Drop)]
+pub struct FunctionParameter<'src> {
+    name: Name<'src>,
+    number: Number,
+}
+
+impl<'src> Model for FunctionParameter<'src> {
+    ghost use Rattle.std.specs.Prelude.{ℕ};
+    ghost use Rattle.just_text.specs.declared.name.Name.{Name};
+
+    ghost Value = { Name × ℕ };
+
+    ghost view = { λ p. (p.name, p.number) };
+}
+
+impl<'src> FunctionParameter<'src> {
+    pub fn new(name: Name<'src>, number: Number) -> FunctionParameter<'src>
+        ensures { result ≡ (name.entry, number) }
+    {
+        FunctionParameter { name, number }
+    }
+
+    pub fn name(&self) -> Name<'src>
+        ensures { result ≡ self.now.0 }
+    {
+        self.name
+    }
+
+    pub fn number(&self) -> Number
+        ensures { result ≡ self.now.1 }
+    {
+        self.number
+    }
+}
+
 /// A function that the file defines.
 #[derive(Debug, Drop)]
 pub struct FunctionDefinition<'src> {
     pub body: Expression<'src>,
     pub name: Name<'src>,
-    pub parameters: Vec<(Name<'src>, Number)>,
+    pub parameters: Vec<FunctionParameter<'src>>,
 }
 
 impl fmt::Display for FunctionDefinition<'_> {

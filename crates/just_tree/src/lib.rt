@@ -15,11 +15,11 @@ mod setting;
 pub use ast::{Ast, Item, ItemKind, ListFeature, UnstableFeature};
 pub use attribute::{ArgumentOptions, Attribute, AttributeKind, LongName};
 pub use expression::Expression;
-pub use item::{Alias, Assignment, Binding, FunctionDefinition, Import, Module, Unexport};
+pub use item::{
+    Alias, Assignment, Binding, FunctionDefinition, FunctionParameter, Import, Module, Unexport,
+};
 pub use line::{Fragment, Line, Sigils};
 pub use operator::{ConditionalOperator, ListOperator};
 pub use recipe::{DependencyArgument, Parameter, ParameterKind, Recipe, UnresolvedDependency};
+pub use rows::{Elements, Strings};
 pub use setting::{Interpreter, Set, Setting};
-
-#[cfg(test)]
-mod tests;

@@ -131,6 +131,16 @@ impl Line<'_> {
             _ => false,
         }
     }
+
+    /// Whether the line ends with a carriage return.
+    pub fn ends_in_return(&self) -> bool
+        ensures { result ≡ spec.ends_in_return (last_piece self.now) }
+    {
+        match self.fragments.last() {
+            Some(Fragment::Text { token }) => is_byte(token.lexeme().as_bytes().last(), b'\r'),
+            _ => false,
+        }
+    }
 }
 
 impl fmt::Display for Line<'_> {

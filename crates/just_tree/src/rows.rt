@@ -5,10 +5,10 @@ ghost use Rattle.just_tree.specs.Recipes as spec;
 
 use crate::attribute::Attribute;
 use crate::expression::Expression;
+use crate::item::FunctionParameter;
 use crate::line::Line;
 use crate::recipe::{DependencyArgument, Parameter, UnresolvedDependency};
 use just_strings::StringLiteral;
-use just_text::{Name, Number};
 use std::fmt;
 
 /// Parameters, each behind a space.
@@ -120,7 +120,7 @@ impl fmt::Display for Body<'_, '_> {
 
 /// Names of parameters, with a comma and a space between two.
 #[derive(Clone, Copy)]
-pub struct Names<'a, 'src>(pub &'a [(Name<'src>, Number)]);
+pub struct Names<'a, 'src>(pub &'a [FunctionParameter<'src>]);
 
 impl fmt::Display for Names<'_, '_> {
     ghost output = { λ row. Some (items.names_text (items.names_of row.0.now)) };
@@ -131,10 +131,10 @@ impl fmt::Display for Names<'_, '_> {
         let Some((first, others)) = parameters.split_first() else {
             return Ok(());
         };
-        let name = first.0;
+        let name = first.name();
         write!(f, "{name}")?;
         for parameter in others {
-            let name = parameter.0;
+            let name = parameter.name();
             write!(f, ", {name}")?;
         }
         Ok(())

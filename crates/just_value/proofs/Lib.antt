@@ -2,3 +2,9 @@ pub mod Cuts
 pub mod TextsInRow
 pub mod Escapes
 pub mod Rows
+pub mod Numbered
+pub mod ConstantsInFrame
+pub mod PathParts
+pub mod PlainPaths
+pub mod EscapedBytes
+pub mod Pairs

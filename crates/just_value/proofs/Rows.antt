@@ -15,7 +15,7 @@ many_is conjunction last (text ∷ []) = simp (append-nil, append_assoc)
 many_is conjunction last (text ∷ other ∷ others) = rw (many_is conjunction last (other ∷ others)) (simp append_assoc)
 
 -- at least two, and the last one
-row_is : (conjunction last : List ℕ) (texts : List (List ℕ)) → 1 < length texts → list_text conjunction (texts ++ last ∷ []) ≡ flat_map with_comma texts ++ (conjunction ++ (codes " " ++ last))
+pub row_is : (conjunction last : List ℕ) (texts : List (List ℕ)) → 1 < length texts → list_text conjunction (texts ++ last ∷ []) ≡ flat_map with_comma texts ++ (conjunction ++ (codes " " ++ last))
 row_is conjunction last [] more = absurd (omega (arith, more))
 row_is conjunction last (a ∷ []) more = absurd (omega (arith, more))
 row_is conjunction last (a ∷ b ∷ []) more = many_is conjunction last (a ∷ b ∷ [])

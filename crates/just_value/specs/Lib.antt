@@ -6,3 +6,4 @@ pub mod Lists
 pub mod Paths
 pub mod Uris
 pub mod Constants
+pub mod Frames

@@ -1,5 +1,6 @@
 -- Texts in a row, as sentences have them.
-use Rattle.std.specs.Prelude.{ℕ, List, [], ◌∷◌, ◌++◌, codes}
+use Rattle.std.specs.Prelude.{◌≡◌, ◌<◌, ℕ, List, [], ◌∷◌, ◌++◌, length, codes}
+use Rattle.std.specs.List.{flat_map}
 
 -- a text with a mark on both sides
 abbrev pub enclosed : List ℕ → List ℕ → List ℕ
@@ -17,3 +18,7 @@ list_text conjunction [] = []
 list_text conjunction (text ∷ []) = text
 list_text conjunction (text ∷ other ∷ []) = text ++ (codes " " ++ (conjunction ++ (codes " " ++ other)))
 list_text conjunction (text ∷ other ∷ another ∷ others) = many conjunction (text ∷ other ∷ another ∷ others)
+
+-- three or more are texts with a comma behind each, the conjunction and the last
+abbrev pub PutInARow : Type 0
+PutInARow = (conjunction last : List ℕ) (texts : List (List ℕ)) → 1 < length texts → list_text conjunction (texts ++ last ∷ []) ≡ flat_map (λ text. text ++ codes ", ") texts ++ (conjunction ++ (codes " " ++ last))

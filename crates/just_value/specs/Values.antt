@@ -1,5 +1,5 @@
 -- Lists of texts: how they are joined, applied to one another and printed.
-use Rattle.std.specs.Prelude.{ℕ, List, [], ◌∷◌, ◌++◌, ◌==◌, cond, map, length, codes, Option, Some, None}
+use Rattle.std.specs.Prelude.{◌≡◌, ◌<◌, ℕ, List, [], ◌∷◌, ◌++◌, ◌==◌, cond, map, length, slice_index_or, codes, Option, Some, None}
 use Rattle.std.specs.List.{flat_map}
 
 -- the texts with a space between two
@@ -57,3 +57,12 @@ abbrev pub value_text : List (List ℕ) → List ℕ
 value_text [] = codes "[]"
 value_text (text ∷ []) = quoted text
 value_text (text ∷ other ∷ others) = codes "[" ++ (quoted text ++ (more_quoted (other ∷ others) ++ codes "]"))
+
+-- one text joined is that text
+abbrev pub JoinedAlone : Type 0
+JoinedAlone = (text : List ℕ) → joined (text ∷ []) ≡ text
+
+-- of two lists of one length each text goes with the one at its place
+abbrev pub GoPairwise : Type 0
+GoPairwise = (separator : List ℕ) (texts others both : List (List ℕ)) → length texts ≡ length others → applied separator texts others ≡ Some both
+    → (length both ≡ length texts) × ((i : ℕ) → i < length texts → slice_index_or both i [] ≡ slice_index_or texts i [] ++ (separator ++ slice_index_or others i []))

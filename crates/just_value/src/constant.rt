@@ -2,6 +2,9 @@
 ghost use Rattle.std.specs.Prelude.{◌≡◌, length, map};
 ghost use Rattle.just_value.specs.Constants.{constant_rows, row_of};
 
+/// How many constants there are: the first so many numbers of bindings are theirs.
+pub const CONSTANT_COUNT: u32 = 29;
+
 /// Each constant's name and text, in the order of their numbers.
 const CONSTANTS: [(&str, &str); 29] = [
     ("HEX", "0123456789abcdef"),
@@ -38,10 +41,7 @@ const CONSTANTS: [(&str, &str); 29] = [
 /// The names and texts of the constants, in the order of their numbers.
 pub fn constants() -> &'static [(&'static str, &'static str)]
     ensures rows { map row_of result.now ≡ constant_rows }
-    ensures count { length result.now ≡ 29 }
+    ensures count { length result.now ≡ CONSTANT_COUNT }
 {
     &CONSTANTS
 }
-
-#[cfg(test)]
-mod tests;

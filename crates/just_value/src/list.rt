@@ -211,6 +211,3 @@ impl<'a> Listed for &'a str {
         f.write_str(*self)
     }
 }
-
-#[cfg(test)]
-mod tests;

@@ -160,6 +160,3 @@ fn arguments(
     }
     Ok(Sequence::from_vec(texts))
 }
-
-#[cfg(test)]
-mod tests;

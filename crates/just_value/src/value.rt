@@ -282,6 +282,3 @@ impl Ord for Value {
         self.elements.cmp(&other.elements)
     }
 }
-
-#[cfg(test)]
-mod tests;

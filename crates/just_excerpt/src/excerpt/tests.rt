@@ -1,6 +1,7 @@
 //! Excerpts as they are printed.
 use super::*;
 use just_text::TokenKind;
+use std::alloc::Global;
 use std::test::Fail;
 
 /// A part of a source, if both its ends are between characters.
@@ -26,139 +27,153 @@ fn part<'src>(
     })
 }
 
+/// What is printed of a part of a source, told by its offset and length, its line and its column.
+type Case<'a> = ((usize, usize), (usize, usize), &'a str);
+
+/// Whether all are printed so.
+fn are_printed(alloc: Global, src: &str, cases: &[Case]) -> Result<bool, Fail> {
+    for ((offset, length), (line, column), expected) in cases {
+        let token = part(src, *offset, *length, *line, *column).ok_or("cut inside a character")?;
+        let printed = format!(in alloc; "{}", Excerpt(&token))?;
+        if printed.as_str() != *expected {
+            return Ok(false);
+        }
+    }
+    Ok(true)
+}
+
 #[test]
-fn prints_the_line_and_its_marks(rt: HostRuntime) -> Result<(), Fail> {
-    let plain = "a: b\nb c:\nd";
-    let tabs = "\tx\ty z\n";
-    let wide = "a := '漢字' b";
-    let combined = "e\u{301}x\n";
-    let lines = "x := 'a\nbc'\n";
-    let crossed = "ab\r\n'c\r\nd'\r\n";
-    let marked = "\u{feff}a b";
-    let tenth = "\n\n\n\n\n\n\n\n\nx y";
+fn marks_parts_of_lines(rt: HostRuntime) -> Result<(), Fail> {
     let cases = [
+        ((3, 1), (0, 3), " --> justfile:1:4\n  |\n1 | a: b\n  |    ^"),
+        ((5, 3), (1, 0), " --> justfile:2:1\n  |\n2 | b c:\n  | ^^^"),
+        ((10, 1), (2, 0), " --> justfile:3:1\n  |\n3 | d\n  | ^"),
+        ((11, 0), (2, 1), " --> justfile:3:2\n  |\n3 | d\n  |  ^"),
         (
-            plain,
-            (3, 1),
-            (0, 3),
-            " --> justfile:1:4\n  |\n1 | a: b\n  |    ^",
-        ),
-        (
-            plain,
-            (5, 3),
-            (1, 0),
-            " --> justfile:2:1\n  |\n2 | b c:\n  | ^^^",
-        ),
-        (
-            plain,
-            (10, 1),
-            (2, 0),
-            " --> justfile:3:1\n  |\n3 | d\n  | ^",
-        ),
-        (
-            plain,
-            (11, 0),
-            (2, 1),
-            " --> justfile:3:2\n  |\n3 | d\n  |  ^",
-        ),
-        (
-            plain,
             (4, 1),
             (0, 4),
             " --> justfile:1:5\n  |\n1 | a: b\n  |     ^",
         ),
+    ];
+    assert!(rt; are_printed(rt.alloc(), "a: b\nb c:\nd", &cases)?);
+    Ok(())
+}
+
+#[test]
+fn prints_tabs_as_spaces(rt: HostRuntime) -> Result<(), Fail> {
+    let cases = [
         (
-            tabs,
             (3, 1),
             (0, 3),
             " --> justfile:1:4\n  |\n1 |     x    y z\n  |          ^",
         ),
         (
-            tabs,
             (1, 3),
             (0, 1),
             " --> justfile:1:2\n  |\n1 |     x    y z\n  |     ^^^^^^",
         ),
         (
-            tabs,
             (0, 1),
             (0, 0),
             " --> justfile:1:1\n  |\n1 |     x    y z\n  | ^^^^",
         ),
-        (tabs, (7, 0), (1, 0), " --> justfile:2:1\n  |\n2 | \n  | ^"),
+        ((7, 0), (1, 0), " --> justfile:2:1\n  |\n2 | \n  | ^"),
+    ];
+    assert!(rt; are_printed(rt.alloc(), "\tx\ty z\n", &cases)?);
+    Ok(())
+}
+
+#[test]
+fn marks_wide_characters(rt: HostRuntime) -> Result<(), Fail> {
+    let cases = [
         (
-            wide,
             (5, 8),
             (0, 5),
             " --> justfile:1:6\n  |\n1 | a := '漢字' b\n  |      ^^^^^^",
         ),
         (
-            wide,
             (14, 1),
             (0, 14),
             " --> justfile:1:15\n  |\n1 | a := '漢字' b\n  |             ^",
         ),
+    ];
+    assert!(rt; are_printed(rt.alloc(), "a := '漢字' b", &cases)?);
+    Ok(())
+}
+
+#[test]
+fn marks_combined_characters(rt: HostRuntime) -> Result<(), Fail> {
+    let cases = [
         (
-            combined,
             (3, 1),
             (0, 3),
             " --> justfile:1:4\n  |\n1 | e\u{301}x\n  |  ^",
         ),
         (
-            combined,
             (0, 4),
             (0, 0),
             " --> justfile:1:1\n  |\n1 | e\u{301}x\n  | ^^",
         ),
         (
-            combined,
             (1, 2),
             (0, 1),
             " --> justfile:1:2\n  |\n1 | e\u{301}x\n  |  ^",
         ),
+    ];
+    assert!(rt; are_printed(rt.alloc(), "e\u{301}x\n", &cases)?);
+    Ok(())
+}
+
+#[test]
+fn marks_the_first_of_lines(rt: HostRuntime) -> Result<(), Fail> {
+    let cases = [(
+        (5, 6),
+        (0, 5),
+        " --> justfile:1:6\n  |\n1 | x := 'a\n  |      ^^",
+    )];
+    assert!(rt; are_printed(rt.alloc(), "x := 'a\nbc'\n", &cases)?);
+    Ok(())
+}
+
+#[test]
+fn ends_lines_before_a_carriage_return(rt: HostRuntime) -> Result<(), Fail> {
+    let cases = [
+        ((4, 6), (1, 0), " --> justfile:2:1\n  |\n2 | 'c\n  | ^^"),
+        ((2, 2), (0, 2), " --> justfile:1:3\n  |\n1 | ab\n  |   ^"),
+    ];
+    assert!(rt; are_printed(rt.alloc(), "ab\r\n'c\r\nd'\r\n", &cases)?);
+    Ok(())
+}
+
+#[test]
+fn leaves_out_a_byte_order_mark(rt: HostRuntime) -> Result<(), Fail> {
+    let cases = [((5, 1), (0, 2), " --> justfile:1:3\n  |\n1 | a b\n  |   ^")];
+    assert!(rt; are_printed(rt.alloc(), "\u{feff}a b", &cases)?);
+    Ok(())
+}
+
+#[test]
+fn widens_for_longer_numbers(rt: HostRuntime) -> Result<(), Fail> {
+    let cases = [
         (
-            lines,
-            (5, 6),
-            (0, 5),
-            " --> justfile:1:6\n  |\n1 | x := 'a\n  |      ^^",
-        ),
-        (
-            crossed,
-            (4, 6),
-            (1, 0),
-            " --> justfile:2:1\n  |\n2 | 'c\n  | ^^",
-        ),
-        (
-            crossed,
-            (2, 2),
-            (0, 2),
-            " --> justfile:1:3\n  |\n1 | ab\n  |   ^",
-        ),
-        (
-            marked,
-            (5, 1),
-            (0, 2),
-            " --> justfile:1:3\n  |\n1 | a b\n  |   ^",
-        ),
-        (
-            tenth,
             (9, 1),
             (9, 0),
             "  --> justfile:10:1\n   |\n10 | x y\n   | ^",
         ),
         (
-            tenth,
             (11, 1),
             (99, 2),
             "   --> justfile:100:3\n    |\n100 | x y\n    |   ^",
         ),
-        ("", (0, 0), (0, 0), " --> justfile:1:1\n  |\n1 | \n  | ^"),
     ];
-    for (src, (offset, length), (line, column), expected) in cases {
-        let token = part(src, offset, length, line, column).ok_or("cut inside a character")?;
-        let printed = format!(in rt.alloc(); "{}", Excerpt(&token))?;
-        assert_eq!(rt; printed.as_str(), expected);
-    }
+    assert!(rt; are_printed(rt.alloc(), "\n\n\n\n\n\n\n\n\nx y", &cases)?);
+    Ok(())
+}
+
+#[test]
+fn marks_the_end_of_an_empty_text(rt: HostRuntime) -> Result<(), Fail> {
+    let cases = [((0, 0), (0, 0), " --> justfile:1:1\n  |\n1 | \n  | ^")];
+    assert!(rt; are_printed(rt.alloc(), "", &cases)?);
     Ok(())
 }
 

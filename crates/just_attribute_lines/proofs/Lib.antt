@@ -1,0 +1,14 @@
+pub mod Adding
+pub mod ArgumentsExact
+pub mod AttributesExact
+pub mod CommentLines
+pub mod Fewer
+pub mod Follow
+pub mod KindNames
+pub mod Known
+pub mod LineEndsExact
+pub mod OptionsExact
+pub mod Rest
+pub mod Rows
+pub mod RowsExact
+pub mod StringsExact

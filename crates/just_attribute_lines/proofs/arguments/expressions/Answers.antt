@@ -1,0 +1,62 @@
+-- Each turn reads an expression.
+use Rattle.std.proofs.Common.{◌≡◌, ◌-◌, ◌++◌, ◌∷◌, [], Ok, true, false, rules, arith}
+use Rattle.std.proofs.lemmas.Result.{err_from_is_err_and}
+use Rattle.just_text.specs.Tokens.{word_of}
+use Rattle.just_text.specs.declared.token_kind.TokenKind.TheVariants.{ParenR}
+use Rattle.just_tree.specs.Shape.{shape_of}
+use Rattle.just_expressions.specs.Reading.{ahead}
+use Rattle.just_attribute_lines.specs.Reading.{whole_at, more_at}
+use Rattle.just_attribute_lines.proofs.Fewer.{more_shorter, whole_shorter}
+use Rattle.just_attribute_lines.proofs.Follow.{at_end, goes_on, no_item, untold}
+use Rattle.just_attribute_lines.proofs.Rows.{one_more_cooked}
+use Rattle.just_attribute_lines.proofs.arguments.expressions.Goals as goal
+
+pub returns-in_err-is_more-clause-gives : goal.returns-in_err-is_more-clause-gives
+returns-in_err-is_more-clause-gives g c =
+    let l = c.loop-expressions in
+    let i = l.invariant in
+    let x = g.E.Expander.expansion c.args.expander.now in
+    let p = err_from_is_err_and c.from_residual.result c.from_residual.ensures.1 in
+    rw (p.1, p.2) (untold shape_of (whole_at word_of x) (more_at word_of ParenR) l.expressions.items i.turns (ahead l.cursor) _ i.fuel i.so_far c.in_err-is_more.field-0.0 c.in_err-is_more.ensures)
+
+pub returns-in_err-expression-clause-gives : goal.returns-in_err-expression-clause-gives
+returns-in_err-expression-clause-gives g c =
+    let l = c.loop-expressions in
+    let i = l.invariant in
+    let x = g.E.Expander.expansion c.args.expander.now in
+    let comes : more_at word_of ParenR (ahead l.cursor) ≡ Ok (true, ahead c.is_more.new.cursor) = rw c.if-branch.true at c.in_ok-is_more.ensures in
+    let p = err_from_is_err_and c.from_residual-in_err-expression.result c.from_residual-in_err-expression.ensures.1 in
+    rw (p.1, p.2) (no_item shape_of (whole_at word_of x) (more_at word_of ParenR) l.expressions.items i.turns (ahead l.cursor) _ i.fuel i.so_far (ahead c.is_more.new.cursor) comes c.in_err-expression.field-0.0 c.in_err-expression.ensures.gives)
+
+pub loop-expressions-smaller : goal.loop-expressions-smaller
+loop-expressions-smaller g c =
+    let l = c.loop-expressions in
+    let x = g.E.Expander.expansion c.args.expander.now in
+    let comes : more_at word_of ParenR (ahead l.cursor) ≡ Ok (true, ahead c.is_more.new.cursor) = rw c.if-branch.true at c.in_ok-is_more.ensures in
+    let less = more_shorter word_of ParenR (ahead l.cursor) (true, ahead c.is_more.new.cursor) comes in
+    let fewer = whole_shorter word_of x (ahead c.is_more.new.cursor) (shape_of c.in_ok-expression.field-0, ahead c.expression.new.self) c.in_ok-expression.ensures.gives in
+    omega (arith, less, fewer)
+
+pub loop-expressions-preserved : goal.loop-expressions-preserved
+loop-expressions-preserved g c =
+    let l = c.loop-expressions in
+    let i = l.invariant in
+    let x = g.E.Expander.expansion c.args.expander.now in
+    let comes : more_at word_of ParenR (ahead l.cursor) ≡ Ok (true, ahead c.is_more.new.cursor) = rw c.if-branch.true at c.in_ok-is_more.ensures in
+    let less = more_shorter word_of ParenR (ahead l.cursor) (true, ahead c.is_more.new.cursor) comes in
+    let fewer = whole_shorter word_of x (ahead c.is_more.new.cursor) (shape_of c.in_ok-expression.field-0, ahead c.expression.new.self) c.in_ok-expression.ensures.gives in
+    let pushed : c.push.new.self.items ≡ l.expressions.items ++ c.in_ok-expression.field-0 ∷ [] = search rules in
+    record {
+      turns = i.turns - 1;
+      fuel = omega (arith, less, fewer, i.fuel);
+      so_far = rw pushed (goes_on shape_of (whole_at word_of x) (more_at word_of ParenR) l.expressions.items i.turns (ahead l.cursor) _ i.fuel i.so_far (ahead c.is_more.new.cursor) comes c.in_ok-expression.field-0 (ahead c.expression.new.self) c.in_ok-expression.ensures.gives);
+      cooked = rw pushed (one_more_cooked x l.expressions.items c.in_ok-expression.field-0 i.cooked c.in_ok-expression.ensures.cooked);
+    }
+
+pub returns-clause-gives : goal.returns-clause-gives
+returns-clause-gives g c =
+    let l = c.loop-expressions in
+    let i = l.invariant in
+    let x = g.E.Expander.expansion c.args.expander.now in
+    let ends : more_at word_of ParenR (ahead l.cursor) ≡ Ok (false, ahead c.is_more.new.cursor) = rw c.if-branch.false at c.in_ok-is_more.ensures in
+    at_end shape_of (whole_at word_of x) (more_at word_of ParenR) l.expressions.items i.turns (ahead l.cursor) _ i.fuel i.so_far (ahead c.is_more.new.cursor) ends

@@ -1,0 +1,9 @@
+pub mod Rows
+pub mod Options
+pub mod Arguments
+pub mod Lines
+pub mod Reading
+pub mod Seen
+pub mod Cooked
+pub mod Held
+pub mod Laws

@@ -1,0 +1,183 @@
+//! What the options of `arg` say of a parameter.
+ghost use Rattle.std.specs.Prelude.{◌≡◌, IfSome, Some, map, option_map, true};
+ghost use Rattle.std.specs.List.{All, list_all};
+ghost use Rattle.just_tree.specs.Attributes.{long_shape, options_shape};
+ghost use Rattle.just_tree.specs.Shape.{written};
+ghost use Rattle.just_expressions.specs.Literals.{Expansion};
+ghost use Rattle.just_expressions.specs.Strings.{IsCookedString};
+ghost use Rattle.just_attribute_lines.specs.Cooked.{AreCookedOptions, IsCookedName};
+ghost use Rattle.just_attribute_lines.specs.Held.{IsCookedGiven, IsCookedOption, added, given_shape, may_add, option_shape};
+ghost use Rattle.just_attribute_lines.specs.Options.{is_count, is_digit, is_short, is_whole, options_of, with_all, with_option, without_options};
+
+use crate::parameter_option::OptionRead;
+use just_strings::StringLiteral;
+use just_tree::{ArgumentOptions, LongName};
+
+/// Whether the text is one ASCII letter or digit.
+fn is_short(text: &str) -> bool
+    ensures { result ≡ is_short text.now }
+{
+    match text.as_bytes() {
+        [byte] => byte.is_ascii_alphanumeric(),
+        _ => false,
+    }
+}
+
+/// Whether these are ASCII digits.
+fn are_digits(text: &[u8]) -> bool
+    ensures { result ≡ list_all is_digit text.now }
+{
+    text.iter().all(|byte| byte.is_ascii_digit())
+}
+
+/// Whether the text is one to four digits.
+fn is_count(text: &str) -> bool
+    ensures { result ≡ is_count text.now }
+{
+    if text.is_empty() || 4 < text.len() {
+        return false;
+    }
+    are_digits(text.as_bytes())
+}
+
+/// A parameter without options.
+fn without_options<'src>(name: StringLiteral<'src>) -> ArgumentOptions<'src>
+    ensures shape { options_shape result ≡ without_options (written name.entry) }
+    ensures cooked { (expansion : Expansion) → IsCookedString expansion name.entry → AreCookedOptions expansion result }
+{
+    ArgumentOptions {
+        flag: false,
+        help: None,
+        long: LongName::Absent,
+        max: None,
+        min: None,
+        multiple: false,
+        name,
+        short: None,
+        value: None,
+    }
+}
+
+/// Whether the option is not there already, and its text is one that it may have.
+fn may_add(options: &ArgumentOptions, option: &OptionRead) -> bool
+    ensures { (expansion : Expansion) → IsCookedOption expansion option.now → result ≡ may_add expansion (options_shape options.now) (option_shape option.now) }
+{
+    match option {
+        OptionRead::Flag => !options.flag,
+        OptionRead::Multiple => !options.multiple,
+        OptionRead::Long(_) => matches!(options.long, LongName::Absent),
+        OptionRead::Help(_) => options.help.is_none(),
+        OptionRead::Max(text) => options.max.is_none() && is_count(text.cooked.as_str()),
+        OptionRead::Min(text) => options.min.is_none() && is_count(text.cooked.as_str()),
+        OptionRead::Short(text) => options.short.is_none() && is_short(text.cooked.as_str()),
+        OptionRead::Value(_) => options.value.is_none(),
+    }
+}
+
+/// The name behind two dashes.
+fn long_name<'src>(name: Option<StringLiteral<'src>>) -> LongName<'src>
+    ensures shape { long_shape result ≡ Some (option_map written name.entry) }
+    ensures cooked { (expansion : Expansion) → IfSome name.entry (IsCookedString expansion) → IsCookedName expansion result }
+{
+    match name {
+        Some(name) => LongName::Named(name),
+        None => LongName::OfParameter,
+    }
+}
+
+/// The options with that one.
+fn added<'src>(options: ArgumentOptions<'src>, option: OptionRead<'src>) -> ArgumentOptions<'src>
+    ensures shape { options_shape result ≡ added (options_shape options.entry) (option_shape option.entry) }
+    ensures cooked { (expansion : Expansion) → AreCookedOptions expansion options.entry → IsCookedOption expansion option.entry → AreCookedOptions expansion result }
+{
+    match option {
+        OptionRead::Flag => ArgumentOptions {
+            flag: true,
+            ..options
+        },
+        OptionRead::Multiple => ArgumentOptions {
+            multiple: true,
+            ..options
+        },
+        OptionRead::Long(name) => ArgumentOptions {
+            long: long_name(name),
+            ..options
+        },
+        OptionRead::Help(text) => ArgumentOptions {
+            help: Some(text),
+            ..options
+        },
+        OptionRead::Max(text) => ArgumentOptions {
+            max: Some(text),
+            ..options
+        },
+        OptionRead::Min(text) => ArgumentOptions {
+            min: Some(text),
+            ..options
+        },
+        OptionRead::Short(text) => ArgumentOptions {
+            short: Some(text),
+            ..options
+        },
+        OptionRead::Value(value) => ArgumentOptions {
+            value: Some(value),
+            ..options
+        },
+    }
+}
+
+/// The options with that one, if it may be added.
+fn with_option<'src>(
+    options: ArgumentOptions<'src>,
+    option: OptionRead<'src>,
+) -> Option<ArgumentOptions<'src>>
+    ensures shape { (expansion : Expansion) → IsCookedOption expansion option.entry → option_map options_shape result ≡ with_option expansion (options_shape options.entry) (option_shape option.entry) }
+    ensures cooked { (expansion : Expansion) → AreCookedOptions expansion options.entry → IsCookedOption expansion option.entry → IfSome result (AreCookedOptions expansion) }
+{
+    if may_add(&options, &option) {
+        Some(added(options, option))
+    } else {
+        None
+    }
+}
+
+/// The parameter with that name and these options, if each is known and may be there.
+fn with_all<'src>(
+    name: StringLiteral<'src>,
+    given: Vec<Option<OptionRead<'src>>>,
+) -> Option<ArgumentOptions<'src>>
+    ensures shape { (expansion : Expansion) → All (IsCookedGiven expansion) given.entry.items → option_map options_shape result ≡ with_all expansion (without_options (written name.entry)) (map given_shape given.entry.items) }
+    ensures cooked { (expansion : Expansion) → IsCookedString expansion name.entry → All (IsCookedGiven expansion) given.entry.items → IfSome result (AreCookedOptions expansion) }
+{
+    let mut options = without_options(name);
+    for option in given {
+        options = with_option(options, option?)?;
+    }
+    Some(options)
+}
+
+/// Whether the options may stand together: only an option, which has a name of its own, may be a
+/// flag, may stand more than once, and may have a value.
+fn is_whole(options: &ArgumentOptions) -> bool
+    ensures { (expansion : Expansion) → result ≡ is_whole expansion (options_shape options.now) }
+{
+    !matches!(options.long, LongName::Absent)
+        || options.short.is_some()
+        || !(options.flag || options.multiple || options.value.is_some())
+}
+
+/// What the options say of the parameter with that name, if they may stand together.
+pub(crate) fn options_of<'src>(
+    name: StringLiteral<'src>,
+    given: Vec<Option<OptionRead<'src>>>,
+) -> Option<ArgumentOptions<'src>>
+    ensures shape { (expansion : Expansion) → All (IsCookedGiven expansion) given.entry.items → option_map options_shape result ≡ options_of expansion (written name.entry) (map given_shape given.entry.items) }
+    ensures cooked { (expansion : Expansion) → IsCookedString expansion name.entry → All (IsCookedGiven expansion) given.entry.items → IfSome result (AreCookedOptions expansion) }
+{
+    let options = with_all(name, given)?;
+    if is_whole(&options) {
+        Some(options)
+    } else {
+        None
+    }
+}

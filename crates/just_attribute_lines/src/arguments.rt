@@ -1,0 +1,181 @@
+//! Arguments of attributes.
+ghost use Rattle.std.specs.Prelude.{◌≡◌, IfOk, map, true};
+ghost use Rattle.std.specs.List.{All};
+ghost use Rattle.just_text.specs.Tokens.{word_of};
+ghost use Rattle.just_tree.specs.Shape.{shape_of, written};
+ghost use Rattle.just_expressions.specs.Literals.{AreCooked, Expansion};
+ghost use Rattle.just_expressions.specs.Reading.{Gives, ahead};
+ghost use Rattle.just_expressions.specs.Strings.{IsCookedString};
+ghost use Rattle.just_attribute_lines.specs.Arguments.{count, lone, sort_of};
+ghost use Rattle.just_attribute_lines.specs.Held.{IsCookedArguments, IsCookedGiven, arguments_shape, given_shape, is_of_sort};
+ghost use Rattle.just_attribute_lines.specs.Reading.{arguments_at, inside_at, option_at, others_at, text_at, whole_at};
+
+use crate::parameter_option::{OptionRead, option};
+use crate::row::is_more;
+use just_attributes::ArgumentForm;
+use just_expressions::{Cursor, Fault};
+use just_strings::StringLiteral;
+use just_text::{Expander, TokenKind};
+use just_tree::Expression;
+use std::alloc::Global;
+
+/// Arguments as they are written.
+#[derive(Drop)]
+pub(crate) enum ArgumentsRead<'src> {
+    Nothing,
+    Strings {
+        first: StringLiteral<'src>,
+        others: Vec<StringLiteral<'src>>,
+    },
+    Expressions {
+        first: Expression<'src>,
+        others: Vec<Expression<'src>>,
+    },
+    /// The name of a parameter, and its options; an option that is not known is none.
+    Parameter {
+        name: StringLiteral<'src>,
+        options: Vec<Option<OptionRead<'src>>>,
+    },
+}
+
+impl ArgumentsRead<'_> {
+    /// How many there are; the options count as one with their parameter.
+    pub(crate) fn count(&self) -> usize
+        ensures { result ≡ count (arguments_shape self.now) }
+    {
+        match self {
+            ArgumentsRead::Nothing => 0,
+            ArgumentsRead::Strings { others, .. } => others.len() + 1,
+            ArgumentsRead::Expressions { others, .. } => others.len() + 1,
+            ArgumentsRead::Parameter { .. } => 1,
+        }
+    }
+}
+
+/// Strings behind the first, up to a closing parenthesis.
+fn strings<'src, E: Expander>(
+    alloc: Global,
+    cursor: &mut Cursor<'_, 'src>,
+    expander: &E,
+) -> Result<Vec<StringLiteral<'src>>, Fault<'src>>
+    ensures gives { Gives (λ ss. (map written ss.items, ahead cursor.new)) result (others_at word_of (E.expansion expander.now) (text_at word_of (E.expansion expander.now)) (ahead cursor.old)) }
+    ensures cooked { IfOk result (λ ss. All (IsCookedString (E.expansion expander.now)) ss.items) }
+{
+    let mut strings = Vec::new(alloc);
+    while is_more(cursor, TokenKind::ParenR)? {
+        strings.push(cursor.string(expander)?)?;
+    }
+    Ok(strings)
+}
+
+/// Expressions behind the first, up to a closing parenthesis.
+fn expressions<'src, E: Expander>(
+    alloc: Global,
+    cursor: &mut Cursor<'_, 'src>,
+    expander: &E,
+) -> Result<Vec<Expression<'src>>, Fault<'src>>
+    ensures gives { Gives (λ es. (map shape_of es.items, ahead cursor.new)) result (others_at word_of (E.expansion expander.now) (whole_at word_of (E.expansion expander.now)) (ahead cursor.old)) }
+    ensures cooked { IfOk result (λ es. AreCooked (E.expansion expander.now) es.items) }
+{
+    let mut expressions = Vec::new(alloc);
+    while is_more(cursor, TokenKind::ParenR)? {
+        expressions.push(cursor.expression(expander)?)?;
+    }
+    Ok(expressions)
+}
+
+/// Options behind the name of a parameter, up to a closing parenthesis.
+fn options<'src, E: Expander>(
+    alloc: Global,
+    cursor: &mut Cursor<'_, 'src>,
+    expander: &E,
+) -> Result<Vec<Option<OptionRead<'src>>>, Fault<'src>>
+    ensures gives { Gives (λ os. (map given_shape os.items, ahead cursor.new)) result (others_at word_of (E.expansion expander.now) (option_at word_of (E.expansion expander.now)) (ahead cursor.old)) }
+    ensures cooked { IfOk result (λ os. All (IsCookedGiven (E.expansion expander.now)) os.items) }
+{
+    let mut options = Vec::new(alloc);
+    while is_more(cursor, TokenKind::ParenR)? {
+        options.push(option(cursor, expander)?)?;
+    }
+    Ok(options)
+}
+
+/// Arguments of that form, one or more, and a closing parenthesis.
+#[tactic(auto, unfolding(crate::specs::Reading::inside_at))]
+fn inside<'src, E: Expander>(
+    alloc: Global,
+    cursor: &mut Cursor<'_, 'src>,
+    expander: &E,
+    form: ArgumentForm,
+) -> Result<ArgumentsRead<'src>, Fault<'src>>
+    ensures gives { Gives (λ a. (arguments_shape a, ahead cursor.new)) result (inside_at word_of (E.expansion expander.now) (sort_of form) (ahead cursor.old)) }
+    ensures cooked { IfOk result (IsCookedArguments (E.expansion expander.now)) }
+    ensures sort { IfOk result (λ a. is_of_sort (sort_of form) (arguments_shape a) ≡ true) }
+{
+    match form {
+        ArgumentForm::OneString | ArgumentForm::OptionalString | ArgumentForm::Strings => {
+            let first = cursor.string(expander)?;
+            let others = strings(alloc, cursor, expander)?;
+            Ok(ArgumentsRead::Strings { first, others })
+        }
+        ArgumentForm::Parameter => {
+            let name = cursor.string(expander)?;
+            let options = options(alloc, cursor, expander)?;
+            Ok(ArgumentsRead::Parameter { name, options })
+        }
+        _ => {
+            let first = cursor.expression(expander)?;
+            let others = expressions(alloc, cursor, expander)?;
+            Ok(ArgumentsRead::Expressions { first, others })
+        }
+    }
+}
+
+/// A string alone, as an argument of that form.
+fn lone<'src>(
+    alloc: Global,
+    form: ArgumentForm,
+    string_literal: StringLiteral<'src>,
+) -> ArgumentsRead<'src>
+    ensures shape { arguments_shape result ≡ lone (sort_of form) (written string_literal.entry) }
+    ensures cooked { (expansion : Expansion) → IsCookedString expansion string_literal.entry → IsCookedArguments expansion result }
+{
+    match form {
+        ArgumentForm::OneString | ArgumentForm::OptionalString | ArgumentForm::Strings => {
+            ArgumentsRead::Strings {
+                first: string_literal,
+                others: Vec::new(alloc),
+            }
+        }
+        ArgumentForm::Parameter => ArgumentsRead::Parameter {
+            name: string_literal,
+            options: Vec::new(alloc),
+        },
+        _ => ArgumentsRead::Expressions {
+            first: Expression::StringLiteral { string_literal },
+            others: Vec::new(alloc),
+        },
+    }
+}
+
+/// Arguments of that form in parentheses, or a string behind a colon, or nothing.
+#[tactic(auto, unfolding(crate::specs::Reading::arguments_at))]
+pub(crate) fn arguments<'src, E: Expander>(
+    alloc: Global,
+    cursor: &mut Cursor<'_, 'src>,
+    expander: &E,
+    form: ArgumentForm,
+) -> Result<ArgumentsRead<'src>, Fault<'src>>
+    ensures gives { Gives (λ a. (arguments_shape a, ahead cursor.new)) result (arguments_at word_of (E.expansion expander.now) (sort_of form) (ahead cursor.old)) }
+    ensures cooked { IfOk result (IsCookedArguments (E.expansion expander.now)) }
+    ensures sort { IfOk result (λ a. is_of_sort (sort_of form) (arguments_shape a) ≡ true) }
+{
+    if cursor.accept(TokenKind::ParenL).is_some() {
+        return inside(alloc, cursor, expander, form);
+    }
+    if cursor.accept(TokenKind::Colon).is_none() {
+        return Ok(ArgumentsRead::Nothing);
+    }
+    let string = cursor.string(expander)?;
+    Ok(lone(alloc, form, string))
+}

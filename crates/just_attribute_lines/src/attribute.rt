@@ -1,0 +1,182 @@
+//! The attributes before an item.
+ghost use Rattle.std.specs.Prelude.{◌≡◌, IfOk, IfSome, List, Ok, Some, option_map, true};
+ghost use Rattle.just_text.specs.Tokens.{lexeme, word_of};
+ghost use Rattle.just_text.specs.declared.compile_error.CompileErrorKind.TheVariants as kinds;
+ghost use Rattle.just_text.specs.declared.token.Token.{Token};
+ghost use Rattle.just_tree.specs.Attributes.{options_shape};
+ghost use Rattle.just_attributes.specs.Forms.{form_of, takes};
+ghost use Rattle.just_tree.specs.declared.attribute.AttributeKind.TheVariants.{Arg};
+ghost use Rattle.just_expressions.specs.Literals.{Expansion};
+ghost use Rattle.just_expressions.specs.Reading.{Gives, ahead};
+ghost use Rattle.just_attribute_lines.specs.Arguments.{Arguments, count, made, sort_of};
+ghost use Rattle.just_attribute_lines.specs.Cooked.{AreCookedOptions};
+ghost use Rattle.just_attribute_lines.specs.Held.{GivesOptions, IsCookedArguments, arguments_shape, counted_at, is_of_sort};
+ghost use Rattle.just_attribute_lines.specs.Reading.{arguments_at, attribute_at, attributes_at, kind_named, known_at};
+ghost use Rattle.just_attribute_lines.specs.Seen.{AreWholeReads, IsWholeRead, options_in, read_shape, read_shapes};
+
+use crate::argument_options::options_of;
+use crate::arguments::{ArgumentsRead, arguments};
+use crate::make::made;
+use crate::row::is_another;
+use just_attributes::{ArgumentForm, kind_from_name};
+use just_expressions::{Cursor, Fault};
+use just_text::{CompileErrorKind, Expander, Name, Text, TokenKind};
+use just_tree::{ArgumentOptions, Attribute, AttributeKind};
+use std::alloc::{AllocError, Global};
+
+/// An attribute as it is read.
+#[derive(Drop)]
+pub struct AttributeRead<'src> {
+    /// None where the options of an `arg` may not stand together, or one of them is not known.
+    pub attribute: Option<Attribute<'src>>,
+    pub name: Name<'src>,
+    /// The options of an `arg` once more, for the parameter that they are of.
+    pub options: Option<ArgumentOptions<'src>>,
+}
+
+/// The refusal of a name that no attribute has.
+fn unknown(alloc: Global, name: &str) -> Result<CompileErrorKind, AllocError>
+    ensures { IfOk result (λ kind. kind ≡ kinds.UnknownAttribute name.now) }
+{
+    let name = Text::from_text(alloc, name)?;
+    Ok(CompileErrorKind::UnknownAttribute(name))
+}
+
+/// The refusal of so many arguments of the attribute with that name.
+fn miscounted(alloc: Global, name: &str, count: usize) -> Result<CompileErrorKind, AllocError>
+    ensures { IfOk result (λ kind. kind ≡ kinds.AttributeArgumentCount name.now count) }
+{
+    let name = Text::from_text(alloc, name)?;
+    Ok(CompileErrorKind::AttributeArgumentCount(name, count))
+}
+
+/// The arguments of an attribute of that kind, as many as it takes.
+#[tactic(auto, unfolding(crate::specs::Held::counted_at))]
+fn counted<'src, E: Expander>(
+    alloc: Global,
+    cursor: &mut Cursor<'_, 'src>,
+    expander: &E,
+    name: Name<'src>,
+    kind: AttributeKind,
+) -> Result<ArgumentsRead<'src>, Fault<'src>>
+    ensures gives { Gives (λ a. (arguments_shape a, ahead cursor.new)) result (counted_at (E.expansion expander.now) name.entry.token kind (ahead cursor.old)) }
+    ensures cooked { IfOk result (IsCookedArguments (E.expansion expander.now)) }
+    ensures sort { IfOk result (λ a. is_of_sort (sort_of (form_of kind)) (arguments_shape a) ≡ true) }
+    ensures taken { IfOk result (λ a. takes (form_of kind) (count (arguments_shape a)) ≡ true) }
+{
+    let form = ArgumentForm::of(kind);
+    let arguments = arguments(alloc, cursor, expander, form)?;
+    let count = arguments.count();
+    if !form.takes(count) {
+        let fault = miscounted(alloc, name.lexeme(), count)?;
+        return Err(Fault::Refused(name.token, fault));
+    }
+    Ok(arguments)
+}
+
+/// What the arguments say of a parameter, if they are those of an `arg`.
+fn parameter_options<'src>(arguments: ArgumentsRead<'src>) -> Option<ArgumentOptions<'src>>
+    ensures shape { (expansion : Expansion) → IsCookedArguments expansion arguments.entry → option_map options_shape result ≡ options_in (made expansion Arg (arguments_shape arguments.entry)) }
+    ensures cooked { (expansion : Expansion) → IsCookedArguments expansion arguments.entry → IfSome result (AreCookedOptions expansion) }
+{
+    match arguments {
+        ArgumentsRead::Nothing
+        | ArgumentsRead::Strings { .. }
+        | ArgumentsRead::Expressions { .. } => None,
+        ArgumentsRead::Parameter { name, options } => options_of(name, options),
+    }
+}
+
+/// What the arguments that stand here say of a parameter, if they are those of an `arg`.
+fn options_again<'src, E: Expander>(
+    alloc: Global,
+    mut cursor: Cursor<'_, 'src>,
+    expander: &E,
+    kind: AttributeKind,
+) -> Result<Option<ArgumentOptions<'src>>, Fault<'src>>
+    ensures gives { (a : Arguments) (rest : List Token) → is_of_sort (sort_of (form_of kind)) a ≡ true → arguments_at word_of (E.expansion expander.now) (sort_of (form_of kind)) (ahead cursor.entry) ≡ Ok (a, rest)
+        → GivesOptions result (options_in (made (E.expansion expander.now) kind a)) }
+    ensures cooked { IfOk result (λ o. IfSome o (AreCookedOptions (E.expansion expander.now))) }
+{
+    match kind {
+        AttributeKind::Arg => {
+            let arguments = arguments(alloc, &mut cursor, expander, ArgumentForm::Parameter)?;
+            Ok(parameter_options(arguments))
+        }
+        _ => Ok(None),
+    }
+}
+
+/// The attribute of that kind, from what stands behind its name.
+fn known<'src, E: Expander>(
+    alloc: Global,
+    cursor: &mut Cursor<'_, 'src>,
+    expander: &E,
+    name: Name<'src>,
+    kind: AttributeKind,
+) -> Result<AttributeRead<'src>, Fault<'src>>
+    ensures gives { Gives (λ r. (read_shape r, ahead cursor.new)) result (known_at word_of (E.expansion expander.now) name.entry.token (Some kind) (ahead cursor.old)) }
+    ensures whole { IfOk result (IsWholeRead (E.expansion expander.now)) }
+{
+    let again = *cursor;
+    let arguments = counted(alloc, cursor, expander, name, kind)?;
+    let options = options_again(alloc, again, expander, kind)?;
+    let attribute = made(kind, arguments);
+    Ok(AttributeRead {
+        attribute,
+        name,
+        options,
+    })
+}
+
+/// An attribute.
+#[tactic(auto, unfolding(crate::specs::Reading::attribute_at, crate::specs::Reading::known_at))]
+fn attribute<'src, E: Expander>(
+    alloc: Global,
+    cursor: &mut Cursor<'_, 'src>,
+    expander: &E,
+) -> Result<AttributeRead<'src>, Fault<'src>>
+    ensures gives { Gives (λ r. (read_shape r, ahead cursor.new)) result (attribute_at word_of (E.expansion expander.now) (ahead cursor.old)) }
+    ensures whole { IfOk result (IsWholeRead (E.expansion expander.now)) }
+{
+    let name = Name::from_token(cursor.expect(TokenKind::Identifier)?);
+    let text = name.lexeme();
+    let Some(kind) = kind_named(text) else {
+        let fault = unknown(alloc, text)?;
+        return Err(Fault::Refused(name.token, fault));
+    };
+    known(alloc, cursor, expander, name, kind)
+}
+
+/// The kind of attribute with that name, if there is one.
+fn kind_named(name: &str) -> Option<AttributeKind>
+    ensures { result ≡ kind_named name.now }
+{
+    kind_from_name(name)
+}
+
+/// Takes the lines of attributes that stand here, perhaps none, and the comment lines behind each.
+///
+/// Refused where an attribute has a name that none has, where it has more or fewer arguments than it
+/// takes or one of another form, where a string or an expression is refused, where a line doesn't
+/// end behind its brackets, and where memory runs out. Options of an `arg` that may not stand
+/// together are no refusal here: it is the item that they don't fit. After a refusal it is not said
+/// where the cursor stands.
+pub fn attributes<'src, E: Expander>(
+    alloc: Global,
+    cursor: &mut Cursor<'_, 'src>,
+    expander: &E,
+) -> Result<Vec<AttributeRead<'src>>, Fault<'src>>
+    ensures gives { Gives (λ xs. (read_shapes xs.items, ahead cursor.new)) result (attributes_at word_of (E.expansion expander.now) (ahead cursor.old)) }
+    ensures whole { IfOk result (λ xs. AreWholeReads (E.expansion expander.now) xs.items) }
+{
+    let mut attributes = Vec::new(alloc);
+    if cursor.accept(TokenKind::BracketL).is_none() {
+        return Ok(attributes);
+    }
+    attributes.push(attribute(alloc, cursor, expander)?)?;
+    while is_another(cursor)? {
+        attributes.push(attribute(alloc, cursor, expander)?)?;
+    }
+    Ok(attributes)
+}

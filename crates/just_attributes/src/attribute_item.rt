@@ -1,0 +1,109 @@
+//! Attributes as the items of a set.
+ghost use Rattle.std.specs.Prelude.{◌≡◌, IfOk};
+ghost use Rattle.std.specs.Cmp.{partial_equiv_from_equiv, partial_order_from_own_ties, partial_order_from_total};
+ghost use Rattle.std.specs.Ordering.{as_partial_cmp};
+ghost use Rattle.std.specs.Cmp.Rules.{comparing};
+ghost use Rattle.std.proofs.Common.{rules};
+ghost use Rattle.just_tree.specs.Attributes.{attribute_shape};
+ghost use Rattle.just_attributes.specs.Arguments.{arguments_text};
+
+use crate::printed_arguments::PrintedArguments;
+use just_text::{Name, Text};
+use just_tree::Attribute;
+use std::alloc::{AllocError, Global};
+use std::cmp::Ordering;
+
+/// An attribute, its name where it is written, and its arguments as they are printed.
+#[derive(Debug, Drop)]
+pub struct AttributeItem<'src> {
+    pub attribute: Attribute<'src>,
+    pub name: Name<'src>,
+    arguments: Text,
+    ghost printed: { arguments ≡ arguments_text (attribute_shape attribute) },
+}
+
+impl<'src> AttributeItem<'src> {
+    ghost use Rattle.std.specs.Prelude.{option_map};
+    ghost use Rattle.just_attributes.specs.Sets.{group_of};
+
+    /// Prints the attribute's arguments, once and for all comparisons. Refused only where memory is.
+    pub fn new(
+        alloc: Global,
+        attribute: Attribute<'src>,
+        name: Name<'src>,
+    ) -> Result<AttributeItem<'src>, AllocError>
+        ensures { IfOk result (λ item. (item.attribute ≡ attribute.entry) × (item.name ≡ name.entry)) }
+    {
+        let arguments = Text::from_string(PrintedArguments(&attribute).to_string(alloc)?);
+        Ok(AttributeItem {
+            attribute,
+            name,
+            arguments,
+        })
+    }
+
+    /// The text of a group.
+    pub fn group(&self) -> Option<&str>
+        ensures { option_map (λ group. group.now) result ≡ group_of self.now.attribute }
+    {
+        match &self.attribute {
+            Attribute::Group(text) => Some(text.cooked.as_str()),
+            _ => None,
+        }
+    }
+
+    /// The attribute's arguments as they are printed, without parentheses.
+    pub fn arguments(&self) -> &str
+        ensures { result.now ≡ arguments_text (attribute_shape self.now.attribute) }
+    {
+        self.arguments.as_str()
+    }
+}
+
+impl PartialEq for AttributeItem<'_> {
+    ghost use Rattle.just_attributes.specs.Order.{item_eq, item_equiv};
+
+    ghost eq = { item_eq };
+
+    ghost laws = { partial_equiv_from_equiv item_equiv };
+
+    fn eq(&self, other: &Self) -> bool {
+        self.attribute.name() == other.attribute.name() && self.arguments == other.arguments
+    }
+}
+
+impl Eq for AttributeItem<'_> {
+    ghost use Rattle.just_attributes.specs.Order.{item_equiv};
+
+    ghost laws = { item_equiv };
+}
+
+impl PartialOrd for AttributeItem<'_> {
+    ghost use Rattle.just_attributes.specs.Order.{item_cmp, item_ties, item_total};
+
+    ghost partial_cmp = { as_partial_cmp item_cmp };
+
+    ghost laws = { partial_order_from_own_ties (partial_order_from_total item_total) item_ties };
+
+    fn partial_cmp(&self, other: &Self) -> Option<Ordering> {
+        Some(self.cmp(other))
+    }
+}
+
+/// By the attributes' names, then by their printed arguments; where they are written doesn't count.
+impl Ord for AttributeItem<'_> {
+    ghost use Rattle.just_attributes.specs.Order.{item_cmp, item_ties, item_total};
+
+    ghost cmp = { item_cmp };
+
+    ghost total = { item_total };
+
+    ghost matches_partial_cmp = { Prim.search (comparing, rules) };
+
+    ghost matches_eq = { item_ties };
+
+    fn cmp(&self, other: &Self) -> Ordering {
+        let names = self.attribute.name().cmp(other.attribute.name());
+        names.then(self.arguments.cmp(&other.arguments))
+    }
+}

@@ -1,0 +1,14 @@
+pub mod Taken
+pub mod Operators
+pub mod Found
+pub mod Starts
+pub mod Again
+pub mod Stable
+pub mod Refusals
+pub mod Views
+pub mod Cooked
+pub mod Shorter
+pub mod Elements
+pub mod Interpolations
+pub mod Formats
+pub mod Operands

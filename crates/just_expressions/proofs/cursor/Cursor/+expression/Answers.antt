@@ -1,0 +1,213 @@
+-- What the loops read, and what lists, calls, format strings and operands are.
+use Rattle.std.proofs.Common.{◌≡◌, ◌≢◌, ◌∙◌, ◌∷◌, ◌++◌, [], ◌-◌, true, false, None, Ok, ap, sym, rules, arith}
+use Rattle.std.proofs.lemmas.Result.{err_from_is_err_and}
+use Rattle.just_text.specs.Tokens.{word_of, lexeme}
+use Rattle.just_text.specs.declared.token_kind.TokenKind.TheVariants.{Comma}
+use Rattle.just_strings.specs.Kinds.{kind_of}
+use Rattle.just_tree.specs.Shape.{Shape, shape_of, written}
+use Rattle.just_expressions.specs.Literals.{is_open}
+use Rattle.just_expressions.specs.Reading.{ahead, accept, expect, operator_at, prefix_at, part_at, operand_at, expression_at, Fails}
+use Rattle.just_expressions.specs.Operators.{right_rank}
+use Rattle.just_expressions.specs.Seen.{operator_seen, prefix_seen}
+use Rattle.just_expressions.proofs.Cooked.{call_cooked, listing_cooked}
+use Rattle.just_expressions.proofs.Elements.{no_element, no_close, is_last, goes_on, at_end, element_shorter, one_more_cooked, taken}
+use Rattle.just_expressions.proofs.Interpolations.{no_hole, no_part, is_last_hole, more_holes, hole_shorter, one_more_hole_cooked}
+use Rattle.just_expressions.proofs.Formats.{format_closed, format_open, format_fails}
+use Rattle.just_expressions.proofs.Operands.{operand_fails, prefixed_read, left_fails, left_alone, right_fails, both_read}
+use Rattle.just_expressions.proofs.cursor.Cursor.+expression.Goals as goal
+
+pub bracketed-returns-clause-cooked : goal.bracketed-returns-clause-cooked
+bracketed-returns-clause-cooked g t c = listing_cooked (g.E.Expander.expansion c.args.expander.now) c.in_ok-elements.elements c.in_ok-token.token c.in_ok-elements.ensures.cooked
+
+pub call-returns-clause-cooked : goal.call-returns-clause-cooked
+call-returns-clause-cooked g t c = call_cooked (g.E.Expander.expansion c.args.expander.now) c.in_ok-arguments.arguments c.args.name c.in_ok-arguments.ensures.cooked
+
+pub elements-returns-in_err-ranked-clause-gives : goal.elements-returns-in_err-ranked-clause-gives
+elements-returns-in_err-ranked-clause-gives g t c =
+    let l = c.loop-close in
+    let x = g.E.Expander.expansion c.args.expander.now in
+    let open_still : accept word_of c.args.close (ahead l.self) ≡ None = grind arith in
+    let same : ahead c.accept.new.self ≡ ahead l.self = grind arith in
+    let failed : Fails c.in_err-ranked.field-0.0 (expression_at word_of x c.args.levels 6 (ahead l.self)) = rw same at c.in_err-ranked.ensures.gives in
+    let p = err_from_is_err_and c.from_residual.result c.from_residual.ensures.1 in
+    rw (p.1, p.2) (no_element x c.args.levels c.args.close l.elements.items l.invariant.0 (ahead l.self) _ l.invariant.1 l.invariant.2 open_still c.in_err-ranked.field-0.0 failed)
+
+pub elements-returns-in_err-expect-clause-gives : goal.elements-returns-in_err-expect-clause-gives
+elements-returns-in_err-expect-clause-gives g t c =
+    let l = c.loop-close in
+    let x = g.E.Expander.expansion c.args.expander.now in
+    let open_still : accept word_of c.args.close (ahead l.self) ≡ None = grind arith in
+    let same : ahead c.accept.new.self ≡ ahead l.self = grind arith in
+    let read : expression_at word_of x c.args.levels 6 (ahead l.self) ≡ Ok (shape_of c.in_ok-ranked.field-0, ahead c.ranked.new.self) = rw same at c.in_ok-ranked.ensures.gives in
+    let no_comma : accept word_of Comma (ahead c.ranked.new.self) ≡ None = grind arith in
+    let same_again : ahead c.accept-in-loop-close.new.self ≡ ahead c.ranked.new.self = grind arith in
+    let failed : Fails c.in_err-expect.field-0.0 (expect word_of c.args.close (ahead c.ranked.new.self)) = rw same_again at c.in_err-expect.ensures in
+    let p = err_from_is_err_and c.from_residual-in_err-expect.result c.from_residual-in_err-expect.ensures.1 in
+    rw (p.1, p.2) (no_close x c.args.levels c.args.close l.elements.items l.invariant.0 (ahead l.self) _ l.invariant.1 l.invariant.2 c.in_ok-ranked.field-0 (ahead c.ranked.new.self) open_still read no_comma c.in_err-expect.field-0.0 failed)
+
+pub elements-returns-then-is_none-clause-gives : goal.elements-returns-then-is_none-clause-gives
+elements-returns-then-is_none-clause-gives g t c =
+    let l = c.loop-close in
+    let x = g.E.Expander.expansion c.args.expander.now in
+    let open_still : accept word_of c.args.close (ahead l.self) ≡ None = grind arith in
+    let same : ahead c.accept.new.self ≡ ahead l.self = grind arith in
+    let read : expression_at word_of x c.args.levels 6 (ahead l.self) ≡ Ok (shape_of c.in_ok-ranked.field-0, ahead c.ranked.new.self) = rw same at c.in_ok-ranked.ensures.gives in
+    let no_comma : accept word_of Comma (ahead c.ranked.new.self) ≡ None = grind arith in
+    let same_again : ahead c.accept-in-loop-close.new.self ≡ ahead c.ranked.new.self = grind arith in
+    let closes : expect word_of c.args.close (ahead c.ranked.new.self) ≡ Ok (c.in_ok-expect.field-0, ahead c.expect.new.self) = rw same_again at c.in_ok-expect.ensures in
+    let pushed : c.push.new.self.items ≡ l.elements.items ++ c.in_ok-ranked.field-0 ∷ [] = search rules in
+    rw pushed (is_last x c.args.levels c.args.close l.elements.items l.invariant.0 (ahead l.self) _ l.invariant.1 l.invariant.2 c.in_ok-ranked.field-0 (ahead c.ranked.new.self) c.in_ok-expect.field-0 (ahead c.expect.new.self) open_still read no_comma closes)
+
+pub elements-returns-then-is_none-clause-cooked : goal.elements-returns-then-is_none-clause-cooked
+elements-returns-then-is_none-clause-cooked g t c =
+    let l = c.loop-close in
+    let pushed : c.push.new.self.items ≡ l.elements.items ++ c.in_ok-ranked.field-0 ∷ [] = search rules in
+    rw pushed (one_more_cooked (g.E.Expander.expansion c.args.expander.now) l.elements.items c.in_ok-ranked.field-0 l.invariant.3 c.in_ok-ranked.ensures.cooked)
+
+pub elements-loop-close-smaller : goal.elements-loop-close-smaller
+elements-loop-close-smaller g t c =
+    let l = c.loop-close in
+    let x = g.E.Expander.expansion c.args.expander.now in
+    let same : ahead c.accept.new.self ≡ ahead l.self = grind arith in
+    let read : expression_at word_of x c.args.levels 6 (ahead l.self) ≡ Ok (shape_of c.in_ok-ranked.field-0, ahead c.ranked.new.self) = rw same at c.in_ok-ranked.ensures.gives in
+    let comma = taken Comma (ahead c.ranked.new.self) c.accept-in-loop-close.result (ahead c.accept-in-loop-close.new.self) c.accept-in-loop-close.ensures.accepted (search rules) in
+    element_shorter x c.args.levels c.in_ok-ranked.field-0 (ahead l.self) (ahead c.ranked.new.self) comma.0 (ahead c.accept-in-loop-close.new.self) read comma.1
+
+pub elements-loop-close-preserved : goal.elements-loop-close-preserved
+elements-loop-close-preserved g t c =
+    let l = c.loop-close in
+    let x = g.E.Expander.expansion c.args.expander.now in
+    let open_still : accept word_of c.args.close (ahead l.self) ≡ None = grind arith in
+    let same : ahead c.accept.new.self ≡ ahead l.self = grind arith in
+    let read : expression_at word_of x c.args.levels 6 (ahead l.self) ≡ Ok (shape_of c.in_ok-ranked.field-0, ahead c.ranked.new.self) = rw same at c.in_ok-ranked.ensures.gives in
+    let comma = taken Comma (ahead c.ranked.new.self) c.accept-in-loop-close.result (ahead c.accept-in-loop-close.new.self) c.accept-in-loop-close.ensures.accepted (search rules) in
+    let less = element_shorter x c.args.levels c.in_ok-ranked.field-0 (ahead l.self) (ahead c.ranked.new.self) comma.0 (ahead c.accept-in-loop-close.new.self) read comma.1 in
+    let pushed : c.push.new.self.items ≡ l.elements.items ++ c.in_ok-ranked.field-0 ∷ [] = search rules in
+    (l.invariant.0 - 1, omega (arith, less, l.invariant.1), rw pushed (goes_on x c.args.levels c.args.close l.elements.items l.invariant.0 (ahead l.self) _ l.invariant.1 l.invariant.2 c.in_ok-ranked.field-0 (ahead c.ranked.new.self) comma.0 (ahead c.accept-in-loop-close.new.self) open_still read comma.1), rw pushed (one_more_cooked x l.elements.items c.in_ok-ranked.field-0 l.invariant.3 c.in_ok-ranked.ensures.cooked))
+
+pub elements-returns-clause-gives : goal.elements-returns-clause-gives
+elements-returns-clause-gives g t c =
+    let l = c.loop-close in
+    let x = g.E.Expander.expansion c.args.expander.now in
+    let close = taken c.args.close (ahead l.self) c.accept.result (ahead c.accept.new.self) c.accept.ensures.accepted (search rules) in
+    at_end x c.args.levels c.args.close l.elements.items l.invariant.0 (ahead l.self) _ l.invariant.1 l.invariant.2 close.0 (ahead c.accept.new.self) close.1
+
+pub format_string-returns-in_err-expressions-clause-gives : goal.format_string-returns-in_err-expressions-clause-gives
+format_string-returns-in_err-expressions-clause-gives g t c =
+    let x = g.E.Expander.expansion c.args.expander.now in
+    let same : c.of_lexeme-kind.result ≡ kind_of (lexeme c.args.token) = c.of_lexeme-kind.ensures ∙ ap kind_of c.lexeme.ensures in
+    let goes : is_open (lexeme c.args.token) ≡ true = ap is_open (sym c.lexeme-2.ensures) ∙ sym c.is_open.ensures ∙ c.if-is_open.true in
+    let p = err_from_is_err_and c.from_residual-in_err-expressions.result c.from_residual-in_err-expressions.ensures.1 in
+    rw (p.1, p.2) (format_fails x c.args.levels c.args.token (ahead c.args.self.now) c.in_ok-start.start c.of_lexeme-kind.result same c.in_ok-start.ensures.gives c.in_ok-start.ensures.token goes c.in_err-expressions.field-0.0 c.in_err-expressions.ensures.gives)
+
+pub format_string-returns-then-is_open-clause-gives : goal.format_string-returns-then-is_open-clause-gives
+format_string-returns-then-is_open-clause-gives g t c =
+    let x = g.E.Expander.expansion c.args.expander.now in
+    let same : c.of_lexeme-kind.result ≡ kind_of (lexeme c.args.token) = c.of_lexeme-kind.ensures ∙ ap kind_of c.lexeme.ensures in
+    let goes : is_open (lexeme c.args.token) ≡ true = ap is_open (sym c.lexeme-2.ensures) ∙ sym c.is_open.ensures ∙ c.if-is_open.true in
+    format_open x c.args.levels c.args.token (ahead c.args.self.now) c.in_ok-start.start c.of_lexeme-kind.result same c.in_ok-start.ensures.gives c.in_ok-start.ensures.token c.in_ok-expressions.expressions (ahead c.holes.new.self) goes c.in_ok-expressions.ensures.gives
+
+pub format_string-returns-clause-gives : goal.format_string-returns-clause-gives
+format_string-returns-clause-gives g t c =
+    let x = g.E.Expander.expansion c.args.expander.now in
+    let same : c.of_lexeme-kind.result ≡ kind_of (lexeme c.args.token) = c.of_lexeme-kind.ensures ∙ ap kind_of c.lexeme.ensures in
+    let ends : is_open (lexeme c.args.token) ≡ false = ap is_open (sym c.lexeme-2.ensures) ∙ sym c.is_open.ensures ∙ c.if-is_open.false in
+    format_closed x c.args.levels c.args.token (ahead c.args.self.now) c.in_ok-start.start c.of_lexeme-kind.result same c.in_ok-start.ensures.gives c.in_ok-start.ensures.token c.new-expressions.result ends (search rules)
+
+pub holes-returns-in_err-expression-clause-gives : goal.holes-returns-in_err-expression-clause-gives
+holes-returns-in_err-expression-clause-gives g t c =
+    let l = c.loop-holes in
+    let x = g.E.Expander.expansion c.args.expander.now in
+    let p = err_from_is_err_and c.from_residual.result c.from_residual.ensures.1 in
+    rw (p.1, p.2) (no_hole x c.args.levels c.args.kind l.holes.items l.invariant.0 (ahead l.self) _ l.invariant.1 l.invariant.2 c.in_err-expression.field-0.0 c.in_err-expression.ensures.gives)
+
+pub holes-returns-in_err-part-clause-gives : goal.holes-returns-in_err-part-clause-gives
+holes-returns-in_err-part-clause-gives g t c =
+    let l = c.loop-holes in
+    let x = g.E.Expander.expansion c.args.expander.now in
+    let p = err_from_is_err_and c.from_residual-in_err-part.result c.from_residual-in_err-part.ensures.1 in
+    rw (p.1, p.2) (no_part x c.args.levels c.args.kind l.holes.items l.invariant.0 (ahead l.self) _ l.invariant.1 l.invariant.2 c.in_ok-expression.expression (ahead c.ranked.new.self) c.in_ok-expression.ensures.gives c.in_err-part.field-0.0 c.in_err-part.ensures.gives)
+
+pub holes-returns-then-not-follows-clause-gives : goal.holes-returns-then-not-follows-clause-gives
+holes-returns-then-not-follows-clause-gives g t c =
+    let l = c.loop-holes in
+    let x = g.E.Expander.expansion c.args.expander.now in
+    let last : c.in_ok-part.follows ≡ false = grind arith in
+    let part : part_at word_of c.args.kind (ahead c.ranked.new.self) ≡ Ok ((written c.in_ok-part.part, false), ahead c.part.new.self) = rw last at c.in_ok-part.ensures.gives in
+    let pushed : c.push.new.self.items ≡ l.holes.items ++ (c.in_ok-expression.expression, c.in_ok-part.part) ∷ [] = search rules in
+    rw pushed (is_last_hole x c.args.levels c.args.kind l.holes.items l.invariant.0 (ahead l.self) _ l.invariant.1 l.invariant.2 c.in_ok-expression.expression (ahead c.ranked.new.self) c.in_ok-part.part (ahead c.part.new.self) c.in_ok-expression.ensures.gives part)
+
+pub holes-returns-then-not-follows-clause-cooked : goal.holes-returns-then-not-follows-clause-cooked
+holes-returns-then-not-follows-clause-cooked g t c =
+    let l = c.loop-holes in
+    let pushed : c.push.new.self.items ≡ l.holes.items ++ (c.in_ok-expression.expression, c.in_ok-part.part) ∷ [] = search rules in
+    rw pushed (one_more_hole_cooked (g.E.Expander.expansion c.args.expander.now) c.args.kind l.holes.items c.in_ok-expression.expression c.in_ok-part.part l.invariant.3 c.in_ok-expression.ensures.cooked c.in_ok-part.ensures.cooked)
+
+pub holes-loop-holes-smaller : goal.holes-loop-holes-smaller
+holes-loop-holes-smaller g t c =
+    hole_shorter (g.E.Expander.expansion c.args.expander.now) c.args.levels c.args.kind c.in_ok-expression.expression (ahead c.loop-holes.self) (ahead c.ranked.new.self) (written c.in_ok-part.part, c.in_ok-part.follows) (ahead c.part.new.self) c.in_ok-expression.ensures.gives c.in_ok-part.ensures.gives
+
+pub holes-loop-holes-preserved : goal.holes-loop-holes-preserved
+holes-loop-holes-preserved g t c =
+    let l = c.loop-holes in
+    let x = g.E.Expander.expansion c.args.expander.now in
+    let more : c.in_ok-part.follows ≡ true = grind arith in
+    let part : part_at word_of c.args.kind (ahead c.ranked.new.self) ≡ Ok ((written c.in_ok-part.part, true), ahead c.part.new.self) = rw more at c.in_ok-part.ensures.gives in
+    let less = hole_shorter x c.args.levels c.args.kind c.in_ok-expression.expression (ahead l.self) (ahead c.ranked.new.self) (written c.in_ok-part.part, true) (ahead c.part.new.self) c.in_ok-expression.ensures.gives part in
+    let pushed : c.push.new.self.items ≡ l.holes.items ++ (c.in_ok-expression.expression, c.in_ok-part.part) ∷ [] = search rules in
+    (l.invariant.0 - 1, omega (arith, less, l.invariant.1), rw pushed (more_holes x c.args.levels c.args.kind l.holes.items l.invariant.0 (ahead l.self) _ l.invariant.1 l.invariant.2 c.in_ok-expression.expression (ahead c.ranked.new.self) c.in_ok-part.part (ahead c.part.new.self) c.in_ok-expression.ensures.gives part), rw pushed (one_more_hole_cooked x c.args.kind l.holes.items c.in_ok-expression.expression c.in_ok-part.part l.invariant.3 c.in_ok-expression.ensures.cooked c.in_ok-part.ensures.cooked))
+
+pub operand-returns-in_err-operand-clause-gives : goal.operand-returns-in_err-operand-clause-gives
+operand-returns-in_err-operand-clause-gives g t c =
+    let binds : c.args.rank ≢ 0 = omega arith in
+    let p = err_from_is_err_and c.from_residual.result c.from_residual.ensures.1 in
+    rw (p.1, p.2) (operand_fails (g.E.Expander.expansion c.args.expander.now) c.args.levels c.args.rank (ahead c.args.self.now) binds ((c.in-Some.token, prefix_seen c.in-Some.prefix), ahead c.prefix.new.self) c.in-Some.ensures.accepted c.in_err-operand.field-0.0 c.in_err-operand.ensures.gives)
+
+pub operand-returns-in-Some-clause-gives : goal.operand-returns-in-Some-clause-gives
+operand-returns-in-Some-clause-gives g t c =
+    let binds : c.args.rank ≢ 0 = omega arith in
+    let read = prefixed_read (g.E.Expander.expansion c.args.expander.now) c.args.levels c.args.rank (ahead c.args.self.now) binds ((c.in-Some.token, prefix_seen c.in-Some.prefix), ahead c.prefix.new.self) c.in-Some.ensures.accepted (shape_of c.in_ok-operand.operand, ahead c.ranked.new.self) c.in_ok-operand.ensures.gives in
+    read ∙ ap (λ (e : Shape). Ok (e, ahead c.ranked.new.self)) (sym c.in_ok-prefixed.ensures.shape)
+
+pub operand-returns-in_err-lhs-clause-gives : goal.operand-returns-in_err-lhs-clause-gives
+operand-returns-in_err-lhs-clause-gives g t c =
+    let x = g.E.Expander.expansion c.args.expander.now in
+    let binds : c.args.rank ≢ 0 = omega arith in
+    let alone : prefix_at word_of c.args.rank (ahead c.args.self.now) ≡ None = grind arith in
+    let same : ahead c.prefix.new.self ≡ ahead c.args.self.now = grind arith in
+    let failed : Fails c.in_err-lhs.field-0.0 (operand_at word_of x (expression_at word_of x c.args.levels) (c.args.rank - 1) (ahead c.args.self.now)) = rw same at c.in_err-lhs.ensures.gives in
+    let p = err_from_is_err_and c.from_residual-in_err-lhs.result c.from_residual-in_err-lhs.ensures.1 in
+    rw (p.1, p.2) (left_fails x c.args.levels c.args.rank (ahead c.args.self.now) binds alone c.in_err-lhs.field-0.0 failed)
+
+pub operand-returns-in_default-operator-clause-gives : goal.operand-returns-in_default-operator-clause-gives
+operand-returns-in_default-operator-clause-gives g t c =
+    let x = g.E.Expander.expansion c.args.expander.now in
+    let binds : c.args.rank ≢ 0 = omega arith in
+    let alone : prefix_at word_of c.args.rank (ahead c.args.self.now) ≡ None = grind arith in
+    let same : ahead c.prefix.new.self ≡ ahead c.args.self.now = grind arith in
+    let left : operand_at word_of x (expression_at word_of x c.args.levels) (c.args.rank - 1) (ahead c.args.self.now) ≡ Ok (shape_of c.in_ok-lhs.lhs, ahead c.operand.new.self) = rw same at c.in_ok-lhs.ensures.gives in
+    let lacks : operator_at word_of c.args.rank (ahead c.operand.new.self) ≡ None = grind arith in
+    let same_again : ahead c.operator.new.self ≡ ahead c.operand.new.self = grind arith in
+    rw same_again (left_alone x c.args.levels c.args.rank (ahead c.args.self.now) binds alone (shape_of c.in_ok-lhs.lhs, ahead c.operand.new.self) left lacks)
+
+pub operand-returns-in_err-rhs-clause-gives : goal.operand-returns-in_err-rhs-clause-gives
+operand-returns-in_err-rhs-clause-gives g t c =
+    let x = g.E.Expander.expansion c.args.expander.now in
+    let binds : c.args.rank ≢ 0 = omega arith in
+    let alone : prefix_at word_of c.args.rank (ahead c.args.self.now) ≡ None = grind arith in
+    let same : ahead c.prefix.new.self ≡ ahead c.args.self.now = grind arith in
+    let left : operand_at word_of x (expression_at word_of x c.args.levels) (c.args.rank - 1) (ahead c.args.self.now) ≡ Ok (shape_of c.in_ok-lhs.lhs, ahead c.operand.new.self) = rw same at c.in_ok-lhs.ensures.gives in
+    let failed : Fails c.in_err-rhs.field-0.0 (expression_at word_of x c.args.levels (right_rank (operator_seen c.in-Some-operator.operator)) (ahead c.operator.new.self)) = rw c.right_rank.ensures at c.in_err-rhs.ensures.gives in
+    let p = err_from_is_err_and c.from_residual-in_err-rhs.result c.from_residual-in_err-rhs.ensures.1 in
+    rw (p.1, p.2) (right_fails x c.args.levels c.args.rank (ahead c.args.self.now) binds alone (shape_of c.in_ok-lhs.lhs, ahead c.operand.new.self) left ((c.in-Some-operator.token, operator_seen c.in-Some-operator.operator), ahead c.operator.new.self) c.in-Some-operator.ensures.accepted c.in_err-rhs.field-0.0 failed)
+
+pub operand-returns-clause-gives : goal.operand-returns-clause-gives
+operand-returns-clause-gives g t c =
+    let x = g.E.Expander.expansion c.args.expander.now in
+    let binds : c.args.rank ≢ 0 = omega arith in
+    let alone : prefix_at word_of c.args.rank (ahead c.args.self.now) ≡ None = grind arith in
+    let same : ahead c.prefix.new.self ≡ ahead c.args.self.now = grind arith in
+    let left : operand_at word_of x (expression_at word_of x c.args.levels) (c.args.rank - 1) (ahead c.args.self.now) ≡ Ok (shape_of c.in_ok-lhs.lhs, ahead c.operand.new.self) = rw same at c.in_ok-lhs.ensures.gives in
+    let right : expression_at word_of x c.args.levels (right_rank (operator_seen c.in-Some-operator.operator)) (ahead c.operator.new.self) ≡ Ok (shape_of c.in_ok-rhs.rhs, ahead c.ranked-2.new.self) = rw c.right_rank.ensures at c.in_ok-rhs.ensures.gives in
+    let read = both_read x c.args.levels c.args.rank (ahead c.args.self.now) binds alone (shape_of c.in_ok-lhs.lhs, ahead c.operand.new.self) left ((c.in-Some-operator.token, operator_seen c.in-Some-operator.operator), ahead c.operator.new.self) c.in-Some-operator.ensures.accepted (shape_of c.in_ok-rhs.rhs, ahead c.ranked-2.new.self) right in
+    read ∙ ap (λ (e : Shape). Ok (e, ahead c.ranked-2.new.self)) (sym c.in_ok-binary.ensures.shape)

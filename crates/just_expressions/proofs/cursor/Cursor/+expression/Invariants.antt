@@ -1,0 +1,68 @@
+-- The measures of the parser, and what its loops have read so far.
+use Rattle.std.proofs.Common.{◌≡◌, ℕ, suc, ◌+◌, ◌*◌, ◌<◌, length}
+use Rattle.just_text.specs.Tokens.{word_of}
+use Rattle.just_expressions.specs.Literals.{AreCooked, AreHolesCooked}
+use Rattle.just_expressions.specs.Reading.{ahead, elements_at, holes_at, expression_at}
+use Rattle.just_expressions.proofs.Elements.{before}
+use Rattle.just_expressions.proofs.Interpolations.{before_holes}
+use Rattle.just_expressions.proofs.cursor.Cursor.+expression.Given as goal
+
+abbrev pub decreases-ranked : goal.decreases-ranked
+decreases-ranked g l = 1024 * l.levels
+
+abbrev pub decreases-operand : goal.decreases-operand
+decreases-operand g l = 1024 * l.levels + 500 + l.rank
+
+abbrev pub decreases-primary : goal.decreases-primary
+decreases-primary g l = 1024 * l.levels + 10
+
+abbrev pub decreases-format_string : goal.decreases-format_string
+decreases-format_string g l = 1024 * l.levels + 9
+
+abbrev pub decreases-named : goal.decreases-named
+decreases-named g l = 1024 * l.levels + 9
+
+abbrev pub decreases-bracketed : goal.decreases-bracketed
+decreases-bracketed g l = 1024 * l.levels + 9
+
+abbrev pub decreases-call : goal.decreases-call
+decreases-call g l = 1024 * l.levels + 8
+
+abbrev pub decreases-assertion : goal.decreases-assertion
+decreases-assertion g l = 1024 * l.levels + 7
+
+abbrev pub decreases-message : goal.decreases-message
+decreases-message g l = 1024 * l.levels + 6
+
+abbrev pub decreases-conditional : goal.decreases-conditional
+decreases-conditional g l = 1024 * l.levels + 5
+
+abbrev pub decreases-otherwise : goal.decreases-otherwise
+decreases-otherwise g l = 1024 * l.levels + 4
+
+abbrev pub decreases-braces : goal.decreases-braces
+decreases-braces g l = 1024 * l.levels + 3
+
+abbrev pub decreases-elements : goal.decreases-elements
+decreases-elements g l = 1024 * l.levels + 2
+
+abbrev pub decreases-holes : goal.decreases-holes
+decreases-holes g l = 1024 * l.levels + 2
+
+abbrev pub invariant-elements-loop-close : goal.invariant-elements-loop-close
+invariant-elements-loop-close g l =
+    (n : ℕ) × (length (ahead l.self) < n)
+    × (before l.elements.items (elements_at word_of (g.E.Expander.expansion l.expander) (expression_at word_of (g.E.Expander.expansion l.expander) l.levels) n l.close (ahead l.self)) ≡ elements_at word_of (g.E.Expander.expansion l.expander) (expression_at word_of (g.E.Expander.expansion l.expander) l.levels) (suc (length (ahead l.fn.self))) l.close (ahead l.fn.self))
+    × AreCooked (g.E.Expander.expansion l.expander) l.elements.items
+
+abbrev pub decreases-elements-loop-close : goal.decreases-elements-loop-close
+decreases-elements-loop-close g l = length (ahead l.self)
+
+abbrev pub invariant-holes-loop-holes : goal.invariant-holes-loop-holes
+invariant-holes-loop-holes g l =
+    (n : ℕ) × (length (ahead l.self) < n)
+    × (before_holes l.holes.items (holes_at word_of (g.E.Expander.expansion l.expander) (expression_at word_of (g.E.Expander.expansion l.expander) l.levels) n l.kind (ahead l.self)) ≡ holes_at word_of (g.E.Expander.expansion l.expander) (expression_at word_of (g.E.Expander.expansion l.expander) l.levels) (suc (length (ahead l.fn.self))) l.kind (ahead l.fn.self))
+    × AreHolesCooked (g.E.Expander.expansion l.expander) l.kind l.holes.items
+
+abbrev pub decreases-holes-loop-holes : goal.decreases-holes-loop-holes
+decreases-holes-loop-holes g l = length (ahead l.self)

@@ -1,0 +1,368 @@
+//! A parser of expressions by recursive descent, no deeper than their levels.
+ghost use Rattle.std.specs.Prelude.{Err, IfOk, IfSome, List, length, option_map, suc};
+ghost use Rattle.just_text.specs.Tokens.{word_of, lexeme};
+ghost use Rattle.just_text.specs.declared.token.Token.{Token};
+ghost use Rattle.just_tree.specs.Shape.{Shape, shape_of, shapes_of, holes_of};
+ghost use Rattle.just_expressions.specs.Literals.{AreCooked, AreHolesCooked, IsCooked};
+ghost use Rattle.just_expressions.specs.Reading.{Fails, Gives, ahead, first, too_deep, elements_at, holes_at, format_at, braces_at, otherwise_at, choice_at, closing_at, message_at, assertion_at, call_at, named_at, bracketed_at, primary_at, operand_at, expression_at};
+
+use crate::cursor::Cursor;
+use crate::fault::Fault;
+use crate::literal::{format_part, is_open, string_literal};
+use crate::node::{assertion, binary, conditional, prefixed};
+use just_strings::{StringKind, StringLiteral};
+use just_text::{CompileErrorKind, Expander, Name, Token, TokenKind};
+use just_tree::Expression;
+use std::alloc::Global;
+
+/// How deep expressions may nest.
+const LEVELS: u16 = 256;
+/// The rank of a whole expression.
+const WHOLE: u8 = 6;
+/// The rank of what stands alone or in brackets.
+const PRIMARY: u8 = 0;
+
+impl<'t, 'src> Cursor<'t, 'src> {
+    /// Takes the expression that stands here, as long as it can be; what lies ahead then is what
+    /// stands behind it.
+    ///
+    /// `Unexpected` at the first token that no rule takes, or where the tokens end too early;
+    /// `Refused` at a string or a part of a format string that stands for no text, at a command
+    /// that begins with `#!`, and where expressions nest more than 256 levels deep; `OutOfMemory`.
+    /// After a refusal some of the tokens are taken.
+    pub fn expression<E: Expander>(&mut self, expander: &E) -> Result<Expression<'src>, Fault<'src>>
+        ensures gives { Gives (λ e. (shape_of e, ahead self.new)) result (expression_at word_of (E.expansion expander.now) 256 6 (ahead self.old)) }
+        ensures cooked { IfOk result (IsCooked (E.expansion expander.now)) }
+    {
+        self.ranked(expander, WHOLE, LEVELS)
+    }
+
+    /// Takes the expression that stands here, without operators outside of brackets: of `a + b`
+    /// only `a`.
+    ///
+    /// Refused as `expression` refuses.
+    pub fn primary_expression<E: Expander>(
+        &mut self,
+        expander: &E,
+    ) -> Result<Expression<'src>, Fault<'src>>
+        ensures gives { Gives (λ e. (shape_of e, ahead self.new)) result (expression_at word_of (E.expansion expander.now) 256 0 (ahead self.old)) }
+        ensures cooked { IfOk result (IsCooked (E.expansion expander.now)) }
+    {
+        self.ranked(expander, PRIMARY, LEVELS)
+    }
+
+    // What stands in the way where no level is left.
+    fn too_deep(&mut self) -> Fault<'src>
+        ensures { Fails {Y = Shape × List Token} result (Err (too_deep (first (ahead self.old)))) }
+    {
+        match self.peek() {
+            Some(token) => {
+                Fault::Refused(token, CompileErrorKind::ParsingRecursionDepthExceeded)
+            }
+            None => Fault::Unexpected(None),
+        }
+    }
+
+    // An expression where that rank is allowed, with so many levels left.
+    #[cycle(expression)]
+    #[tactic(auto, unfolding(crate::specs::Reading::expression_at))]
+    fn ranked<E: Expander>(
+        &mut self,
+        expander: &E,
+        rank: u8,
+        levels: u16,
+    ) -> Result<Expression<'src>, Fault<'src>>
+        ensures gives { Gives (λ e. (shape_of e, ahead self.new)) result (expression_at word_of (E.expansion expander.now) levels rank (ahead self.old)) }
+        ensures cooked { IfOk result (IsCooked (E.expansion expander.now)) }
+    {
+        if levels == 0 {
+            return Err(self.too_deep());
+        }
+        self.operand(expander, rank, levels - 1)
+    }
+
+    // An operand of that rank, where what it holds has so many levels left.
+    #[cycle(expression)]
+    #[tactic(auto, unfolding(crate::specs::Reading::operand_at))]
+    fn operand<E: Expander>(
+        &mut self,
+        expander: &E,
+        rank: u8,
+        levels: u16,
+    ) -> Result<Expression<'src>, Fault<'src>>
+        ensures gives { Gives (λ e. (shape_of e, ahead self.new)) result (operand_at word_of (E.expansion expander.now) (expression_at word_of (E.expansion expander.now) levels) rank (ahead self.old)) }
+        ensures cooked { IfOk result (IsCooked (E.expansion expander.now)) }
+    {
+        if rank == 0 {
+            return self.primary(expander, levels);
+        }
+        if let Some((token, prefix)) = self.prefix(rank) {
+            let operand = self.ranked(expander, rank, levels)?;
+            return Ok(prefixed(self.alloc, token, prefix, operand)?);
+        }
+        let lhs = self.operand(expander, rank - 1, levels)?;
+        let Some((token, operator)) = self.operator(rank) else {
+            return Ok(lhs);
+        };
+        let rhs = self.ranked(expander, operator.right_rank(), levels)?;
+        Ok(binary(self.alloc, lhs, token, operator, rhs)?)
+    }
+
+    #[cycle(expression)]
+    #[tactic(auto, unfolding(crate::specs::Reading::primary_at, crate::specs::Reading::literal_at))]
+    fn primary<E: Expander>(
+        &mut self,
+        expander: &E,
+        levels: u16,
+    ) -> Result<Expression<'src>, Fault<'src>>
+        ensures gives { Gives (λ e. (shape_of e, ahead self.new)) result (primary_at word_of (E.expansion expander.now) (expression_at word_of (E.expansion expander.now) levels) (ahead self.old)) }
+        ensures cooked { IfOk result (IsCooked (E.expansion expander.now)) }
+    {
+        if let Some(token) = self.accept(TokenKind::StringToken) {
+            let string_literal = string_literal(self.alloc, token, expander)?;
+            return Ok(Expression::StringLiteral { string_literal });
+        }
+        if let Some(token) = self.accept(TokenKind::Backtick) {
+            return self.command(token);
+        }
+        if let Some(token) = self.accept(TokenKind::FormatStringStart) {
+            return self.format_string(expander, token, levels);
+        }
+        if let Some(token) = self.accept(TokenKind::Identifier) {
+            return self.named(expander, token, levels);
+        }
+        self.bracketed(expander, levels)
+    }
+
+    // An expression in parentheses, or a list.
+    #[cycle(expression)]
+    #[tactic(auto, unfolding(crate::specs::Reading::bracketed_at))]
+    fn bracketed<E: Expander>(
+        &mut self,
+        expander: &E,
+        levels: u16,
+    ) -> Result<Expression<'src>, Fault<'src>>
+        ensures gives { Gives (λ e. (shape_of e, ahead self.new)) result (bracketed_at word_of (E.expansion expander.now) (expression_at word_of (E.expansion expander.now) levels) (ahead self.old)) }
+        ensures cooked { IfOk result (IsCooked (E.expansion expander.now)) }
+    {
+        if self.accept(TokenKind::ParenL).is_some() {
+            let contents = self.ranked(expander, WHOLE, levels)?;
+            self.expect(TokenKind::ParenR)?;
+            let contents = Box::new(self.alloc, contents)?;
+            return Ok(Expression::Group { contents });
+        }
+        let token = self.expect(TokenKind::BracketL)?;
+        let elements = self.elements(expander, TokenKind::BracketR, levels)?;
+        Ok(Expression::List { elements, token })
+    }
+
+    // What this name begins.
+    #[cycle(expression)]
+    #[tactic(auto, unfolding(crate::specs::Reading::named_at))]
+    fn named<E: Expander>(
+        &mut self,
+        expander: &E,
+        token: Token<'src>,
+        levels: u16,
+    ) -> Result<Expression<'src>, Fault<'src>>
+        ensures gives { Gives (λ e. (shape_of e, ahead self.new)) result (named_at word_of (E.expansion expander.now) (expression_at word_of (E.expansion expander.now) levels) (lexeme token.entry) (ahead self.old)) }
+        ensures cooked { IfOk result (IsCooked (E.expansion expander.now)) }
+    {
+        let name = Name::from_token(token);
+        if token.lexeme() == "if" {
+            return self.conditional(expander, levels);
+        }
+        if self.accept(TokenKind::ParenL).is_none() {
+            return Ok(Expression::Variable { name, number: None });
+        }
+        self.call(expander, name, levels)
+    }
+
+    // What stands behind this name and a parenthesis.
+    #[cycle(expression)]
+    #[tactic(auto, unfolding(crate::specs::Reading::call_at))]
+    fn call<E: Expander>(
+        &mut self,
+        expander: &E,
+        name: Name<'src>,
+        levels: u16,
+    ) -> Result<Expression<'src>, Fault<'src>>
+        ensures gives { Gives (λ e. (shape_of e, ahead self.new)) result (call_at word_of (E.expansion expander.now) (expression_at word_of (E.expansion expander.now) levels) (lexeme name.entry.token) (ahead self.old)) }
+        ensures cooked { IfOk result (IsCooked (E.expansion expander.now)) }
+    {
+        if name.lexeme() == "assert" {
+            return self.assertion(expander, name, levels);
+        }
+        let arguments = self.elements(expander, TokenKind::ParenR, levels)?;
+        Ok(Expression::Call { name, arguments })
+    }
+
+    // What stands behind `assert` and its parenthesis.
+    #[cycle(expression)]
+    #[tactic(auto, unfolding(crate::specs::Reading::assertion_at))]
+    fn assertion<E: Expander>(
+        &mut self,
+        expander: &E,
+        name: Name<'src>,
+        levels: u16,
+    ) -> Result<Expression<'src>, Fault<'src>>
+        ensures gives { Gives (λ e. (shape_of e, ahead self.new)) result (assertion_at word_of (E.expansion expander.now) (expression_at word_of (E.expansion expander.now) levels) (ahead self.old)) }
+        ensures cooked { IfOk result (IsCooked (E.expansion expander.now)) }
+    {
+        let condition = self.ranked(expander, WHOLE, levels)?;
+        if self.accept(TokenKind::Comma).is_none() {
+            self.expect(TokenKind::ParenR)?;
+            return Ok(assertion(self.alloc, name, condition, None)?);
+        }
+        let message = self.message(expander, levels)?;
+        Ok(assertion(self.alloc, name, condition, message)?)
+    }
+
+    // The message of an assertion behind its comma, if there is one, and the end of the call.
+    #[cycle(expression)]
+    #[tactic(auto, unfolding(crate::specs::Reading::message_at))]
+    fn message<E: Expander>(
+        &mut self,
+        expander: &E,
+        levels: u16,
+    ) -> Result<Option<Expression<'src>>, Fault<'src>>
+        ensures gives { Gives (λ m. (option_map shape_of m, ahead self.new)) result (message_at word_of (E.expansion expander.now) (expression_at word_of (E.expansion expander.now) levels) (ahead self.old)) }
+        ensures cooked { IfOk result (λ m. IfSome m (IsCooked (E.expansion expander.now))) }
+    {
+        if self.accept(TokenKind::ParenR).is_some() {
+            return Ok(None);
+        }
+        let message = self.ranked(expander, WHOLE, levels)?;
+        self.close_call()?;
+        Ok(Some(message))
+    }
+
+    // The end of a call, perhaps behind a comma.
+    #[tactic(auto, unfolding(crate::specs::Reading::closing_at))]
+    fn close_call(&mut self) -> Result<(), Fault<'src>>
+        ensures gives { Gives (λ _. ahead self.new) result (closing_at word_of (ahead self.old)) }
+    {
+        let _comma = self.accept(TokenKind::Comma);
+        self.expect(TokenKind::ParenR)?;
+        Ok(())
+    }
+
+    // What stands behind `if`.
+    #[cycle(expression)]
+    #[tactic(auto, unfolding(crate::specs::Reading::choice_at))]
+    fn conditional<E: Expander>(
+        &mut self,
+        expander: &E,
+        levels: u16,
+    ) -> Result<Expression<'src>, Fault<'src>>
+        ensures gives { Gives (λ e. (shape_of e, ahead self.new)) result (choice_at word_of (E.expansion expander.now) (expression_at word_of (E.expansion expander.now) levels) (ahead self.old)) }
+        ensures cooked { IfOk result (IsCooked (E.expansion expander.now)) }
+    {
+        let condition = self.ranked(expander, WHOLE, levels)?;
+        let then = self.braces(expander, levels)?;
+        if !self.is_keyword("else") {
+            return Ok(conditional(self.alloc, condition, then, None)?);
+        }
+        self.expect(TokenKind::Identifier)?;
+        let otherwise = self.otherwise(expander, levels)?;
+        Ok(conditional(self.alloc, condition, then, Some(otherwise))?)
+    }
+
+    #[cycle(expression)]
+    #[tactic(auto, unfolding(crate::specs::Reading::otherwise_at))]
+    fn otherwise<E: Expander>(
+        &mut self,
+        expander: &E,
+        levels: u16,
+    ) -> Result<Expression<'src>, Fault<'src>>
+        ensures gives { Gives (λ e. (shape_of e, ahead self.new)) result (otherwise_at word_of (E.expansion expander.now) (expression_at word_of (E.expansion expander.now) levels) (ahead self.old)) }
+        ensures cooked { IfOk result (IsCooked (E.expansion expander.now)) }
+    {
+        if self.is_keyword("if") {
+            return self.ranked(expander, PRIMARY, levels);
+        }
+        self.braces(expander, levels)
+    }
+
+    #[cycle(expression)]
+    #[tactic(auto, unfolding(crate::specs::Reading::braces_at))]
+    fn braces<E: Expander>(
+        &mut self,
+        expander: &E,
+        levels: u16,
+    ) -> Result<Expression<'src>, Fault<'src>>
+        ensures gives { Gives (λ e. (shape_of e, ahead self.new)) result (braces_at word_of (E.expansion expander.now) (expression_at word_of (E.expansion expander.now) levels) (ahead self.old)) }
+        ensures cooked { IfOk result (IsCooked (E.expansion expander.now)) }
+    {
+        self.expect(TokenKind::BraceL)?;
+        let contents = self.ranked(expander, WHOLE, levels)?;
+        self.expect(TokenKind::BraceR)?;
+        Ok(contents)
+    }
+
+    // Elements up to the closing mark, a comma behind each, which the last may lack.
+    #[cycle(expression)]
+    fn elements<E: Expander>(
+        &mut self,
+        expander: &E,
+        close: TokenKind,
+        levels: u16,
+    ) -> Result<Vec<Expression<'src>>, Fault<'src>>
+        ensures gives { Gives (λ es. (shapes_of es.items, ahead self.new)) result (elements_at word_of (E.expansion expander.now) (expression_at word_of (E.expansion expander.now) levels) (suc (length (ahead self.old))) close (ahead self.old)) }
+        ensures cooked { IfOk result (λ es. AreCooked (E.expansion expander.now) es.items) }
+    {
+        let mut elements = Vec::new(self.alloc);
+        while self.accept(close).is_none() {
+            elements.push(self.ranked(expander, WHOLE, levels)?)?;
+            if self.accept(TokenKind::Comma).is_none() {
+                self.expect(close)?;
+                return Ok(elements);
+            }
+        }
+        Ok(elements)
+    }
+
+    // A format string, from its first part on.
+    #[cycle(expression)]
+    #[tactic(auto, unfolding(crate::specs::Reading::format_at))]
+    fn format_string<E: Expander>(
+        &mut self,
+        expander: &E,
+        token: Token<'src>,
+        levels: u16,
+    ) -> Result<Expression<'src>, Fault<'src>>
+        ensures gives { Gives (λ e. (shape_of e, ahead self.new)) result (format_at word_of (E.expansion expander.now) (expression_at word_of (E.expansion expander.now) levels) token.entry (ahead self.old)) }
+        ensures cooked { IfOk result (IsCooked (E.expansion expander.now)) }
+    {
+        let kind = StringKind::of_lexeme(token.lexeme());
+        let start = format_part(self.alloc, kind, token)?;
+        if is_open(token.lexeme()) {
+            let expressions = self.holes(expander, kind, levels)?;
+            return Ok(Expression::FormatString { start, expressions });
+        }
+        let expressions = Vec::new(self.alloc);
+        Ok(Expression::FormatString { start, expressions })
+    }
+
+    // The interpolations of a format string, each with the part behind it.
+    #[cycle(expression)]
+    fn holes<E: Expander>(
+        &mut self,
+        expander: &E,
+        kind: StringKind,
+        levels: u16,
+    ) -> Result<Vec<(Expression<'src>, StringLiteral<'src>)>, Fault<'src>>
+        ensures gives { Gives (λ es. (holes_of es.items, ahead self.new)) result (holes_at word_of (E.expansion expander.now) (expression_at word_of (E.expansion expander.now) levels) (suc (length (ahead self.old))) kind (ahead self.old)) }
+        ensures cooked { IfOk result (λ es. AreHolesCooked (E.expansion expander.now) kind es.items) }
+    {
+        let mut holes = Vec::new(self.alloc);
+        loop {
+            let expression = self.ranked(expander, WHOLE, levels)?;
+            let (part, follows) = self.part(kind)?;
+            holes.push((expression, part))?;
+            if !follows {
+                return Ok(holes);
+            }
+        }
+    }
+}

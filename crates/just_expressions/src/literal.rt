@@ -1,0 +1,106 @@
+//! Strings, parts of format strings, and commands.
+ghost use Rattle.std.specs.Prelude.{◌≡◌, ◌≢◌, [], ◌∷◌, IfOk, Ok};
+ghost use Rattle.just_text.specs.Tokens.{word_of, lexeme};
+ghost use Rattle.just_text.specs.declared.compile_error.CompileErrorKind.TheVariants as kinds;
+ghost use Rattle.just_strings.specs.Kinds.{kind_of};
+ghost use Rattle.just_strings.specs.Cooking.{cooked, command as cooked_command};
+ghost use Rattle.just_strings.specs.Parts.{cooked_part};
+ghost use Rattle.just_expressions.specs.declared.fault.Fault.TheVariants.{OutOfMemory, Refused};
+ghost use Rattle.just_expressions.specs.Literals.{is_open, texts_of};
+ghost use Rattle.just_expressions.specs.Reading.{Gives, ahead, taken_if, command_at, part_at};
+ghost use Rattle.just_tree.specs.Shape.{command, shape_of, written};
+
+use crate::cursor::Cursor;
+use crate::fault::Fault;
+use just_strings::{StringKind, StringLiteral, command_text, cook_part, is_shebang};
+use just_text::{CompileError, CompileErrorKind, Expander, Token, TokenKind};
+use just_tree::Expression;
+use std::alloc::Global;
+
+/// Why a token is refused.
+fn refused<'src>(token: Token<'src>, error: CompileError<'src>) -> Fault<'src>
+    ensures memory { error.entry.kind ≡ kinds.OutOfMemory → result ≡ OutOfMemory }
+    ensures why { error.entry.kind ≢ kinds.OutOfMemory → result ≡ Refused token.entry error.entry.kind }
+{
+    match error.kind {
+        CompileErrorKind::OutOfMemory => Fault::OutOfMemory,
+        kind => Fault::Refused(token, kind),
+    }
+}
+
+/// A string.
+pub(crate) fn string_literal<'src, E: Expander>(
+    alloc: Global,
+    token: Token<'src>,
+    expander: &E,
+) -> Result<StringLiteral<'src>, Fault<'src>>
+    ensures gives { Gives written result (taken_if word_of token.entry (cooked (E.expansion expander.now) (lexeme token.entry))) }
+    ensures cooked { IfOk result (λ s. cooked (E.expansion expander.now) (lexeme token.entry) ≡ Ok s.cooked) }
+    ensures kind { IfOk result (λ s. s.kind ≡ kind_of (lexeme token.entry)) }
+    ensures token { IfOk result (λ s. s.token ≡ token.entry) }
+{
+    match StringLiteral::cook(alloc, token, expander) {
+        Ok(literal) => Ok(literal),
+        Err(error) => Err(refused(token, error)),
+    }
+}
+
+/// A part of a format string of this kind.
+pub(crate) fn format_part<'src>(
+    alloc: Global,
+    kind: StringKind,
+    token: Token<'src>,
+) -> Result<StringLiteral<'src>, Fault<'src>>
+    ensures gives { Gives written result (taken_if word_of token.entry (cooked_part kind (lexeme token.entry))) }
+    ensures cooked { IfOk result (λ s. cooked_part kind (lexeme token.entry) ≡ Ok s.cooked) }
+    ensures kind { IfOk result (λ s. s.kind ≡ kind) }
+    ensures token { IfOk result (λ s. s.token ≡ token.entry) }
+{
+    match cook_part(alloc, kind, token) {
+        Ok(cooked) => Ok(StringLiteral {
+            cooked,
+            kind,
+            token,
+        }),
+        Err(error) => Err(refused(token, error)),
+    }
+}
+
+/// Whether an interpolation follows this part of a format string.
+pub(crate) fn is_open(part: &str) -> bool
+    ensures { result ≡ is_open part.now }
+{
+    part.ends_with("{{")
+}
+
+impl<'t, 'src> Cursor<'t, 'src> {
+    // A command.
+    #[tactic(auto, unfolding(crate::specs::Reading::command_at))]
+    pub(crate) fn command(&self, token: Token<'src>) -> Result<Expression<'src>, Fault<'src>>
+        ensures gives { Gives (λ e. (shape_of e, ahead self.now)) result (command_at word_of token.entry (ahead self.now)) }
+        ensures shape { IfOk result (λ e. shape_of e ≡ command (lexeme token.entry)) }
+        ensures texts { IfOk result (λ e. texts_of e ≡ cooked_command (lexeme token.entry) ∷ []) }
+    {
+        let contents = command_text(self.alloc, token.lexeme())?;
+        if is_shebang(contents.as_str()) {
+            return Err(Fault::Refused(token, CompileErrorKind::BacktickShebang));
+        }
+        Ok(Expression::Backtick { contents, token })
+    }
+
+    // A part of a format string of this kind, and whether an interpolation follows.
+    #[tactic(auto, unfolding(crate::specs::Reading::part_at))]
+    pub(crate) fn part(
+        &mut self,
+        kind: StringKind,
+    ) -> Result<(StringLiteral<'src>, bool), Fault<'src>>
+        ensures gives { Gives (λ p. ((written p.0, p.1), ahead self.new)) result (part_at word_of kind (ahead self.old)) }
+        ensures cooked { IfOk result (λ p. cooked_part kind (written p.0) ≡ Ok p.0.cooked) }
+    {
+        if let Some(token) = self.accept(TokenKind::FormatStringContinue) {
+            return Ok((format_part(self.alloc, kind, token)?, true));
+        }
+        let token = self.expect(TokenKind::FormatStringEnd)?;
+        Ok((format_part(self.alloc, kind, token)?, false))
+    }
+}

@@ -1,0 +1,12 @@
+pub mod Again
+pub mod FirstWords
+pub mod Found
+pub mod Fronts
+pub mod Numbers
+pub mod ParameterNames
+pub mod Parameters
+pub mod PrecedingWords
+pub mod RecipesTold
+pub mod Refusals
+pub mod Told
+pub mod Words

@@ -1,0 +1,174 @@
+-- What taking a token says of the words.
+use Rattle.std.proofs.Common.{◌≡◌, ℕ, suc, Bool, true, false, List, [], ◌∷◌, map, length, Result, Ok, Err, Option, Some, None, refl, sym, ap, subst, ◌∙◌, inl, inr, ◌⊎◌}
+use Rattle.just_text.specs.Tokens.{Word}
+use Rattle.just_text.specs.declared.token_kind.TokenKind.{TokenKind}
+use Rattle.just_text.specs.contracts.token_kind.TokenKind.{the_type}
+use denote.Enum.Bare.{same_true, true_same}
+use Rattle.just_expressions.specs.Words.{is_kind, Begins, Mark, Lacks}
+use Rattle.just_expressions.specs.Reading.{◌>>=◌, Read, accept, expect, is_next}
+
+-- ---- kinds
+
+pub is_kind-same : (a b : TokenKind) → is_kind a b ≡ true → a ≡ b
+is_kind-same a b h = same_true the_type tt a b h
+
+pub is_kind-itself : (k : TokenKind) → is_kind k k ≡ true
+is_kind-itself k = true_same the_type k k refl
+
+-- ---- steps
+
+pub bind_ok : {A B E : Type 0} (r : Result A E) (f : A → Result B E) (y : B) → (r >>= f) ≡ Ok y → (x : A) × (r ≡ Ok x) × (f x ≡ Ok y)
+bind_ok (Ok x) f y e = (x, refl, e)
+bind_ok (Err d) f y e = absurd cc
+
+-- which way an option and a test went
+pub inspect : {A : Type 0} (o : Option A) → (o ≡ None) ⊎ ((x : A) × (o ≡ Some x))
+inspect None = inl refl
+inspect (Some x) = inr (x, refl)
+
+pub test : (b : Bool) → (b ≡ true) ⊎ (b ≡ false)
+test true = inl refl
+test false = inr refl
+
+abbrev pub done : {A E : Type 0} → A → Result A E
+done x = Ok x
+
+pub ok_is : {A E : Type 0} (x y : A) → done {A = A} {E = E} x ≡ Ok y → x ≡ y
+ok_is x y e = cc
+
+pub turned : {A E : Type 0} (P : A → Type 0) (x y : A) → done {A = A} {E = E} x ≡ Ok y → P x → P y
+turned {A = A} {E = E} P x y e p = subst P (ok_is {A = A} {E = E} x y e) p
+
+pub some_is : {A : Type 0} (x y : A) → Some x ≡ Some y → x ≡ y
+some_is x y e = cc
+
+-- ---- words
+
+pub same_front : (k j : TokenKind) (x y : List ℕ) (ws a b : List Word) → Begins k x ws a → Begins j y ws b → (k ≡ j) × (x ≡ y) × (a ≡ b)
+same_front k j x y ws a b h i =
+    let p : record { kind = k; text = x } ∷ a ≡ record { kind = j; text = y } ∷ b = sym h ∙ i in
+    let v : Word = record { kind = k; text = x } in
+    let z : Word = record { kind = j; text = y } in
+    let w : v ≡ z = cc in
+    (ap (λ (v : Word). v.kind) w, ap (λ (v : Word). v.text) w, cc)
+
+-- two kinds can't both come first
+pub clash : (k j : TokenKind) (ws a b : List Word) → Mark k ws a → Mark j ws b → is_kind k j ≡ false → ⊥
+clash k j ws a b h i differ =
+    let same = same_front k j h.0 i.0 ws a b h.1 i.1 in
+    let p : is_kind j j ≡ false = rw same.0 at differ in
+    let q = is_kind-itself j in absurd cc
+
+pub lacks : (k j : TokenKind) (ws a : List Word) → Mark k ws a → is_kind k j ≡ false → Lacks j ws
+lacks k j ws a m differ = λ rest n. clash k j ws a rest m n differ
+
+pub front_shorter : (k : TokenKind) (x : List ℕ) (ws a : List Word) → Begins k x ws a → length ws ≡ suc (length a)
+front_shorter k x ws a h = rw h refl
+
+pub mark_shorter : (k : TokenKind) (ws a : List Word) → Mark k ws a → length ws ≡ suc (length a)
+mark_shorter k ws a m = front_shorter k m.0 ws a m.1
+
+pub same_words : (ws : List Word) → map (λ w. w) ws ≡ ws
+same_words [] = refl
+same_words (w ∷ ws) = ap (λ vs. w ∷ vs) (same_words ws)
+
+-- ---- tokens
+
+module _ {T : Type 0} (word : T → Word) where
+  -- a token of that kind comes first
+  pub record Front (kind : TokenKind) (ts : List T) (t : T) (rest : List T) : Type 0 where
+    pub is : ts ≡ t ∷ rest
+    pub of_kind : (word t).kind ≡ kind
+
+  pub begins : (kind : TokenKind) (ts : List T) (t : T) (rest : List T) → Front kind ts t rest → Begins kind (word t).text (map word ts) (map word rest)
+  begins kind ts t rest f = rw f.is (ap (λ (k : TokenKind). record { kind = k; text = (word t).text } ∷ map word rest) f.of_kind)
+
+  pub mark : (kind : TokenKind) (ts : List T) (t : T) (rest : List T) → Front kind ts t rest → Mark kind (map word ts) (map word rest)
+  mark kind ts t rest f = ((word t).text, begins kind ts t rest f)
+
+  accept_is : (kind : TokenKind) (ts : List T) (p : T × List T) → accept word kind ts ≡ Some p → Front kind ts p.0 p.1
+  unfolding accept
+  accept_is kind [] p e = absurd cc
+  accept_is kind (t ∷ ts) p e =
+      elim (test (is_kind (word t).kind kind)) [
+        | inl h ↦ let q : (t, ts) ≡ p = some_is (t, ts) p (rw h at e) in
+            record { is = ap (λ r. r.0 ∷ r.1) q; of_kind = ap (λ r. (word r.0).kind) (sym q) ∙ is_kind-same (word t).kind kind h }
+        | inr h ↦ let q = rw h at e in absurd cc
+      ]
+
+  accept_front : (kind : TokenKind) (ts : List T) (t : T) (rest : List T) → Front kind ts t rest → accept word kind ts ≡ Some (t, rest)
+  unfolding accept
+  accept_front kind ts t rest f = rw (f.is, f.of_kind, is_kind-itself kind) refl
+
+  expect_is : (kind : TokenKind) (ts : List T) (p : T × List T) → expect word kind ts ≡ Ok p → Front kind ts p.0 p.1
+  unfolding expect
+  expect_is kind ts p e =
+      elim (inspect (accept word kind ts)) [
+        | inl w ↦ let q = rw w at e in absurd cc
+        | inr w ↦ accept_is kind ts p (w.1 ∙ ap Some (ok_is w.0 p (rw w.1 at e)))
+      ]
+
+  -- ---- what was taken
+
+  pub accept_begins : (kind : TokenKind) (ts : List T) (p : T × List T) → accept word kind ts ≡ Some p → Begins kind (word p.0).text (map word ts) (map word p.1)
+  accept_begins kind ts p e = begins kind ts p.0 p.1 (accept_is kind ts p e)
+
+  pub accept_mark : (kind : TokenKind) (ts : List T) (p : T × List T) → accept word kind ts ≡ Some p → Mark kind (map word ts) (map word p.1)
+  accept_mark kind ts p e = ((word p.0).text, accept_begins kind ts p e)
+
+  pub expect_begins : (kind : TokenKind) (ts : List T) (p : T × List T) → expect word kind ts ≡ Ok p → Begins kind (word p.0).text (map word ts) (map word p.1)
+  expect_begins kind ts p e = begins kind ts p.0 p.1 (expect_is kind ts p e)
+
+  pub expect_mark : (kind : TokenKind) (ts : List T) (p : T × List T) → expect word kind ts ≡ Ok p → Mark kind (map word ts) (map word p.1)
+  expect_mark kind ts p e = ((word p.0).text, expect_begins kind ts p e)
+
+  -- ---- what is taken where a word comes first
+
+  pub record Taken (kind : TokenKind) (text : List ℕ) (ts : List T) (ws : List Word) : Type 0 where
+    pub token : T
+    pub rest : List T
+    pub accepts : accept word kind ts ≡ Some (token, rest)
+    pub expects : expect word kind ts ≡ Ok (token, rest)
+    pub says : (word token).text ≡ text
+    pub others : map word rest ≡ ws
+
+  from_front : (kind : TokenKind) (text : List ℕ) (ts : List T) (ws : List Word) (t : T) (rest : List T) → Front kind ts t rest → (word t).text ≡ text → map word rest ≡ ws → Taken kind text ts ws
+  unfolding expect
+  from_front kind text ts ws t rest f says others =
+      let a = accept_front kind ts t rest f in
+      record { token = t; rest = rest; accepts = a; expects = rw a refl; says = says; others = others }
+
+  pub taken : (kind : TokenKind) (text : List ℕ) (ts : List T) (ws : List Word) → Begins kind text (map word ts) ws → Taken kind text ts ws
+  taken kind text [] ws b = absurd cc
+  taken kind text (t ∷ ts) ws b =
+      let s = same_front (word t).kind kind (word t).text text (map word (t ∷ ts)) (map word ts) ws refl b in
+      from_front kind text (t ∷ ts) ws t ts (record { is = refl; of_kind = s.0 }) s.1 s.2
+
+  -- what isn't first isn't taken, and what isn't taken isn't first
+  pub none_taken : (kind : TokenKind) (ts : List T) → Lacks kind (map word ts) → accept word kind ts ≡ None
+  none_taken kind ts l =
+      elim (inspect (accept word kind ts)) [
+        | inl w ↦ w
+        | inr w ↦ absurd (l (map word w.0.1) (accept_mark kind ts w.0 w.1))
+      ]
+
+  pub not_first : (kind : TokenKind) (ts : List T) → accept word kind ts ≡ None → Lacks kind (map word ts)
+  not_first kind ts h = λ rest m. let t = taken kind m.0 ts rest m.1 in let p = sym h ∙ t.accepts in absurd cc
+
+  -- another kind is first
+  pub no_accept : (kind other : TokenKind) (ts : List T) (rest : List Word) → Mark other (map word ts) rest → is_kind other kind ≡ false → accept word kind ts ≡ None
+  no_accept kind other ts rest m differ = none_taken kind ts (lacks other kind (map word ts) rest m differ)
+
+  pub is_next-yes : (kind : TokenKind) (ts : List T) (p : T × List T) → accept word kind ts ≡ Some p → is_next word kind ts ≡ true
+  unfolding is_next
+  is_next-yes kind ts p h = rw h refl
+
+  pub is_next-no : (kind : TokenKind) (ts : List T) → accept word kind ts ≡ None → is_next word kind ts ≡ false
+  unfolding is_next
+  is_next-no kind ts h = rw h refl
+
+  -- what is read where a thing is spelled, and what is left then
+  pub record Reads {A : Type 0} (read : Read T A) (x : A) (ws : List Word) : Type 0 where
+    pub rest : List T
+    pub is : read ≡ Ok (x, rest)
+    pub others : map word rest ≡ ws

@@ -1,0 +1,17 @@
+use Rattle.std.proofs.Common.{◌≡◌, ℕ, ◌<◌, length}
+use Rattle.just_text.specs.Tokens.{word_of}
+use Rattle.just_tree.specs.Lines.{piece_of}
+use Rattle.just_expressions.specs.Reading.{ahead}
+use Rattle.just_recipes.specs.Cooked.{AreFragmentsCooked}
+use Rattle.just_recipes.specs.RecipeReading.{while_some, piece_at, pieces_at}
+use Rattle.just_recipes.proofs.Turns.{before}
+use Rattle.just_recipes.proofs.body.fragments.Given as goal
+
+abbrev pub invariant-loop-fragments : goal.invariant-loop-fragments
+invariant-loop-fragments g l =
+    (n : ℕ) × (length (ahead l.cursor) < n)
+    × (before piece_of l.fragments.items (while_some word_of (piece_at word_of (g.E.Expander.expansion l.fn.expander)) n (ahead l.cursor)) ≡ pieces_at word_of (g.E.Expander.expansion l.fn.expander) (ahead l.fn.cursor))
+    × AreFragmentsCooked (g.E.Expander.expansion l.fn.expander) l.fragments.items
+
+abbrev pub decreases-loop-fragments : goal.decreases-loop-fragments
+decreases-loop-fragments g l = length (ahead l.cursor)

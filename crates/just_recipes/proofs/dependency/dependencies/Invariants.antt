@@ -1,0 +1,17 @@
+use Rattle.std.proofs.Common.{◌≡◌, ℕ, ◌<◌, length}
+use Rattle.just_text.specs.Tokens.{word_of}
+use Rattle.just_tree.specs.Recipes.{dependency_shape}
+use Rattle.just_expressions.specs.Reading.{ahead}
+use Rattle.just_recipes.specs.Cooked.{AreDependenciesCooked}
+use Rattle.just_recipes.specs.RecipeReading.{while_some, dependency_at, dependencies_at}
+use Rattle.just_recipes.proofs.Turns.{before}
+use Rattle.just_recipes.proofs.dependency.dependencies.Given as goal
+
+abbrev pub invariant-loop-dependencies : goal.invariant-loop-dependencies
+invariant-loop-dependencies g l =
+    (n : ℕ) × (length (ahead l.cursor) < n)
+    × (before dependency_shape l.dependencies.items (while_some word_of (dependency_at word_of (g.E.Expander.expansion l.fn.expander)) n (ahead l.cursor)) ≡ dependencies_at word_of (g.E.Expander.expansion l.fn.expander) (ahead l.fn.cursor))
+    × AreDependenciesCooked (g.E.Expander.expansion l.fn.expander) l.dependencies.items
+
+abbrev pub decreases-loop-dependencies : goal.decreases-loop-dependencies
+decreases-loop-dependencies g l = length (ahead l.cursor)

@@ -1,0 +1,25 @@
+-- What a recipe has before its attributes are read.
+use Rattle.std.specs.Prelude.{◌≡◌, false, List, [], None}
+use Rattle.std.specs.List.{All}
+use Rattle.just_tree.specs.declared.recipe.Parameter.{Parameter}
+use Rattle.just_tree.specs.declared.recipe.Recipe.{Recipe}
+use Rattle.just_tree.specs.declared.recipe.UnresolvedDependency.{UnresolvedDependency}
+
+-- the parameter has no options
+pub record IsPlain (p : Parameter) : Type 0 where
+  pub flag : p.flag ≡ false
+  pub help : p.help ≡ None
+  pub long : p.long ≡ None
+  pub max : p.max ≡ None
+  pub min : p.min ≡ None
+  pub multiple : p.multiple ≡ false
+  pub short : p.short ≡ None
+  pub value : p.value ≡ None
+
+abbrev pub ArePlain : List Parameter → Type 0
+ArePlain ps = All IsPlain ps
+
+-- the recipe has no attributes, and its parameters have no options
+pub record IsPlainRecipe (r : Recipe UnresolvedDependency) : Type 0 where
+  pub attributes : r.attributes.items ≡ []
+  pub parameters : ArePlain r.parameters.items

@@ -1,0 +1,17 @@
+//! Recipes of justfiles, read from tokens.
+#![tactic(auto)]
+
+pub mod body;
+mod dependency;
+mod numbering;
+mod parameter;
+mod path;
+pub mod recipe;
+pub mod recipe_law;
+
+pub use body::{BodyRead, end_of_line};
+pub use dependency::{dependencies, subsequents};
+pub use numbering::{next_binding, next_recipe};
+pub use parameter::parameters;
+pub use path::namepath;
+pub use recipe::RecipeRead;

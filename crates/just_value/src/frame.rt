@@ -1,0 +1,111 @@
+//! Frames: bindings by their numbers.
+ghost use Rattle.std.specs.Prelude.{◌≡◌, [], OnOk, IfErr, map};
+ghost use Rattle.std.specs.Option.{option_map};
+ghost use Rattle.just_value.specs.Frames.{Rebinds, ByNumber, bound_in, bound_of};
+
+use crate::value::Value;
+use just_text::Number;
+use just_tree::Binding;
+use std::alloc::{AllocFailed, Global};
+use std::collections::BTreeMap;
+use std::collections::btree_map::Values;
+use std::marker::Model;
+
+/// Bindings, at most one of each number.
+#[derive(Debug, Drop)]
+pub struct Frame<'src> {
+    bindings: BTreeMap<Number, Binding<'src, Value>>,
+}
+
+impl<'src> Model for Frame<'src> {
+    ghost use Rattle.std.specs.Prelude.{◌≡◌, All, List, map};
+    ghost use Rattle.just_value.specs.Frames.{Bound, bound_of};
+
+    ghost Value = { List Bound };
+
+    ghost view = { λ f. map (λ e. bound_of e.1) f.bindings.entries };
+
+    ghost invariant = { λ f. All (λ e. e.0 ≡ e.1.number) f.bindings.entries };
+}
+
+impl<'src> Frame<'src> {
+    /// A frame without bindings, which takes no memory.
+    pub(crate) fn new(alloc: Global) -> Frame<'src>
+        ensures { result ≡ [] }
+    {
+        Frame {
+            bindings: BTreeMap::new(alloc),
+        }
+    }
+
+    /// Puts the binding in, in place of an earlier one of its number. A refused growth changes
+    /// nothing and gives the binding back.
+    pub(crate) fn bind(
+        &mut self,
+        binding: Binding<'src, Value>,
+    ) -> Result<(), AllocFailed<Binding<'src, Value>>>
+        ensures bound { OnOk result (Rebinds self.old (bound_of binding.entry) self.new) }
+        ensures refused { IfErr result (λ e. (self.new ≡ self.old) × (bound_of e.value ≡ bound_of binding.entry)) }
+    {
+        let number = binding.number;
+        match self.bindings.insert(number, binding) {
+            Ok(_) => Ok(()),
+            Err(refused) => {
+                let (_, value) = refused.value;
+                Err(AllocFailed { value })
+            }
+        }
+    }
+
+    /// The binding of the number, if there is one. Takes no memory.
+    pub fn binding(&self, number: Number) -> Option<&Binding<'src, Value>>
+        ensures { option_map (λ b. bound_of b.now) result ≡ bound_in self.now number }
+    {
+        self.bindings.get(&number)
+    }
+
+    /// Goes over the bindings by their numbers. Takes no memory.
+    pub fn bindings(&self) -> Bindings<'_, Binding<'src, Value>>
+        ensures all { map bound_of result ≡ self.now }
+        ensures sorted { ByNumber self.now }
+    {
+        Bindings {
+            values: self.bindings.values(),
+        }
+    }
+}
+
+/// The bindings of a frame, by their numbers. Contracts see it as those that are left.
+#[derive(Drop)]
+pub struct Bindings<'a, B> {
+    values: Values<'a, Number, B>,
+}
+
+impl<'a, B> Model for Bindings<'a, B> {
+    ghost use Rattle.std.specs.Prelude.{List};
+
+    ghost Value = { List B };
+
+    ghost view = { λ b. b.values };
+}
+
+impl<'a, B> Iterator for Bindings<'a, B> {
+    ghost use Rattle.std.specs.Prelude.{length};
+    ghost use Rattle.std.specs.Iterator.{at_most};
+    ghost use Rattle.std.specs.Map.Iter.{TakesFirst};
+
+    type Item = &'a B;
+
+    ghost next_gives = { TakesFirst (λ b. b.now) };
+
+    ghost remaining = { λ s. at_most (length s) };
+
+    fn next(&mut self) -> Option<&'a B> {
+        self.values.next()
+    }
+
+    fn size_hint(&self) -> (usize, Option<usize>) {
+        let len = self.values.len();
+        (len, Some(len))
+    }
+}

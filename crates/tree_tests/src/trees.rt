@@ -1,0 +1,110 @@
+//! Printed texts of small trees.
+
+use crate::tokens::{name, token};
+use just_text::{Namepath, TokenKind};
+use just_tree::{
+    ConditionalOperator, DependencyArgument, Expression, Fragment, Line, UnresolvedDependency,
+};
+use std::alloc::{AllocError, Global};
+use std::test::Fail;
+
+fn variable(src: &str) -> Expression<'_> {
+    Expression::Variable {
+        name: name(src),
+        number: None,
+    }
+}
+
+fn boxed(alloc: Global, src: &str) -> Result<Box<Expression<'_>>, AllocError> {
+    Ok(Box::new(alloc, variable(src))?)
+}
+
+/// `f(a, b)`
+fn call(alloc: Global) -> Result<Expression<'static>, AllocError> {
+    let mut arguments = Vec::new(alloc);
+    arguments.push(variable("a"))?;
+    arguments.push(variable("b"))?;
+    Ok(Expression::Call {
+        name: name("f"),
+        arguments,
+    })
+}
+
+#[test]
+fn prints_a_conditional(rt: HostRuntime) -> Result<(), Fail> {
+    let alloc = rt.alloc();
+    let condition = Expression::Comparison {
+        lhs: boxed(alloc, "x")?,
+        operator: ConditionalOperator::Equality,
+        rhs: Box::new(alloc, call(alloc)?)?,
+        token: token("==", TokenKind::Identifier),
+    };
+    let other = Expression::Conditional {
+        condition: boxed(alloc, "y")?,
+        then: boxed(alloc, "z")?,
+        otherwise: None,
+    };
+    let whole = Expression::Conditional {
+        condition: Box::new(alloc, condition)?,
+        then: Box::new(
+            alloc,
+            Expression::Not {
+                operand: boxed(alloc, "v")?,
+            },
+        )?,
+        otherwise: Some(Box::new(alloc, other)?),
+    };
+    let text = whole.to_string(alloc)?;
+    assert_eq!(rt; text.as_str(), "if x == f(a, b) { !v } else if y { z }");
+    Ok(())
+}
+
+#[test]
+fn prints_a_list(rt: HostRuntime) -> Result<(), Fail> {
+    let alloc = rt.alloc();
+    let mut elements = Vec::new(alloc);
+    elements.push(variable("a"))?;
+    elements.push(Expression::Join {
+        lhs: None,
+        operator: token("/", TokenKind::Identifier),
+        rhs: boxed(alloc, "b")?,
+    })?;
+    let list = Expression::List {
+        elements,
+        token: token("[", TokenKind::Identifier),
+    };
+    let text = list.to_string(alloc)?;
+    assert_eq!(rt; text.as_str(), "[a, / b]");
+    Ok(())
+}
+
+#[test]
+fn prints_a_dependency(rt: HostRuntime) -> Result<(), Fail> {
+    let alloc = rt.alloc();
+    let mut arguments = Vec::new(alloc);
+    arguments.push(DependencyArgument {
+        expression: variable("x"),
+        starred: true,
+    })?;
+    let dependency = UnresolvedDependency {
+        arguments,
+        recipe: Namepath::from_name(alloc, name("b"))?,
+    };
+    let text = dependency.to_string(alloc)?;
+    assert_eq!(rt; text.as_str(), "(b *x)");
+    Ok(())
+}
+
+#[test]
+fn reads_marks(rt: HostRuntime) -> Result<(), Fail> {
+    let mut fragments = Vec::new(rt.alloc());
+    fragments.push(Fragment::Text {
+        token: token("@-?@\\", TokenKind::Identifier),
+    })?;
+    let line = Line { fragments };
+    let sigils = line.sigils(false);
+    assert!(rt; sigils.quiet && sigils.infallible && !sigils.guard);
+    assert!(rt; line.sigils(true).guard);
+    assert!(rt; line.is_continuation() && !line.is_comment());
+    Ok(())
+}

@@ -1,0 +1,16 @@
+//! Tokens of whole texts.
+
+use just_text::{Token, TokenKind};
+
+/// The token of a whole text.
+pub fn token(src: &str, kind: TokenKind) -> Token<'_> {
+    Token {
+        column: 0,
+        kind,
+        length: src.len(),
+        line: 0,
+        offset: 0,
+        path: "justfile",
+        src,
+    }
+}
