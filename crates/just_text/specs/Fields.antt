@@ -15,3 +15,8 @@ ticked_list (field ∷ fields) = ticked field ++ ticked_more fields
 
 abbrev pub with_fields : List ℕ → List (List ℕ) → List ℕ
 with_fields name fields = name ++ codes ": " ++ ticked_list fields
+
+-- the fields behind a name, where there are any
+abbrev pub fields_behind : List (List ℕ) → List ℕ
+fields_behind [] = []
+fields_behind fields = codes ": " ++ ticked_list fields

@@ -1,7 +1,7 @@
 -- The printed texts of token kinds and of refusals.
-use Rattle.std.specs.Prelude.{ℕ, List, [], ◌∷◌, codes, encode_utf8}
+use Rattle.std.specs.Prelude.{ℕ, List, [], ◌∷◌, ◌++◌, codes, encode_utf8}
 use Rattle.std.specs.Fmt.{decimal}
-use Rattle.just_text.specs.Fields.{with_fields}
+use Rattle.just_text.specs.Fields.{fields_behind}
 use Rattle.just_text.specs.declared.token_kind.TokenKind.{TokenKind}
 use Rattle.just_text.specs.declared.token_kind.TokenKind.TheVariants.{AmpersandAmpersand, Asterisk, At, Backtick, Bang, BangEquals, BangTilde, BarBar, BraceL, BraceR, BracketL, BracketR, ByteOrderMark, Colon, ColonColon, ColonEquals, Comma, Comment, Dedent, Dollar, Eof, Eol, Equals, EqualsEquals, EqualsTilde, FormatStringContinue, FormatStringEnd, FormatStringStart, Identifier, Indent, InterpolationEnd, InterpolationStart, ParenL, ParenR, Plus, PlusPlus, QuestionMark, Slash, StringToken, Text, Whitespace}
 use Rattle.just_text.specs.declared.delimiter.Delimiter.{Delimiter}
@@ -64,34 +64,59 @@ closing Brace = 125
 closing Bracket = 93
 closing Paren = 41
 
+-- the name of a refusal
+abbrev pub error_name : CompileErrorKind → List ℕ
+error_name OutOfMemory = codes "out of memory"
+error_name NumbersUsed = codes "numbers used"
+error_name (UnknownStartOfToken _) = codes "unknown start of token"
+error_name (UnexpectedCharacter _) = codes "unexpected character"
+error_name UnpairedCarriageReturn = codes "unpaired carriage return"
+error_name UnterminatedString = codes "unterminated string"
+error_name UnterminatedBacktick = codes "unterminated backtick"
+error_name UnterminatedInterpolation = codes "unterminated interpolation"
+error_name (InvalidEscapeSequence _) = codes "invalid escape sequence"
+error_name MixedLeadingWhitespace = codes "mixed leading whitespace"
+error_name InconsistentLeadingWhitespace = codes "inconsistent leading whitespace"
+error_name ExtraLeadingWhitespace = codes "extra leading whitespace"
+error_name (UnexpectedToken _) = codes "unexpected token"
+error_name (MismatchedClosingDelimiter _ _) = codes "mismatched closing delimiter"
+error_name (UnexpectedClosingDelimiter _) = codes "unexpected closing delimiter"
+error_name (ShellExpansion _) = codes "shell expansion"
+error_name ParsingRecursionDepthExceeded = codes "parsing recursion depth exceeded"
+error_name BacktickShebang = codes "backtick shebang"
+error_name (UnknownSetting _) = codes "unknown setting"
+error_name (UnknownAttribute _) = codes "unknown attribute"
+error_name (AttributeArgumentCount _ _) = codes "attribute argument count"
+error_name (InvalidAttribute _ _) = codes "invalid attribute"
+error_name (DuplicateAttribute _) = codes "duplicate attribute"
+error_name (DuplicateParameter _) = codes "duplicate parameter"
+error_name (ParameterFollowsVariadic _) = codes "parameter follows variadic"
+error_name (RequiredParameterFollowsDefault _) = codes "required parameter follows default"
+error_name (MinimumVersion _ _) = codes "minimum version"
+error_name GuardAndInfallible = codes "guard and infallible"
+error_name TwoStars = codes "two stars"
+error_name (InvalidSetting _ _) = codes "invalid setting"
+
+-- what a refusal names, in order
+abbrev pub error_fields : CompileErrorKind → List (List ℕ)
+error_fields (UnknownStartOfToken start) = encode_utf8 start ∷ []
+error_fields (UnexpectedCharacter expected) = encode_utf8 expected ∷ []
+error_fields (InvalidEscapeSequence text) = text ∷ []
+error_fields (UnexpectedToken found) = kind_text found ∷ []
+error_fields (MismatchedClosingDelimiter opener closer) = encode_utf8 (opening opener) ∷ encode_utf8 (closing closer) ∷ []
+error_fields (UnexpectedClosingDelimiter closer) = encode_utf8 (closing closer) ∷ []
+error_fields (ShellExpansion text) = text ∷ []
+error_fields (UnknownSetting name) = name ∷ []
+error_fields (UnknownAttribute name) = name ∷ []
+error_fields (AttributeArgumentCount name found) = name ∷ decimal found ∷ []
+error_fields (InvalidAttribute name item) = name ∷ item ∷ []
+error_fields (DuplicateAttribute name) = name ∷ []
+error_fields (DuplicateParameter name) = name ∷ []
+error_fields (ParameterFollowsVariadic name) = name ∷ []
+error_fields (RequiredParameterFollowsDefault name) = name ∷ []
+error_fields (MinimumVersion required current) = required ∷ current ∷ []
+error_fields (InvalidSetting name text) = name ∷ text ∷ []
+error_fields _ = []
+
 abbrev pub error_text : CompileErrorKind → List ℕ
-error_text OutOfMemory = codes "out of memory"
-error_text NumbersUsed = codes "numbers used"
-error_text (UnknownStartOfToken start) = with_fields (codes "unknown start of token") (encode_utf8 start ∷ [])
-error_text (UnexpectedCharacter expected) = with_fields (codes "unexpected character") (encode_utf8 expected ∷ [])
-error_text UnpairedCarriageReturn = codes "unpaired carriage return"
-error_text UnterminatedString = codes "unterminated string"
-error_text UnterminatedBacktick = codes "unterminated backtick"
-error_text UnterminatedInterpolation = codes "unterminated interpolation"
-error_text (InvalidEscapeSequence text) = with_fields (codes "invalid escape sequence") (text ∷ [])
-error_text MixedLeadingWhitespace = codes "mixed leading whitespace"
-error_text InconsistentLeadingWhitespace = codes "inconsistent leading whitespace"
-error_text ExtraLeadingWhitespace = codes "extra leading whitespace"
-error_text (UnexpectedToken found) = with_fields (codes "unexpected token") (kind_text found ∷ [])
-error_text (MismatchedClosingDelimiter opener closer) = with_fields (codes "mismatched closing delimiter") (encode_utf8 (opening opener) ∷ encode_utf8 (closing closer) ∷ [])
-error_text (UnexpectedClosingDelimiter closer) = with_fields (codes "unexpected closing delimiter") (encode_utf8 (closing closer) ∷ [])
-error_text (ShellExpansion text) = with_fields (codes "shell expansion") (text ∷ [])
-error_text ParsingRecursionDepthExceeded = codes "parsing recursion depth exceeded"
-error_text BacktickShebang = codes "backtick shebang"
-error_text (UnknownSetting name) = with_fields (codes "unknown setting") (name ∷ [])
-error_text (UnknownAttribute name) = with_fields (codes "unknown attribute") (name ∷ [])
-error_text (AttributeArgumentCount name found) = with_fields (codes "attribute argument count") (name ∷ decimal found ∷ [])
-error_text (InvalidAttribute name item) = with_fields (codes "invalid attribute") (name ∷ item ∷ [])
-error_text (DuplicateAttribute name) = with_fields (codes "duplicate attribute") (name ∷ [])
-error_text (DuplicateParameter name) = with_fields (codes "duplicate parameter") (name ∷ [])
-error_text (ParameterFollowsVariadic name) = with_fields (codes "parameter follows variadic") (name ∷ [])
-error_text (RequiredParameterFollowsDefault name) = with_fields (codes "required parameter follows default") (name ∷ [])
-error_text (MinimumVersion required current) = with_fields (codes "minimum version") (required ∷ current ∷ [])
-error_text GuardAndInfallible = codes "guard and infallible"
-error_text TwoStars = codes "two stars"
-error_text (InvalidSetting name text) = with_fields (codes "invalid setting") (name ∷ text ∷ [])
+error_text kind = error_name kind ++ fields_behind (error_fields kind)

@@ -113,86 +113,99 @@ impl<'src> CompileError<'src> {
     }
 }
 
+impl CompileErrorKind {
+    ghost use Rattle.std.specs.Prelude.{◌≡◌};
+    ghost use Rattle.std.specs.Fmt.{WritesOnOk};
+    ghost use Rattle.just_text.specs.Fields.{fields_behind};
+    ghost use Rattle.just_text.specs.Texts.{error_fields, error_name};
+
+    /// Its name, without what it names.
+    fn name(&self) -> &'static str
+        ensures { result.now ≡ error_name self.now }
+    {
+        match self {
+            CompileErrorKind::OutOfMemory => "out of memory",
+            CompileErrorKind::NumbersUsed => "numbers used",
+            CompileErrorKind::UnknownStartOfToken(_) => "unknown start of token",
+            CompileErrorKind::UnexpectedCharacter(_) => "unexpected character",
+            CompileErrorKind::UnpairedCarriageReturn => "unpaired carriage return",
+            CompileErrorKind::UnterminatedString => "unterminated string",
+            CompileErrorKind::UnterminatedBacktick => "unterminated backtick",
+            CompileErrorKind::UnterminatedInterpolation => "unterminated interpolation",
+            CompileErrorKind::InvalidEscapeSequence(_) => "invalid escape sequence",
+            CompileErrorKind::MixedLeadingWhitespace => "mixed leading whitespace",
+            CompileErrorKind::InconsistentLeadingWhitespace => "inconsistent leading whitespace",
+            CompileErrorKind::ExtraLeadingWhitespace => "extra leading whitespace",
+            CompileErrorKind::UnexpectedToken(_) => "unexpected token",
+            CompileErrorKind::MismatchedClosingDelimiter(_, _) => "mismatched closing delimiter",
+            CompileErrorKind::UnexpectedClosingDelimiter(_) => "unexpected closing delimiter",
+            CompileErrorKind::ShellExpansion(_) => "shell expansion",
+            CompileErrorKind::ParsingRecursionDepthExceeded => "parsing recursion depth exceeded",
+            CompileErrorKind::BacktickShebang => "backtick shebang",
+            CompileErrorKind::UnknownSetting(_) => "unknown setting",
+            CompileErrorKind::UnknownAttribute(_) => "unknown attribute",
+            CompileErrorKind::AttributeArgumentCount(_, _) => "attribute argument count",
+            CompileErrorKind::InvalidAttribute(_, _) => "invalid attribute",
+            CompileErrorKind::DuplicateAttribute(_) => "duplicate attribute",
+            CompileErrorKind::DuplicateParameter(_) => "duplicate parameter",
+            CompileErrorKind::ParameterFollowsVariadic(_) => "parameter follows variadic",
+            CompileErrorKind::RequiredParameterFollowsDefault(_) =>
+                "required parameter follows default",
+            CompileErrorKind::MinimumVersion(_, _) => "minimum version",
+            CompileErrorKind::GuardAndInfallible => "guard and infallible",
+            CompileErrorKind::TwoStars => "two stars",
+            CompileErrorKind::InvalidSetting(_, _) => "invalid setting",
+        }
+    }
+
+    /// Writes what it names behind its name.
+    fn write_fields<W: fmt::Write>(&self, f: &mut fmt::Formatter<W>) -> fmt::Result
+        ensures { WritesOnOk W.write_str_gives f.old result (fields_behind (error_fields self.now)) f.new }
+    {
+        match self {
+            CompileErrorKind::UnknownStartOfToken(found)
+            | CompileErrorKind::UnexpectedCharacter(found) => write!(f, ": `{found}`"),
+            CompileErrorKind::UnexpectedToken(found) => write!(f, ": `{found}`"),
+            CompileErrorKind::MismatchedClosingDelimiter(opener, closer) => {
+                let opener = opener.open();
+                let closer = closer.close();
+                write!(f, ": `{opener}`, `{closer}`")
+            }
+            CompileErrorKind::UnexpectedClosingDelimiter(closer) => {
+                let closer = closer.close();
+                write!(f, ": `{closer}`")
+            }
+            CompileErrorKind::AttributeArgumentCount(name, found) => write!(
+                f,
+                ": `{name}`, `{found}`"
+            ),
+            CompileErrorKind::InvalidAttribute(first, second)
+            | CompileErrorKind::MinimumVersion(first, second)
+            | CompileErrorKind::InvalidSetting(first, second) => write!(
+                f,
+                ": `{first}`, `{second}`"
+            ),
+            CompileErrorKind::InvalidEscapeSequence(text)
+            | CompileErrorKind::ShellExpansion(text)
+            | CompileErrorKind::UnknownSetting(text)
+            | CompileErrorKind::UnknownAttribute(text)
+            | CompileErrorKind::DuplicateAttribute(text)
+            | CompileErrorKind::DuplicateParameter(text)
+            | CompileErrorKind::ParameterFollowsVariadic(text)
+            | CompileErrorKind::RequiredParameterFollowsDefault(text) => write!(f, ": `{text}`"),
+            _ => Ok(()),
+        }
+    }
+}
+
 impl fmt::Display for CompileErrorKind {
     ghost use Rattle.just_text.specs.Texts.{error_text};
 
     ghost output = { λ kind. Some (error_text kind) };
 
     fn fmt<W: fmt::Write>(&self, f: &mut fmt::Formatter<W>) -> fmt::Result {
-        match self {
-            CompileErrorKind::OutOfMemory => write!(f, "out of memory"),
-            CompileErrorKind::NumbersUsed => write!(f, "numbers used"),
-            CompileErrorKind::UnknownStartOfToken(start) => {
-                write!(f, "unknown start of token: `{start}`")
-            }
-            CompileErrorKind::UnexpectedCharacter(expected) => {
-                write!(f, "unexpected character: `{expected}`")
-            }
-            CompileErrorKind::UnterminatedString => write!(f, "unterminated string"),
-            CompileErrorKind::UnterminatedBacktick => write!(f, "unterminated backtick"),
-            CompileErrorKind::UnterminatedInterpolation => write!(f, "unterminated interpolation"),
-            CompileErrorKind::InvalidEscapeSequence(text) => {
-                write!(f, "invalid escape sequence: `{text}`")
-            }
-            CompileErrorKind::MismatchedClosingDelimiter(opener, closer) => {
-                let opener = opener.open();
-                let closer = closer.close();
-                write!(f, "mismatched closing delimiter: `{opener}`, `{closer}`")
-            }
-            CompileErrorKind::UnexpectedClosingDelimiter(closer) => {
-                let closer = closer.close();
-                write!(f, "unexpected closing delimiter: `{closer}`")
-            }
-            CompileErrorKind::ShellExpansion(text) => write!(f, "shell expansion: `{text}`"),
-            CompileErrorKind::UnpairedCarriageReturn => write!(f, "unpaired carriage return"),
-            CompileErrorKind::MixedLeadingWhitespace => write!(f, "mixed leading whitespace"),
-            CompileErrorKind::InconsistentLeadingWhitespace => {
-                write!(f, "inconsistent leading whitespace")
-            }
-            CompileErrorKind::ExtraLeadingWhitespace => write!(f, "extra leading whitespace"),
-            CompileErrorKind::UnexpectedToken(found) => write!(f, "unexpected token: `{found}`"),
-            CompileErrorKind::ParsingRecursionDepthExceeded => write!(
-                f,
-                "parsing recursion depth exceeded"
-            ),
-            CompileErrorKind::BacktickShebang => write!(f, "backtick shebang"),
-            CompileErrorKind::UnknownSetting(name) => write!(f, "unknown setting: `{name}`"),
-            CompileErrorKind::UnknownAttribute(name) => write!(f, "unknown attribute: `{name}`"),
-            CompileErrorKind::AttributeArgumentCount(name, found) => write!(
-                f,
-                "attribute argument count: `{name}`, `{found}`"
-            ),
-            CompileErrorKind::InvalidAttribute(name, item) => write!(
-                f,
-                "invalid attribute: `{name}`, `{item}`"
-            ),
-            CompileErrorKind::DuplicateAttribute(name) => write!(
-                f,
-                "duplicate attribute: `{name}`"
-            ),
-            CompileErrorKind::DuplicateParameter(name) => write!(
-                f,
-                "duplicate parameter: `{name}`"
-            ),
-            CompileErrorKind::ParameterFollowsVariadic(name) => write!(
-                f,
-                "parameter follows variadic: `{name}`"
-            ),
-            CompileErrorKind::RequiredParameterFollowsDefault(name) => write!(
-                f,
-                "required parameter follows default: `{name}`"
-            ),
-            CompileErrorKind::MinimumVersion(required, current) => write!(
-                f,
-                "minimum version: `{required}`, `{current}`"
-            ),
-            CompileErrorKind::GuardAndInfallible => write!(f, "guard and infallible"),
-            CompileErrorKind::TwoStars => write!(f, "two stars"),
-            CompileErrorKind::InvalidSetting(name, text) => write!(
-                f,
-                "invalid setting: `{name}`, `{text}`"
-            ),
-        }
+        f.write_str(self.name())?;
+        self.write_fields(f)
     }
 }
 
