@@ -65,18 +65,31 @@ kind_of (recipe_item attributes r) = RecipeKind
 kind_of (set_item attributes s) = SetKind
 kind_of (unexport_item name) = UnexportKind
 
--- an item behind its attributes, bodies with this indentation; a comment as it is
+-- the attributes in front of an item; some items have none
+abbrev pub attributes_of : ItemShape → List AttributeShape
+attributes_of (alias_item attributes a) = attributes
+attributes_of (assignment_item attributes a) = attributes
+attributes_of (module_item attributes m) = attributes
+attributes_of (recipe_item attributes r) = attributes
+attributes_of (set_item attributes s) = attributes
+attributes_of other = []
+
+-- an item without its attributes, bodies with this indentation; a comment as it is
+abbrev pub bare_text : List ℕ → ItemShape → List ℕ
+bare_text indentation (alias_item attributes a) = alias_text a
+bare_text indentation (assignment_item attributes a) = assignment_text a
+bare_text indentation (comment_item text) = text
+bare_text indentation (function_item f) = function_text f
+bare_text indentation (import_item i) = import_text i
+bare_text indentation (module_item attributes m) = module_text m
+bare_text indentation newline_item = codes ""
+bare_text indentation (recipe_item attributes r) = recipe_text indentation r
+bare_text indentation (set_item attributes s) = set_text s
+bare_text indentation (unexport_item name) = unexport_text name
+
+-- an item behind its attributes
 abbrev pub item_text : List ℕ → ItemShape → List ℕ
-item_text indentation (alias_item attributes a) = attributes_text attributes ++ alias_text a
-item_text indentation (assignment_item attributes a) = attributes_text attributes ++ assignment_text a
-item_text indentation (comment_item text) = text
-item_text indentation (function_item f) = function_text f
-item_text indentation (import_item i) = import_text i
-item_text indentation (module_item attributes m) = attributes_text attributes ++ module_text m
-item_text indentation newline_item = codes ""
-item_text indentation (recipe_item attributes r) = attributes_text attributes ++ recipe_text indentation r
-item_text indentation (set_item attributes s) = attributes_text attributes ++ set_text s
-item_text indentation (unexport_item name) = unexport_text name
+item_text indentation item = attributes_text (attributes_of item) ++ bare_text indentation item
 
 -- features that must be asked for
 abbrev pub unstable_text : UnstableFeature → List ℕ

@@ -2,8 +2,10 @@
 ghost use Rattle.std.specs.Prelude.{◌≡◌, ◌++◌, Some, codes};
 ghost use Rattle.std.specs.Fmt.{WritesOnOk};
 ghost use Rattle.std.specs.List.{list_any};
+ghost use Rattle.just_tree.specs.Attributes.{attribute_shapes};
 ghost use Rattle.just_tree.specs.Files as spec;
 
+use crate::attribute::Attribute;
 use crate::item::{Alias, Assignment, FunctionDefinition, Import, Module, Unexport};
 use crate::line::Line;
 use crate::recipe::{Recipe, UnresolvedDependency};
@@ -63,7 +65,7 @@ pub enum Item<'src> {
     Unexport(Unexport<'src>),
 }
 
-impl Item<'_> {
+impl<'src> Item<'src> {
     pub fn kind(&self) -> ItemKind
         ensures { result ≡ spec.kind_of (spec.item_shape self.now) }
     {
@@ -81,37 +83,44 @@ impl Item<'_> {
         }
     }
 
+    /// The attributes in front of the item; none for one that takes none.
+    fn attributes(&self) -> &[Attribute<'src>]
+        ensures { attribute_shapes result.now ≡ spec.attributes_of (spec.item_shape self.now) }
+    {
+        match self {
+            Item::Alias(alias) => alias.attributes.as_slice(),
+            Item::Assignment(assignment) => assignment.attributes.as_slice(),
+            Item::Module(module) => module.attributes.as_slice(),
+            Item::Recipe(recipe) => recipe.attributes.as_slice(),
+            Item::Set(set) => set.attributes.as_slice(),
+            _ => &[],
+        }
+    }
+
     /// Writes the item behind its attributes, bodies with this indentation, and no newline at its
     /// end.
     pub fn print<W: fmt::Write>(&self, f: &mut fmt::Formatter<W>, indentation: &str) -> fmt::Result
         ensures { WritesOnOk W.write_str_gives f.old result (spec.item_text indentation.now (spec.item_shape self.now)) f.new }
     {
+        let attributes = Attributes(self.attributes());
+        write!(f, "{attributes}")?;
+        self.print_bare(f, indentation)
+    }
+
+    /// Writes the item without its attributes.
+    fn print_bare<W: fmt::Write>(&self, f: &mut fmt::Formatter<W>, indentation: &str) -> fmt::Result
+        ensures { WritesOnOk W.write_str_gives f.old result (spec.bare_text indentation.now (spec.item_shape self.now)) f.new }
+    {
         match self {
-            Item::Alias(alias) => {
-                let attributes = Attributes(alias.attributes.as_slice());
-                write!(f, "{attributes}{alias}")
-            }
-            Item::Assignment(assignment) => {
-                let attributes = Attributes(assignment.attributes.as_slice());
-                write!(f, "{attributes}{assignment}")
-            }
+            Item::Alias(alias) => write!(f, "{alias}"),
+            Item::Assignment(assignment) => write!(f, "{assignment}"),
             Item::Comment(text) => f.write_str(text),
             Item::Function(function) => write!(f, "{function}"),
             Item::Import(import) => write!(f, "{import}"),
-            Item::Module(module) => {
-                let attributes = Attributes(module.attributes.as_slice());
-                write!(f, "{attributes}{module}")
-            }
+            Item::Module(module) => write!(f, "{module}"),
             Item::Newline => Ok(()),
-            Item::Recipe(recipe) => {
-                let attributes = Attributes(recipe.attributes.as_slice());
-                write!(f, "{attributes}")?;
-                recipe.print(f, indentation)
-            }
-            Item::Set(set) => {
-                let attributes = Attributes(set.attributes.as_slice());
-                write!(f, "{attributes}{set}")
-            }
+            Item::Recipe(recipe) => recipe.print(f, indentation),
+            Item::Set(set) => write!(f, "{set}"),
             Item::Unexport(unexport) => write!(f, "{unexport}"),
         }
     }

@@ -9,14 +9,6 @@ use just_strings::StringLiteral;
 use std::fmt;
 use std::fmt::{Formatter, Write};
 
-/// The two sides of an operator, and the operator between them.
-macro_rules! print_sides {
-    ($f:expr, $lhs:expr, $mark:expr, $rhs:expr) => {{
-        print($f, $lhs)?;
-        print_right($f, $mark, $rhs)
-    }};
-}
-
 /// Writes an expression.
 #[cycle(print)]
 #[tactic(auto, using(crate::proofs::Printed::printed_assert, crate::proofs::Printed::printed_conditional), unfolding(crate::specs::Printing::text_of))]
@@ -24,21 +16,21 @@ pub fn print<W: Write>(f: &mut Formatter<W>, expression: &Expression) -> fmt::Re
     ensures { WritesOnOk W.write_str_gives f.old result (text_of (shape_of expression.now)) f.new }
 {
     match expression {
-        Expression::Or { lhs, rhs } => print_sides!(f, lhs, "||", rhs),
-        Expression::And { lhs, rhs } => print_sides!(f, lhs, "&&", rhs),
+        Expression::Or { lhs, rhs } => print_sides(f, lhs, "||", rhs),
+        Expression::And { lhs, rhs } => print_sides(f, lhs, "&&", rhs),
         Expression::Comparison {
             lhs,
             operator,
             rhs,
             ..
-        } => print_sides!(f, lhs, operator.mark(), rhs),
-        Expression::ListConcatenation { lhs, rhs, .. } => print_sides!(f, lhs, "++", rhs),
-        Expression::Concatenation { lhs, rhs, .. } => print_sides!(f, lhs, "+", rhs),
+        } => print_sides(f, lhs, operator.mark(), rhs),
+        Expression::ListConcatenation { lhs, rhs, .. } => print_sides(f, lhs, "++", rhs),
+        Expression::Concatenation { lhs, rhs, .. } => print_sides(f, lhs, "+", rhs),
         Expression::Join {
             lhs: Some(lhs),
             rhs,
             ..
-        } => print_sides!(f, lhs, "/", rhs),
+        } => print_sides(f, lhs, "/", rhs),
         Expression::Join { lhs: None, rhs, .. } => print_between(f, "/ ", rhs, ""),
         Expression::Not { operand } => print_between(f, "!", operand, ""),
         Expression::StringLiteral { string_literal } => f.write_str(string_literal.token.lexeme()),
@@ -47,10 +39,7 @@ pub fn print<W: Write>(f: &mut Formatter<W>, expression: &Expression) -> fmt::Re
         }
         Expression::Backtick { token, .. } => f.write_str(token.lexeme()),
         Expression::Variable { name, .. } => f.write_str(name.lexeme()),
-        Expression::Call { name, arguments } => {
-            f.write_str(name.lexeme())?;
-            print_row(f, "(", arguments, ")")
-        }
+        Expression::Call { name, arguments } => print_call(f, name.lexeme(), arguments),
         Expression::Assert {
             condition,
             message,
@@ -73,13 +62,28 @@ pub fn print<W: Write>(f: &mut Formatter<W>, expression: &Expression) -> fmt::Re
     }
 }
 
-/// An operator and what stands behind it.
+/// The two sides of an operator, and the operator between them.
 #[cycle(print)]
-fn print_right<W: Write>(f: &mut Formatter<W>, mark: &str, rhs: &Expression) -> fmt::Result
-    ensures { WritesOnOk W.write_str_gives f.old result (codes " " ++ mark.now ++ codes " " ++ text_of (shape_of rhs.now)) f.new }
+fn print_sides<W: Write>(
+    f: &mut Formatter<W>,
+    lhs: &Expression,
+    mark: &str,
+    rhs: &Expression,
+) -> fmt::Result
+    ensures { WritesOnOk W.write_str_gives f.old result (text_of (shape_of lhs.now) ++ codes " " ++ mark.now ++ codes " " ++ text_of (shape_of rhs.now)) f.new }
 {
+    print(f, lhs)?;
     write!(f, " {mark} ")?;
     print(f, rhs)
+}
+
+/// A name, and arguments in parentheses.
+#[cycle(print)]
+fn print_call<W: Write>(f: &mut Formatter<W>, name: &str, arguments: &[Expression]) -> fmt::Result
+    ensures { WritesOnOk W.write_str_gives f.old result (name.now ++ codes "(" ++ text_of_all (shapes_of arguments.now) ++ codes ")") f.new }
+{
+    f.write_str(name)?;
+    print_row(f, "(", arguments, ")")
 }
 
 #[cycle(print)]

@@ -1,6 +1,9 @@
-//! Tests of the lexer and of the parsers of expressions, recipes, items and settings.
+//! Tests of the lexer and of the parsers of expressions, attributes, recipes, items
+//! and settings.
 #![tactic(auto)]
 
+#[cfg(test)]
+mod attributes;
 #[cfg(test)]
 mod expressions;
 #[cfg(test)]
