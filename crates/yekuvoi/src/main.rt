@@ -10,7 +10,7 @@ use crate::host::Printing;
 use crate::input::read_justfile;
 use anyhow::{Context, Result};
 use just_excerpt::Excerpt;
-use just_run::{Action, Collected, Config, Recorded, drive};
+use just_run::{Action, Collected, Config, Fault, Recorded, drive};
 use just_text::Os;
 use semver::Version;
 use std::alloc::Global;
@@ -55,29 +55,55 @@ fn words(rt: &HostRuntime) -> Result<Vec<String>> {
     Ok(words)
 }
 
-/// Drives the justfile, and gives the status to end with.
-fn run(rt: &HostRuntime) -> Result<u8> {
-    let alloc = rt.alloc();
-    let words = words(rt)?;
+/// How the program runs what it is given, in the current folder.
+fn config_here(rt: &HostRuntime) -> Result<Config> {
     let folder = env::current_dir(rt).context("could not find the current folder")?;
-    let config = config(alloc, folder.as_str())?;
-    let mut sources = BTreeMap::new(alloc);
-    sources.insert(String::from_str(alloc, ROOT)?, read_justfile(rt)?)?;
+    config(rt.alloc(), folder.as_str())
+}
+
+/// The justfile under its key.
+fn read_sources(rt: &HostRuntime) -> Result<BTreeMap<String, String>> {
+    let text = read_justfile(rt)?;
+    let mut sources = BTreeMap::new(rt.alloc());
+    sources.insert(String::from_str(rt.alloc(), ROOT)?, text)?;
+    Ok(sources)
+}
+
+/// The justfile's key, for all words.
+fn root(alloc: Global) -> Result<BTreeMap<Option<String>, String>> {
     let mut roots = BTreeMap::new(alloc);
     roots.insert(None, String::from_str(alloc, ROOT)?)?;
-    let printing = Printing {
-        output: BufWriter::new(alloc, rt.stdout())?,
-        shown: BufWriter::new(alloc, rt.stderr())?,
-    };
+    Ok(roots)
+}
+
+/// Shows why the run ended, and gives the status to end with.
+fn report<W: Write>(shown: &mut W, fault: &Fault) -> u8 {
+    let _ = writeln!(shown, "error: {fault}");
+    if let Some(token) = fault.place() {
+        let _ = writeln!(shown, "{}", Excerpt(&token));
+    }
+    let _ = shown.flush();
+    fault.status()
+}
+
+/// Drives the justfile, and gives the status to end with.
+fn drive_words<W: Write + Drop, V: Write + Drop>(
+    alloc: Global,
+    config: &Config,
+    sources: &BTreeMap<String, String>,
+    words: &[String],
+    printing: Printing<W, V>,
+) -> Result<u8> {
+    let roots = root(alloc)?;
     let mut host = Recorded::new(alloc, printing);
     let mut out = Collected::new(alloc);
     let answer = drive(
         alloc,
-        &config,
+        config,
         &NoExpansion,
-        &sources,
+        sources,
         &roots,
-        words.as_slice(),
+        words,
         Action::Run,
         &mut host,
         &mut out,
@@ -86,21 +112,27 @@ fn run(rt: &HostRuntime) -> Result<u8> {
         mut output,
         mut shown,
     } = host.into_host();
+    let flushed = output.flush();
     let _ = shown.flush();
-    output
-        .flush()
-        .context("could not write the commands to standard output")?;
-    match answer {
-        Ok(_) => Ok(0),
-        Err(fault) => {
-            let _ = writeln!(shown, "error: {fault}");
-            if let Some(token) = fault.place() {
-                let _ = writeln!(shown, "{}", Excerpt(&token));
-            }
-            let _ = shown.flush();
-            Ok(fault.status())
-        }
-    }
+    let status = match answer {
+        Ok(_) => 0,
+        Err(fault) => report(&mut shown, &fault),
+    };
+    flushed.context("could not write the commands to standard output")?;
+    Ok(status)
+}
+
+/// Drives the justfile on standard input by the program's words.
+fn run(rt: &HostRuntime) -> Result<u8> {
+    let alloc = rt.alloc();
+    let words = words(rt)?;
+    let sources = read_sources(rt)?;
+    let config = config_here(rt)?;
+    let printing = Printing {
+        output: BufWriter::new(alloc, rt.stdout())?,
+        shown: BufWriter::new(alloc, rt.stderr())?,
+    };
+    drive_words(alloc, &config, &sources, words.as_slice(), printing)
 }
 
 fn main(rt: HostRuntime) -> ExitCode {
