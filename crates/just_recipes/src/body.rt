@@ -9,7 +9,7 @@ ghost use Rattle.just_recipes.specs.RecipeSeen.{blank_line_at, if_taken};
 ghost use Rattle.just_recipes.specs.RecipeReading.{body_at, eol_at, line_at, lines_at, piece_at, pieces_at};
 
 use just_expressions::{Cursor, Fault};
-use just_text::{Expander, TokenKind};
+use just_text::{Expander, TokenKind, both};
 use just_tree::{Fragment, Line};
 use std::alloc::Global;
 
@@ -75,7 +75,7 @@ fn fragment<'src, E: Expander>(
         return Ok(None);
     }
     let expression = cursor.expression(expander)?;
-    cursor.expect(TokenKind::InterpolationEnd)?;
+    let (expression, _end) = both(expression, cursor.expect(TokenKind::InterpolationEnd))?;
     Ok(Some(Fragment::Interpolation { expression }))
 }
 

@@ -170,9 +170,10 @@ pub fn parameters<'src, E: Expander>(
     let mut names = BTreeSet::new(alloc);
     let mut parameters = Vec::new(alloc);
     while let Some(parameter) = parameter(cursor, expander, numerator)? {
-        remember(alloc, &mut names, &parameter.name)?;
+        let name = parameter.name;
         let is_variadic = parameter.kind.is_variadic();
         parameters.push(parameter)?;
+        remember(alloc, &mut names, &name)?;
         if is_variadic {
             check_last(alloc, cursor)?;
             return Ok(parameters);
