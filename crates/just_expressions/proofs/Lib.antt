@@ -1,4 +1,5 @@
 pub mod Taken
+pub mod Together
 pub mod Operators
 pub mod Found
 pub mod Starts

@@ -1,8 +1,8 @@
 //! A parser of expressions by recursive descent, no deeper than their levels.
-ghost use Rattle.std.specs.Prelude.{Err, IfOk, IfSome, List, length, option_map, suc};
+ghost use Rattle.std.specs.Prelude.{Err, IfOk, IfSome, List, length, suc};
 ghost use Rattle.just_text.specs.Tokens.{word_of, lexeme};
 ghost use Rattle.just_text.specs.declared.token.Token.{Token};
-ghost use Rattle.just_tree.specs.Shape.{Shape, shape_of, shapes_of, holes_of};
+ghost use Rattle.just_tree.specs.Shape.{Shape, inner_shape, shape_of, shapes_of, holes_of};
 ghost use Rattle.just_expressions.specs.Literals.{AreCooked, AreHolesCooked, IsCooked};
 ghost use Rattle.just_expressions.specs.Reading.{Fails, Gives, ahead, first, too_deep, elements_at, holes_at, format_at, braces_at, otherwise_at, choice_at, closing_at, message_at, assertion_at, call_at, named_at, bracketed_at, primary_at, operand_at, expression_at};
 
@@ -11,7 +11,7 @@ use crate::fault::Fault;
 use crate::literal::{format_part, is_open, string_literal};
 use crate::node::{assertion, binary, conditional, prefixed};
 use just_strings::{StringKind, StringLiteral};
-use just_text::{CompileErrorKind, Expander, Name, Token, TokenKind};
+use just_text::{CompileErrorKind, Expander, Name, Token, TokenKind, both};
 use just_tree::Expression;
 use std::alloc::Global;
 
@@ -81,6 +81,21 @@ impl<'t, 'src> Cursor<'t, 'src> {
         self.operand(expander, rank, levels - 1)
     }
 
+    // The same in a box, as expressions stand inside of others.
+    #[cycle(expression)]
+    fn boxed<E: Expander>(
+        &mut self,
+        expander: &E,
+        rank: u8,
+        levels: u16,
+    ) -> Result<Box<Expression<'src>>, Fault<'src>>
+        ensures gives { Gives (λ e. (shape_of e.value, ahead self.new)) result (expression_at word_of (E.expansion expander.now) levels rank (ahead self.old)) }
+        ensures cooked { IfOk result (λ e. IsCooked (E.expansion expander.now) e.value) }
+    {
+        let expression = self.ranked(expander, rank, levels)?;
+        Ok(Box::new(self.alloc, expression)?)
+    }
+
     // An operand of that rank, where what it holds has so many levels left.
     #[cycle(expression)]
     #[tactic(auto, unfolding(crate::specs::Reading::operand_at))]
@@ -97,15 +112,16 @@ impl<'t, 'src> Cursor<'t, 'src> {
             return self.primary(expander, levels);
         }
         if let Some((token, prefix)) = self.prefix(rank) {
-            let operand = self.ranked(expander, rank, levels)?;
-            return Ok(prefixed(self.alloc, token, prefix, operand)?);
+            let operand = self.boxed(expander, rank, levels)?;
+            return Ok(prefixed(token, prefix, operand));
         }
         let lhs = self.operand(expander, rank - 1, levels)?;
         let Some((token, operator)) = self.operator(rank) else {
             return Ok(lhs);
         };
-        let rhs = self.ranked(expander, operator.right_rank(), levels)?;
-        Ok(binary(self.alloc, lhs, token, operator, rhs)?)
+        let lhs = Box::new(self.alloc, lhs)?;
+        let rhs = self.boxed(expander, operator.right_rank(), levels)?;
+        Ok(binary(lhs, token, operator, rhs))
     }
 
     #[cycle(expression)]
@@ -146,9 +162,8 @@ impl<'t, 'src> Cursor<'t, 'src> {
         ensures cooked { IfOk result (IsCooked (E.expansion expander.now)) }
     {
         if self.accept(TokenKind::ParenL).is_some() {
-            let contents = self.ranked(expander, WHOLE, levels)?;
+            let contents = self.boxed(expander, WHOLE, levels)?;
             self.expect(TokenKind::ParenR)?;
-            let contents = Box::new(self.alloc, contents)?;
             return Ok(Expression::Group { contents });
         }
         let token = self.expect(TokenKind::BracketL)?;
@@ -209,13 +224,13 @@ impl<'t, 'src> Cursor<'t, 'src> {
         ensures gives { Gives (λ e. (shape_of e, ahead self.new)) result (assertion_at word_of (E.expansion expander.now) (expression_at word_of (E.expansion expander.now) levels) (ahead self.old)) }
         ensures cooked { IfOk result (IsCooked (E.expansion expander.now)) }
     {
-        let condition = self.ranked(expander, WHOLE, levels)?;
+        let condition = self.boxed(expander, WHOLE, levels)?;
         if self.accept(TokenKind::Comma).is_none() {
             self.expect(TokenKind::ParenR)?;
-            return Ok(assertion(self.alloc, name, condition, None)?);
+            return Ok(assertion(name, condition, None));
         }
         let message = self.message(expander, levels)?;
-        Ok(assertion(self.alloc, name, condition, message)?)
+        Ok(assertion(name, condition, message))
     }
 
     // The message of an assertion behind its comma, if there is one, and the end of the call.
@@ -225,14 +240,14 @@ impl<'t, 'src> Cursor<'t, 'src> {
         &mut self,
         expander: &E,
         levels: u16,
-    ) -> Result<Option<Expression<'src>>, Fault<'src>>
-        ensures gives { Gives (λ m. (option_map shape_of m, ahead self.new)) result (message_at word_of (E.expansion expander.now) (expression_at word_of (E.expansion expander.now) levels) (ahead self.old)) }
-        ensures cooked { IfOk result (λ m. IfSome m (IsCooked (E.expansion expander.now))) }
+    ) -> Result<Option<Box<Expression<'src>>>, Fault<'src>>
+        ensures gives { Gives (λ m. (inner_shape m, ahead self.new)) result (message_at word_of (E.expansion expander.now) (expression_at word_of (E.expansion expander.now) levels) (ahead self.old)) }
+        ensures cooked { IfOk result (λ m. IfSome m (λ e. IsCooked (E.expansion expander.now) e.value)) }
     {
         if self.accept(TokenKind::ParenR).is_some() {
             return Ok(None);
         }
-        let message = self.ranked(expander, WHOLE, levels)?;
+        let message = self.boxed(expander, WHOLE, levels)?;
         self.close_call()?;
         Ok(Some(message))
     }
@@ -258,14 +273,14 @@ impl<'t, 'src> Cursor<'t, 'src> {
         ensures gives { Gives (λ e. (shape_of e, ahead self.new)) result (choice_at word_of (E.expansion expander.now) (expression_at word_of (E.expansion expander.now) levels) (ahead self.old)) }
         ensures cooked { IfOk result (IsCooked (E.expansion expander.now)) }
     {
-        let condition = self.ranked(expander, WHOLE, levels)?;
+        let condition = self.boxed(expander, WHOLE, levels)?;
         let then = self.braces(expander, levels)?;
         if !self.is_keyword("else") {
-            return Ok(conditional(self.alloc, condition, then, None)?);
+            return Ok(conditional(condition, then, None));
         }
         self.expect(TokenKind::Identifier)?;
         let otherwise = self.otherwise(expander, levels)?;
-        Ok(conditional(self.alloc, condition, then, Some(otherwise))?)
+        Ok(conditional(condition, then, Some(otherwise)))
     }
 
     #[cycle(expression)]
@@ -274,12 +289,12 @@ impl<'t, 'src> Cursor<'t, 'src> {
         &mut self,
         expander: &E,
         levels: u16,
-    ) -> Result<Expression<'src>, Fault<'src>>
-        ensures gives { Gives (λ e. (shape_of e, ahead self.new)) result (otherwise_at word_of (E.expansion expander.now) (expression_at word_of (E.expansion expander.now) levels) (ahead self.old)) }
-        ensures cooked { IfOk result (IsCooked (E.expansion expander.now)) }
+    ) -> Result<Box<Expression<'src>>, Fault<'src>>
+        ensures gives { Gives (λ e. (shape_of e.value, ahead self.new)) result (otherwise_at word_of (E.expansion expander.now) (expression_at word_of (E.expansion expander.now) levels) (ahead self.old)) }
+        ensures cooked { IfOk result (λ e. IsCooked (E.expansion expander.now) e.value) }
     {
         if self.is_keyword("if") {
-            return self.ranked(expander, PRIMARY, levels);
+            return self.boxed(expander, PRIMARY, levels);
         }
         self.braces(expander, levels)
     }
@@ -290,12 +305,12 @@ impl<'t, 'src> Cursor<'t, 'src> {
         &mut self,
         expander: &E,
         levels: u16,
-    ) -> Result<Expression<'src>, Fault<'src>>
-        ensures gives { Gives (λ e. (shape_of e, ahead self.new)) result (braces_at word_of (E.expansion expander.now) (expression_at word_of (E.expansion expander.now) levels) (ahead self.old)) }
-        ensures cooked { IfOk result (IsCooked (E.expansion expander.now)) }
+    ) -> Result<Box<Expression<'src>>, Fault<'src>>
+        ensures gives { Gives (λ e. (shape_of e.value, ahead self.new)) result (braces_at word_of (E.expansion expander.now) (expression_at word_of (E.expansion expander.now) levels) (ahead self.old)) }
+        ensures cooked { IfOk result (λ e. IsCooked (E.expansion expander.now) e.value) }
     {
         self.expect(TokenKind::BraceL)?;
-        let contents = self.ranked(expander, WHOLE, levels)?;
+        let contents = self.boxed(expander, WHOLE, levels)?;
         self.expect(TokenKind::BraceR)?;
         Ok(contents)
     }
@@ -358,7 +373,7 @@ impl<'t, 'src> Cursor<'t, 'src> {
         let mut holes = Vec::new(self.alloc);
         loop {
             let expression = self.ranked(expander, WHOLE, levels)?;
-            let (part, follows) = self.part(kind)?;
+            let (expression, (part, follows)) = both(expression, self.part(kind))?;
             holes.push((expression, part))?;
             if !follows {
                 return Ok(holes);

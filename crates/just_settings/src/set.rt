@@ -1,17 +1,20 @@
 //! Settings, without their attributes.
-ghost use Rattle.std.specs.Prelude.{[], ◌≡◌, ◌≢◌, IfOk, length, map, suc};
+ghost use Rattle.std.specs.Prelude.{[], ◌≡◌, ◌≢◌, IfOk, Some, length, map, suc};
 ghost use Rattle.just_text.specs.Tokens.{lexeme, word_of};
 ghost use Rattle.just_text.specs.declared.compile_error.CompileErrorKind.TheVariants as kinds;
 ghost use Rattle.just_tree.specs.Settings.{interpreter_shape, set_shape, value_shape};
 ghost use Rattle.just_tree.specs.Shape.{shape_of, written};
 ghost use Rattle.just_expressions.specs.declared.fault.Fault.TheVariants.{OutOfMemory, Refused};
-ghost use Rattle.just_expressions.specs.Literals.{AreCooked, IsCooked};
+ghost use Rattle.just_expressions.specs.Literals.{AreCooked, Expansion, IsCooked};
 ghost use Rattle.just_expressions.specs.Reading.{Gives, ahead};
 ghost use Rattle.just_items.specs.Cooked.{IsCookedString};
+ghost use Rattle.just_recipes.specs.RecipeReading.{eol_at};
+ghost use Rattle.semver.specs.declared.Version.{Version as SemanticVersion};
 ghost use Rattle.semver.specs.Identifiers.{parts_of};
 ghost use Rattle.just_settings.specs.Cooked.{IsCookedInterpreter, IsCookedSetting};
+ghost use Rattle.just_settings.specs.declared.form.Form.TheVariants as forms;
 ghost use Rattle.just_settings.specs.Names.{form_named, setting_name};
-ghost use Rattle.just_settings.specs.Reading.{arguments_at, checked_at, elements_at, flag_at, indentation_fault, interpreter_at, known_at, set_at, string_at, truth_at, value_at, version_fault};
+ghost use Rattle.just_settings.specs.Reading.{arguments_at, checked_at, elements_at, flag_at, indentation_fault, interpreter_at, known_at, set_at, setting_at, string_at, truth_at, value_at, version_fault};
 ghost use Rattle.just_settings.specs.Versions.{is_above};
 
 use crate::form::{Form, form_named};
@@ -20,7 +23,7 @@ use just_attributes::Indentation;
 use just_expressions::{Cursor, Fault};
 use just_recipes::end_of_line;
 use just_strings::StringLiteral;
-use just_text::{CompileError, CompileErrorKind, Expander, Name, Text, Token, TokenKind};
+use just_text::{CompileError, CompileErrorKind, Expander, Name, Text, Token, TokenKind, both};
 use just_tree::{Expression, Interpreter, Set, Setting};
 use semver::Version;
 use std::alloc::{AllocError, Global};
@@ -232,7 +235,7 @@ fn interpreter<'src, E: Expander>(
     cursor.expect(TokenKind::ColonEquals)?;
     cursor.expect(TokenKind::BracketL)?;
     let command = cursor.expression(expander)?;
-    let arguments = arguments(alloc, cursor, expander)?;
+    let (command, arguments) = both(command, arguments(alloc, cursor, expander))?;
     Ok(Interpreter { arguments, command })
 }
 
@@ -244,8 +247,91 @@ fn unknown(alloc: Global, name: &str) -> Result<CompileErrorKind, AllocError>
     Ok(CompileErrorKind::UnknownSetting(name))
 }
 
+/// The setting with that name, whose value is an indentation.
+#[tactic(auto, unfolding(crate::specs::Reading::setting_at))]
+fn set_to_indentation<'src, E: Expander>(
+    alloc: Global,
+    cursor: &mut Cursor<'_, 'src>,
+    expander: &E,
+    name: &str,
+) -> Result<Setting<'src>, Fault<'src>>
+    requires { form_named name.now ≡ Some forms.Indentation }
+    ensures gives { (current : SemanticVersion) → Gives (λ s. (value_shape s, ahead cursor.new)) result (setting_at word_of (E.expansion expander.now) current name.now forms.Indentation (ahead cursor.old)) }
+    ensures cooked { IfOk result (IsCookedSetting (E.expansion expander.now)) }
+    ensures name { IfOk result (λ s. setting_name s ≡ name.now) }
+{
+    let value = indentation(alloc, cursor, expander, name)?;
+    Ok(Setting::Indentation(value))
+}
+
+/// The setting with that name, whose value is an interpreter.
+#[tactic(auto, unfolding(crate::specs::Reading::setting_at))]
+fn set_to_interpreter<'src, E: Expander>(
+    alloc: Global,
+    cursor: &mut Cursor<'_, 'src>,
+    expander: &E,
+    name: &str,
+) -> Result<Setting<'src>, Fault<'src>>
+    requires { form_named name.now ≡ Some forms.Interpreter }
+    ensures gives { (current : SemanticVersion) → Gives (λ s. (value_shape s, ahead cursor.new)) result (setting_at word_of (E.expansion expander.now) current name.now forms.Interpreter (ahead cursor.old)) }
+    ensures cooked { IfOk result (IsCookedSetting (E.expansion expander.now)) }
+    ensures name { IfOk result (λ s. setting_name s ≡ name.now) }
+{
+    let value = interpreter(alloc, cursor, expander)?;
+    Ok(interpreter_setting(name, value))
+}
+
+/// The setting with that name, whose value is a truth value.
+#[tactic(auto, unfolding(crate::specs::Reading::setting_at))]
+fn set_to_truth<'src>(
+    cursor: &mut Cursor<'_, 'src>,
+    name: &str,
+) -> Result<Setting<'src>, Fault<'src>>
+    requires { form_named name.now ≡ Some forms.Truth }
+    ensures gives { (expansion : Expansion) (current : SemanticVersion) → Gives (λ s. (value_shape s, ahead cursor.new)) result (setting_at word_of expansion current name.now forms.Truth (ahead cursor.old)) }
+    ensures cooked { (expansion : Expansion) → IfOk result (IsCookedSetting expansion) }
+    ensures name { IfOk result (λ s. setting_name s ≡ name.now) }
+{
+    let value = flag(cursor)?;
+    Ok(truth_setting(name, value))
+}
+
+/// The setting with that name, whose value is an expression.
+#[tactic(auto, unfolding(crate::specs::Reading::setting_at))]
+fn set_to_value<'src, E: Expander>(
+    cursor: &mut Cursor<'_, 'src>,
+    expander: &E,
+    name: &str,
+) -> Result<Setting<'src>, Fault<'src>>
+    requires { form_named name.now ≡ Some forms.Value }
+    ensures gives { (current : SemanticVersion) → Gives (λ s. (value_shape s, ahead cursor.new)) result (setting_at word_of (E.expansion expander.now) current name.now forms.Value (ahead cursor.old)) }
+    ensures cooked { IfOk result (IsCookedSetting (E.expansion expander.now)) }
+    ensures name { IfOk result (λ s. setting_name s ≡ name.now) }
+{
+    let value = value(cursor, expander)?;
+    Ok(value_setting(name, value))
+}
+
+/// The setting with that name, whose value is a version.
+#[tactic(auto, unfolding(crate::specs::Reading::setting_at))]
+fn set_to_version<'src, E: Expander>(
+    alloc: Global,
+    cursor: &mut Cursor<'_, 'src>,
+    expander: &E,
+    current: &Version,
+    name: &str,
+) -> Result<Setting<'src>, Fault<'src>>
+    requires { form_named name.now ≡ Some forms.Version }
+    ensures gives { Gives (λ s. (value_shape s, ahead cursor.new)) result (setting_at word_of (E.expansion expander.now) current.now name.now forms.Version (ahead cursor.old)) }
+    ensures cooked { IfOk result (IsCookedSetting (E.expansion expander.now)) }
+    ensures name { IfOk result (λ s. setting_name s ≡ name.now) }
+{
+    let value = version(alloc, cursor, expander, current, name)?;
+    Ok(Setting::MinimumVersion(value))
+}
+
 /// The setting with that name and its value.
-#[tactic(auto, unfolding(crate::specs::Reading::known_at, crate::specs::Reading::setting_at))]
+#[tactic(auto, unfolding(crate::specs::Reading::known_at))]
 fn setting<'src, E: Expander>(
     alloc: Global,
     cursor: &mut Cursor<'_, 'src>,
@@ -263,27 +349,21 @@ fn setting<'src, E: Expander>(
         return Err(Fault::Refused(name.token, fault));
     };
     match form {
-        Form::Indentation => {
-            let value = indentation(alloc, cursor, expander, text)?;
-            Ok(Setting::Indentation(value))
-        }
-        Form::Interpreter => {
-            let value = interpreter(alloc, cursor, expander)?;
-            Ok(interpreter_setting(text, value))
-        }
-        Form::Truth => {
-            let value = flag(cursor)?;
-            Ok(truth_setting(text, value))
-        }
-        Form::Value => {
-            let value = value(cursor, expander)?;
-            Ok(value_setting(text, value))
-        }
-        Form::Version => {
-            let value = version(alloc, cursor, expander, current, text)?;
-            Ok(Setting::MinimumVersion(value))
-        }
+        Form::Indentation => set_to_indentation(alloc, cursor, expander, text),
+        Form::Interpreter => set_to_interpreter(alloc, cursor, expander, text),
+        Form::Truth => set_to_truth(cursor, text),
+        Form::Value => set_to_value(cursor, expander, text),
+        Form::Version => set_to_version(alloc, cursor, expander, current, text),
     }
+}
+
+/// What was read, where its line ends here.
+fn ended<'src, T: Drop>(cursor: &mut Cursor<'_, 'src>, read: T) -> Result<T, Fault<'src>>
+    ensures gives { Gives (λ _. ahead cursor.new) result (eol_at word_of (ahead cursor.old)) }
+    ensures same { IfOk result (λ x. x ≡ read) }
+{
+    end_of_line(cursor)?;
+    Ok(read)
 }
 
 /// `set NAME`, perhaps `:=` and a value, and the end of the line, without attributes. A setting is
@@ -307,8 +387,7 @@ pub fn set<'src, E: Expander>(
     cursor.expect(TokenKind::Identifier)?;
     let name = Name::from_token(cursor.expect(TokenKind::Identifier)?);
     let value = setting(alloc, cursor, expander, current, name)?;
-    end_of_line(cursor)?;
-    Ok(Set {
+    ended(cursor, value).map(|value| Set {
         attributes: Vec::new(alloc),
         name,
         value,

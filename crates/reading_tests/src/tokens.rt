@@ -4,7 +4,7 @@ use just_text::{ExpandFault, Expander, Text, Token, TokenKind};
 use std::alloc::{AllocError, Global};
 
 /// Gives each text as it is.
-pub struct Same;
+pub(crate) struct Same;
 
 impl Expander for Same {
     ghost use Rattle.std.specs.Prelude.{Ok};
@@ -18,7 +18,7 @@ impl Expander for Same {
 
 /// The kind of a token with that text, where `↵`, `→`, `←` and `$$` stand for the ends of lines,
 /// indents, dedents and the end of the file.
-pub fn kind_of(text: &str) -> TokenKind {
+pub(crate) fn kind_of(text: &str) -> TokenKind {
     match text {
         "" | "$$" => TokenKind::Eof,
         " " => TokenKind::Whitespace,
@@ -74,7 +74,7 @@ fn kind_by_ends(text: &str) -> TokenKind {
 }
 
 /// The token with that text at that place in the source, if it stands there whole.
-pub fn token<'src>(src: &'src str, offset: usize, text: &str) -> Option<Token<'src>> {
+pub(crate) fn token<'src>(src: &'src str, offset: usize, text: &str) -> Option<Token<'src>> {
     let end = offset.checked_add(text.len())?;
     if !src.is_char_boundary(offset) || !src.is_char_boundary(end) {
         return None;
@@ -91,7 +91,7 @@ pub fn token<'src>(src: &'src str, offset: usize, text: &str) -> Option<Token<'s
 }
 
 /// The tokens of a source, with a space behind each.
-pub fn spaced_tokens(alloc: Global, src: &str) -> Result<Vec<Token<'_>>, AllocError> {
+pub(crate) fn spaced_tokens(alloc: Global, src: &str) -> Result<Vec<Token<'_>>, AllocError> {
     let mut tokens = Vec::new(alloc);
     let mut offset: usize = 0;
     for text in src.split(' ') {

@@ -3,7 +3,7 @@
 use just_text::{Name, Token, TokenKind};
 
 /// The token of a whole text.
-pub fn token(src: &str, kind: TokenKind) -> Token<'_> {
+pub(crate) fn token(src: &str, kind: TokenKind) -> Token<'_> {
     Token {
         column: 0,
         kind,
@@ -16,6 +16,6 @@ pub fn token(src: &str, kind: TokenKind) -> Token<'_> {
 }
 
 /// The name of a whole text.
-pub fn name(src: &str) -> Name<'_> {
+pub(crate) fn name(src: &str) -> Name<'_> {
     Name::from_token(token(src, TokenKind::Identifier))
 }

@@ -3,7 +3,7 @@
 use just_text::{Token, TokenKind};
 
 /// The token of a whole text.
-pub fn token(src: &str, kind: TokenKind) -> Token<'_> {
+pub(crate) fn token(src: &str, kind: TokenKind) -> Token<'_> {
     Token {
         column: 0,
         kind,

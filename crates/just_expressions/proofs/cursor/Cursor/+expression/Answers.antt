@@ -4,6 +4,8 @@ use Rattle.std.proofs.lemmas.Result.{err_from_is_err_and}
 use Rattle.just_text.specs.Tokens.{word_of, lexeme}
 use Rattle.just_text.specs.declared.token_kind.TokenKind.TheVariants.{Comma}
 use Rattle.just_strings.specs.Kinds.{kind_of}
+use Rattle.just_strings.specs.Parts.{cooked_part}
+use Rattle.just_tree.specs.declared.expression.Expression.{Expression}
 use Rattle.just_tree.specs.Shape.{Shape, shape_of, written}
 use Rattle.just_expressions.specs.Literals.{is_open}
 use Rattle.just_expressions.specs.Reading.{ahead, accept, expect, operator_at, prefix_at, part_at, operand_at, expression_at, Fails}
@@ -14,6 +16,7 @@ use Rattle.just_expressions.proofs.Elements.{no_element, no_close, is_last, goes
 use Rattle.just_expressions.proofs.Interpolations.{no_hole, no_part, is_last_hole, more_holes, hole_shorter, one_more_hole_cooked}
 use Rattle.just_expressions.proofs.Formats.{format_closed, format_open, format_fails}
 use Rattle.just_expressions.proofs.Operands.{operand_fails, prefixed_read, left_fails, left_alone, right_fails, both_read}
+use Rattle.just_expressions.proofs.Together.{both_given, second_refused}
 use Rattle.just_expressions.proofs.cursor.Cursor.+expression.Goals as goal
 
 pub bracketed-returns-clause-cooked : goal.bracketed-returns-clause-cooked
@@ -121,41 +124,55 @@ holes-returns-in_err-expression-clause-gives g t c =
     let p = err_from_is_err_and c.from_residual.result c.from_residual.ensures.1 in
     rw (p.1, p.2) (no_hole x c.args.levels c.args.kind l.holes.items l.invariant.0 (ahead l.self) _ l.invariant.1 l.invariant.2 c.in_err-expression.field-0.0 c.in_err-expression.ensures.gives)
 
-pub holes-returns-in_err-part-clause-gives : goal.holes-returns-in_err-part-clause-gives
-holes-returns-in_err-part-clause-gives g t c =
+pub holes-returns-in_err-expression-2-clause-gives : goal.holes-returns-in_err-expression-2-clause-gives
+holes-returns-in_err-expression-2-clause-gives g t c =
     let l = c.loop-holes in
     let x = g.E.Expander.expansion c.args.expander.now in
-    let p = err_from_is_err_and c.from_residual-in_err-part.result c.from_residual-in_err-part.ensures.1 in
-    rw (p.1, p.2) (no_part x c.args.levels c.args.kind l.holes.items l.invariant.0 (ahead l.self) _ l.invariant.1 l.invariant.2 c.in_ok-expression.expression (ahead c.ranked.new.self) c.in_ok-expression.ensures.gives c.in_err-part.field-0.0 c.in_err-part.ensures.gives)
+    let refused = second_refused c.in_ok-expression.expression c.part.result c.in_err-expression-2.field-0.0 c.in_err-expression-2.ensures in
+    let failed : Fails c.in_err-expression-2.field-0.0 (part_at word_of c.args.kind (ahead c.ranked.new.self)) = rw refused at c.part.ensures.gives in
+    let p = err_from_is_err_and c.from_residual-in_err-expression-2.result c.from_residual-in_err-expression-2.ensures.1 in
+    rw (p.1, p.2) (no_part x c.args.levels c.args.kind l.holes.items l.invariant.0 (ahead l.self) _ l.invariant.1 l.invariant.2 c.in_ok-expression.expression (ahead c.ranked.new.self) c.in_ok-expression.ensures.gives c.in_err-expression-2.field-0.0 failed)
 
 pub holes-returns-then-not-follows-clause-gives : goal.holes-returns-then-not-follows-clause-gives
 holes-returns-then-not-follows-clause-gives g t c =
     let l = c.loop-holes in
     let x = g.E.Expander.expansion c.args.expander.now in
-    let last : c.in_ok-part.follows ≡ false = grind arith in
-    let part : part_at word_of c.args.kind (ahead c.ranked.new.self) ≡ Ok ((written c.in_ok-part.part, false), ahead c.part.new.self) = rw last at c.in_ok-part.ensures.gives in
-    let pushed : c.push.new.self.items ≡ l.holes.items ++ (c.in_ok-expression.expression, c.in_ok-part.part) ∷ [] = search rules in
-    rw pushed (is_last_hole x c.args.levels c.args.kind l.holes.items l.invariant.0 (ahead l.self) _ l.invariant.1 l.invariant.2 c.in_ok-expression.expression (ahead c.ranked.new.self) c.in_ok-part.part (ahead c.part.new.self) c.in_ok-expression.ensures.gives part)
+    let given = both_given c.in_ok-expression.expression c.part.result (c.in_ok-expression-2.expression, (c.in_ok-expression-2.part, c.in_ok-expression-2.follows)) c.in_ok-expression-2.ensures in
+    let last : c.in_ok-expression-2.follows ≡ false = grind arith in
+    let any_part : part_at word_of c.args.kind (ahead c.ranked.new.self) ≡ Ok ((written c.in_ok-expression-2.part, c.in_ok-expression-2.follows), ahead c.part.new.self) = rw given.1 at c.part.ensures.gives in
+    let part : part_at word_of c.args.kind (ahead c.ranked.new.self) ≡ Ok ((written c.in_ok-expression-2.part, false), ahead c.part.new.self) = rw last at any_part in
+    let pushed : c.push.new.self.items ≡ l.holes.items ++ (c.in_ok-expression-2.expression, c.in_ok-expression-2.part) ∷ [] = search rules in
+    let hole_pushed = pushed ∙ ap (λ (e : Expression). l.holes.items ++ (e, c.in_ok-expression-2.part) ∷ []) given.0 in
+    rw hole_pushed (is_last_hole x c.args.levels c.args.kind l.holes.items l.invariant.0 (ahead l.self) _ l.invariant.1 l.invariant.2 c.in_ok-expression.expression (ahead c.ranked.new.self) c.in_ok-expression-2.part (ahead c.part.new.self) c.in_ok-expression.ensures.gives part)
 
 pub holes-returns-then-not-follows-clause-cooked : goal.holes-returns-then-not-follows-clause-cooked
 holes-returns-then-not-follows-clause-cooked g t c =
     let l = c.loop-holes in
-    let pushed : c.push.new.self.items ≡ l.holes.items ++ (c.in_ok-expression.expression, c.in_ok-part.part) ∷ [] = search rules in
-    rw pushed (one_more_hole_cooked (g.E.Expander.expansion c.args.expander.now) c.args.kind l.holes.items c.in_ok-expression.expression c.in_ok-part.part l.invariant.3 c.in_ok-expression.ensures.cooked c.in_ok-part.ensures.cooked)
+    let given = both_given c.in_ok-expression.expression c.part.result (c.in_ok-expression-2.expression, (c.in_ok-expression-2.part, c.in_ok-expression-2.follows)) c.in_ok-expression-2.ensures in
+    let part_cooked : cooked_part c.args.kind (written c.in_ok-expression-2.part) ≡ Ok c.in_ok-expression-2.part.cooked = rw given.1 at c.part.ensures.cooked in
+    let pushed : c.push.new.self.items ≡ l.holes.items ++ (c.in_ok-expression-2.expression, c.in_ok-expression-2.part) ∷ [] = search rules in
+    let hole_pushed = pushed ∙ ap (λ (e : Expression). l.holes.items ++ (e, c.in_ok-expression-2.part) ∷ []) given.0 in
+    rw hole_pushed (one_more_hole_cooked (g.E.Expander.expansion c.args.expander.now) c.args.kind l.holes.items c.in_ok-expression.expression c.in_ok-expression-2.part l.invariant.3 c.in_ok-expression.ensures.cooked part_cooked)
 
 pub holes-loop-holes-smaller : goal.holes-loop-holes-smaller
 holes-loop-holes-smaller g t c =
-    hole_shorter (g.E.Expander.expansion c.args.expander.now) c.args.levels c.args.kind c.in_ok-expression.expression (ahead c.loop-holes.self) (ahead c.ranked.new.self) (written c.in_ok-part.part, c.in_ok-part.follows) (ahead c.part.new.self) c.in_ok-expression.ensures.gives c.in_ok-part.ensures.gives
+    let given = both_given c.in_ok-expression.expression c.part.result (c.in_ok-expression-2.expression, (c.in_ok-expression-2.part, c.in_ok-expression-2.follows)) c.in_ok-expression-2.ensures in
+    let part : part_at word_of c.args.kind (ahead c.ranked.new.self) ≡ Ok ((written c.in_ok-expression-2.part, c.in_ok-expression-2.follows), ahead c.part.new.self) = rw given.1 at c.part.ensures.gives in
+    hole_shorter (g.E.Expander.expansion c.args.expander.now) c.args.levels c.args.kind c.in_ok-expression.expression (ahead c.loop-holes.self) (ahead c.ranked.new.self) (written c.in_ok-expression-2.part, c.in_ok-expression-2.follows) (ahead c.part.new.self) c.in_ok-expression.ensures.gives part
 
 pub holes-loop-holes-preserved : goal.holes-loop-holes-preserved
 holes-loop-holes-preserved g t c =
     let l = c.loop-holes in
     let x = g.E.Expander.expansion c.args.expander.now in
-    let more : c.in_ok-part.follows ≡ true = grind arith in
-    let part : part_at word_of c.args.kind (ahead c.ranked.new.self) ≡ Ok ((written c.in_ok-part.part, true), ahead c.part.new.self) = rw more at c.in_ok-part.ensures.gives in
-    let less = hole_shorter x c.args.levels c.args.kind c.in_ok-expression.expression (ahead l.self) (ahead c.ranked.new.self) (written c.in_ok-part.part, true) (ahead c.part.new.self) c.in_ok-expression.ensures.gives part in
-    let pushed : c.push.new.self.items ≡ l.holes.items ++ (c.in_ok-expression.expression, c.in_ok-part.part) ∷ [] = search rules in
-    (l.invariant.0 - 1, omega (arith, less, l.invariant.1), rw pushed (more_holes x c.args.levels c.args.kind l.holes.items l.invariant.0 (ahead l.self) _ l.invariant.1 l.invariant.2 c.in_ok-expression.expression (ahead c.ranked.new.self) c.in_ok-part.part (ahead c.part.new.self) c.in_ok-expression.ensures.gives part), rw pushed (one_more_hole_cooked x c.args.kind l.holes.items c.in_ok-expression.expression c.in_ok-part.part l.invariant.3 c.in_ok-expression.ensures.cooked c.in_ok-part.ensures.cooked))
+    let given = both_given c.in_ok-expression.expression c.part.result (c.in_ok-expression-2.expression, (c.in_ok-expression-2.part, c.in_ok-expression-2.follows)) c.in_ok-expression-2.ensures in
+    let more : c.in_ok-expression-2.follows ≡ true = grind arith in
+    let any_part : part_at word_of c.args.kind (ahead c.ranked.new.self) ≡ Ok ((written c.in_ok-expression-2.part, c.in_ok-expression-2.follows), ahead c.part.new.self) = rw given.1 at c.part.ensures.gives in
+    let part : part_at word_of c.args.kind (ahead c.ranked.new.self) ≡ Ok ((written c.in_ok-expression-2.part, true), ahead c.part.new.self) = rw more at any_part in
+    let part_cooked : cooked_part c.args.kind (written c.in_ok-expression-2.part) ≡ Ok c.in_ok-expression-2.part.cooked = rw given.1 at c.part.ensures.cooked in
+    let less = hole_shorter x c.args.levels c.args.kind c.in_ok-expression.expression (ahead l.self) (ahead c.ranked.new.self) (written c.in_ok-expression-2.part, true) (ahead c.part.new.self) c.in_ok-expression.ensures.gives part in
+    let pushed : c.push.new.self.items ≡ l.holes.items ++ (c.in_ok-expression-2.expression, c.in_ok-expression-2.part) ∷ [] = search rules in
+    let hole_pushed = pushed ∙ ap (λ (e : Expression). l.holes.items ++ (e, c.in_ok-expression-2.part) ∷ []) given.0 in
+    (l.invariant.0 - 1, omega (arith, less, l.invariant.1), rw hole_pushed (more_holes x c.args.levels c.args.kind l.holes.items l.invariant.0 (ahead l.self) _ l.invariant.1 l.invariant.2 c.in_ok-expression.expression (ahead c.ranked.new.self) c.in_ok-expression-2.part (ahead c.part.new.self) c.in_ok-expression.ensures.gives part), rw hole_pushed (one_more_hole_cooked x c.args.kind l.holes.items c.in_ok-expression.expression c.in_ok-expression-2.part l.invariant.3 c.in_ok-expression.ensures.cooked part_cooked))
 
 pub operand-returns-in_err-operand-clause-gives : goal.operand-returns-in_err-operand-clause-gives
 operand-returns-in_err-operand-clause-gives g t c =
@@ -166,8 +183,8 @@ operand-returns-in_err-operand-clause-gives g t c =
 pub operand-returns-in-Some-clause-gives : goal.operand-returns-in-Some-clause-gives
 operand-returns-in-Some-clause-gives g t c =
     let binds : c.args.rank ≢ 0 = omega arith in
-    let read = prefixed_read (g.E.Expander.expansion c.args.expander.now) c.args.levels c.args.rank (ahead c.args.self.now) binds ((c.in-Some.token, prefix_seen c.in-Some.prefix), ahead c.prefix.new.self) c.in-Some.ensures.accepted (shape_of c.in_ok-operand.operand, ahead c.ranked.new.self) c.in_ok-operand.ensures.gives in
-    read ∙ ap (λ (e : Shape). Ok (e, ahead c.ranked.new.self)) (sym c.in_ok-prefixed.ensures.shape)
+    let read = prefixed_read (g.E.Expander.expansion c.args.expander.now) c.args.levels c.args.rank (ahead c.args.self.now) binds ((c.in-Some.token, prefix_seen c.in-Some.prefix), ahead c.prefix.new.self) c.in-Some.ensures.accepted (shape_of c.in_ok-operand.operand.value, ahead c.boxed.new.self) c.in_ok-operand.ensures.gives in
+    read ∙ ap (λ (e : Shape). Ok (e, ahead c.boxed.new.self)) (sym c.prefixed.ensures.shape)
 
 pub operand-returns-in_err-lhs-clause-gives : goal.operand-returns-in_err-lhs-clause-gives
 operand-returns-in_err-lhs-clause-gives g t c =
@@ -208,6 +225,7 @@ operand-returns-clause-gives g t c =
     let alone : prefix_at word_of c.args.rank (ahead c.args.self.now) ≡ None = grind arith in
     let same : ahead c.prefix.new.self ≡ ahead c.args.self.now = grind arith in
     let left : operand_at word_of x (expression_at word_of x c.args.levels) (c.args.rank - 1) (ahead c.args.self.now) ≡ Ok (shape_of c.in_ok-lhs.lhs, ahead c.operand.new.self) = rw same at c.in_ok-lhs.ensures.gives in
-    let right : expression_at word_of x c.args.levels (right_rank (operator_seen c.in-Some-operator.operator)) (ahead c.operator.new.self) ≡ Ok (shape_of c.in_ok-rhs.rhs, ahead c.ranked-2.new.self) = rw c.right_rank.ensures at c.in_ok-rhs.ensures.gives in
-    let read = both_read x c.args.levels c.args.rank (ahead c.args.self.now) binds alone (shape_of c.in_ok-lhs.lhs, ahead c.operand.new.self) left ((c.in-Some-operator.token, operator_seen c.in-Some-operator.operator), ahead c.operator.new.self) c.in-Some-operator.ensures.accepted (shape_of c.in_ok-rhs.rhs, ahead c.ranked-2.new.self) right in
-    read ∙ ap (λ (e : Shape). Ok (e, ahead c.ranked-2.new.self)) (sym c.in_ok-binary.ensures.shape)
+    let right : expression_at word_of x c.args.levels (right_rank (operator_seen c.in-Some-operator.operator)) (ahead c.operator.new.self) ≡ Ok (shape_of c.in_ok-rhs.rhs.value, ahead c.boxed-2.new.self) = rw c.right_rank.ensures at c.in_ok-rhs.ensures.gives in
+    let read = both_read x c.args.levels c.args.rank (ahead c.args.self.now) binds alone (shape_of c.in_ok-lhs.lhs, ahead c.operand.new.self) left ((c.in-Some-operator.token, operator_seen c.in-Some-operator.operator), ahead c.operator.new.self) c.in-Some-operator.ensures.accepted (shape_of c.in_ok-rhs.rhs.value, ahead c.boxed-2.new.self) right in
+    let same_left : c.in_ok-lhs-2.lhs.value ≡ c.in_ok-lhs.lhs = search rules in
+    read ∙ ap (λ (e : Shape). Ok (e, ahead c.boxed-2.new.self)) (sym (rw same_left at c.binary.ensures.shape))

@@ -10,6 +10,9 @@ use Rattle.just_expressions.proofs.cursor.Cursor.+expression.Given as goal
 abbrev pub decreases-ranked : goal.decreases-ranked
 decreases-ranked g l = 1024 * l.levels
 
+abbrev pub decreases-boxed : goal.decreases-boxed
+decreases-boxed g l = 1024 * l.levels + 1
+
 abbrev pub decreases-operand : goal.decreases-operand
 decreases-operand g l = 1024 * l.levels + 500 + l.rank
 
