@@ -10,7 +10,7 @@ use Rattle.just_tree.specs.Shape.{written}
 use Rattle.just_expressions.specs.Literals.{Expansion, text_or_none}
 use Rattle.just_expressions.specs.Strings.{IsCookedString}
 use Rattle.just_attribute_lines.specs.declared.parameter_option.OptionRead.{OptionRead}
-use Rattle.just_attribute_lines.specs.Held.{added, given_shape, may_add, option_shape, IsCookedGiven, IsCookedOption}
+use Rattle.just_attribute_lines.specs.Held.{added, given_shape, may_add, with_given, IsCookedGiven, IsCookedOption}
 use Rattle.just_attribute_lines.specs.Options.{OptionShape, flag, multiple, long, help, max, min, short, value, if_new, if_whole, is_count, is_short, is_whole, options_of, text, with_all, with_option, without_options}
 
 -- what the string stands for is what it holds
@@ -74,19 +74,17 @@ all_first P x xs all = all 0 x (omega arith)
 pub all_others : {X : Type 0} (P : X → Type 0) (x : X) (xs : List X) → All P (x ∷ xs) → All P xs
 all_others P x xs all k d h = all (suc k) d (omega arith)
 
--- an option is there that is not known
-pub stops_unknown : (expansion : Expansion) (o : OptionsShape) (xs : List (Option OptionRead)) (total : Option OptionsShape) → with_all expansion o (map given_shape (None ∷ xs)) ≡ total → None ≡ total
-stops_unknown expansion o xs total h = h
-
--- an option is there that may not be added
-pub stops : (expansion : Expansion) (o : OptionsShape) (p : OptionRead) (xs : List (Option OptionRead)) (total : Option OptionsShape) → with_option expansion o (option_shape p) ≡ None
-    → with_all expansion o (map given_shape (Some p ∷ xs)) ≡ total → None ≡ total
-stops expansion o p xs total none h = rw none at h
+-- an option is there that is not known or may not be added
+pub stops : (expansion : Expansion) (o : OptionsShape) (p : Option OptionRead) (xs : List (Option OptionRead)) (total : Option OptionsShape) → with_given expansion o (given_shape p) ≡ None
+    → with_all expansion o (map given_shape (p ∷ xs)) ≡ total → None ≡ total
+stops expansion o None xs total none h = h
+stops expansion o (Some p) xs total none h = rw none at h
 
 -- an option is added
-pub adds : (expansion : Expansion) (o next : OptionsShape) (p : OptionRead) (xs : List (Option OptionRead)) (total : Option OptionsShape) → with_option expansion o (option_shape p) ≡ Some next
-    → with_all expansion o (map given_shape (Some p ∷ xs)) ≡ total → with_all expansion next (map given_shape xs) ≡ total
-adds expansion o next p xs total some h = rw some at h
+pub adds : (expansion : Expansion) (o next : OptionsShape) (p : Option OptionRead) (xs : List (Option OptionRead)) (total : Option OptionsShape) → with_given expansion o (given_shape p) ≡ Some next
+    → with_all expansion o (map given_shape (p ∷ xs)) ≡ total → with_all expansion next (map given_shape xs) ≡ total
+adds expansion o next None xs total some h = absurd cc
+adds expansion o next (Some p) xs total some h = rw some at h
 
 -- ---- whether they may stand together
 

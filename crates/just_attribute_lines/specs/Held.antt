@@ -20,7 +20,7 @@ use Rattle.just_attribute_lines.specs.declared.arguments.ArgumentsRead.{Argument
 use Rattle.just_attribute_lines.specs.declared.arguments.ArgumentsRead.TheVariants.{Nothing, Strings, Expressions, Parameter}
 use Rattle.just_attribute_lines.specs.declared.parameter_option.OptionRead.{OptionRead}
 use Rattle.just_attribute_lines.specs.declared.parameter_option.OptionRead.TheVariants.{Flag, Multiple, Long, Help, Max, Min, Short, Value}
-use Rattle.just_attribute_lines.specs.Options.{OptionShape, flag, multiple, long, help, max, min, short, value, text, is_count, is_short}
+use Rattle.just_attribute_lines.specs.Options.{OptionShape, flag, multiple, long, help, max, min, short, value, text, is_count, is_short, with_option}
 use Rattle.just_attribute_lines.specs.Arguments.{Sort, of_strings, of_expressions, of_parameter, sort_of, Arguments, nothing, strings, expressions, parameter, count}
 use Rattle.just_attribute_lines.specs.Reading.{arguments_at}
 
@@ -75,6 +75,11 @@ added o (max s) = record o { max = Some s }
 added o (min s) = record o { min = Some s }
 added o (short s) = record o { short = Some s }
 added o (value e) = record o { value = Some e }
+
+-- with that option, if it is known and may be added
+abbrev pub with_given : Expansion → OptionsShape → Option OptionShape → Option OptionsShape
+with_given expansion o None = None
+with_given expansion o (Some p) = with_option expansion o p
 
 -- ---- arguments
 

@@ -6,7 +6,7 @@ ghost use Rattle.just_tree.specs.Shape.{written};
 ghost use Rattle.just_expressions.specs.Literals.{Expansion};
 ghost use Rattle.just_expressions.specs.Strings.{IsCookedString};
 ghost use Rattle.just_attribute_lines.specs.Cooked.{AreCookedOptions, IsCookedName};
-ghost use Rattle.just_attribute_lines.specs.Held.{IsCookedGiven, IsCookedOption, added, given_shape, may_add, option_shape};
+ghost use Rattle.just_attribute_lines.specs.Held.{IsCookedGiven, IsCookedOption, added, given_shape, may_add, option_shape, with_given};
 ghost use Rattle.just_attribute_lines.specs.Options.{is_count, is_digit, is_short, is_whole, options_of, with_all, with_option, without_options};
 
 use crate::parameter_option::OptionRead;
@@ -85,45 +85,32 @@ fn long_name<'src>(name: Option<StringLiteral<'src>>) -> LongName<'src>
     }
 }
 
+/// Puts a value there, in place of what was there.
+fn put<T: Drop>(place: &mut Option<T>, value: T)
+    ensures { place.new ≡ Some value }
+{
+    *place = Some(value);
+}
+
 /// The options with that one.
-fn added<'src>(options: ArgumentOptions<'src>, option: OptionRead<'src>) -> ArgumentOptions<'src>
+fn added<'src>(
+    mut options: ArgumentOptions<'src>,
+    option: OptionRead<'src>,
+) -> ArgumentOptions<'src>
     ensures shape { options_shape result ≡ added (options_shape options.entry) (option_shape option.entry) }
     ensures cooked { (expansion : Expansion) → AreCookedOptions expansion options.entry → IsCookedOption expansion option.entry → AreCookedOptions expansion result }
 {
     match option {
-        OptionRead::Flag => ArgumentOptions {
-            flag: true,
-            ..options
-        },
-        OptionRead::Multiple => ArgumentOptions {
-            multiple: true,
-            ..options
-        },
-        OptionRead::Long(name) => ArgumentOptions {
-            long: long_name(name),
-            ..options
-        },
-        OptionRead::Help(text) => ArgumentOptions {
-            help: Some(text),
-            ..options
-        },
-        OptionRead::Max(text) => ArgumentOptions {
-            max: Some(text),
-            ..options
-        },
-        OptionRead::Min(text) => ArgumentOptions {
-            min: Some(text),
-            ..options
-        },
-        OptionRead::Short(text) => ArgumentOptions {
-            short: Some(text),
-            ..options
-        },
-        OptionRead::Value(value) => ArgumentOptions {
-            value: Some(value),
-            ..options
-        },
+        OptionRead::Flag => options.flag = true,
+        OptionRead::Multiple => options.multiple = true,
+        OptionRead::Long(name) => options.long = long_name(name),
+        OptionRead::Help(text) => put(&mut options.help, text),
+        OptionRead::Max(text) => put(&mut options.max, text),
+        OptionRead::Min(text) => put(&mut options.min, text),
+        OptionRead::Short(text) => put(&mut options.short, text),
+        OptionRead::Value(value) => put(&mut options.value, value),
     }
+    options
 }
 
 /// The options with that one, if it may be added.
@@ -137,7 +124,26 @@ fn with_option<'src>(
     if may_add(&options, &option) {
         Some(added(options, option))
     } else {
+        drop(options);
+        drop(option);
         None
+    }
+}
+
+/// The options with that one, if it is known and may be added.
+fn with_given<'src>(
+    options: ArgumentOptions<'src>,
+    given: Option<OptionRead<'src>>,
+) -> Option<ArgumentOptions<'src>>
+    ensures shape { (expansion : Expansion) → IsCookedGiven expansion given.entry → option_map options_shape result ≡ with_given expansion (options_shape options.entry) (given_shape given.entry) }
+    ensures cooked { (expansion : Expansion) → AreCookedOptions expansion options.entry → IsCookedGiven expansion given.entry → IfSome result (AreCookedOptions expansion) }
+{
+    match given {
+        Some(option) => with_option(options, option),
+        None => {
+            drop(options);
+            None
+        }
     }
 }
 
@@ -151,7 +157,7 @@ fn with_all<'src>(
 {
     let mut options = without_options(name);
     for option in given {
-        options = with_option(options, option?)?;
+        options = with_given(options, option)?;
     }
     Some(options)
 }
@@ -178,6 +184,7 @@ pub(crate) fn options_of<'src>(
     if is_whole(&options) {
         Some(options)
     } else {
+        drop(options);
         None
     }
 }

@@ -15,7 +15,7 @@ use crate::row::is_more;
 use just_attributes::ArgumentForm;
 use just_expressions::{Cursor, Fault};
 use just_strings::StringLiteral;
-use just_text::{Expander, TokenKind};
+use just_text::{Expander, TokenKind, both};
 use just_tree::Expression;
 use std::alloc::Global;
 
@@ -115,18 +115,23 @@ fn inside<'src, E: Expander>(
     match form {
         ArgumentForm::OneString | ArgumentForm::OptionalString | ArgumentForm::Strings => {
             let first = cursor.string(expander)?;
-            let others = strings(alloc, cursor, expander)?;
+            let (first, others) = both(first, strings(alloc, cursor, expander))?;
             Ok(ArgumentsRead::Strings { first, others })
         }
         ArgumentForm::Parameter => {
             let name = cursor.string(expander)?;
-            let options = options(alloc, cursor, expander)?;
+            let (name, options) = both(name, options(alloc, cursor, expander))?;
             Ok(ArgumentsRead::Parameter { name, options })
         }
         _ => {
             let first = cursor.expression(expander)?;
-            let others = expressions(alloc, cursor, expander)?;
-            Ok(ArgumentsRead::Expressions { first, others })
+            match expressions(alloc, cursor, expander) {
+                Ok(others) => Ok(ArgumentsRead::Expressions { first, others }),
+                Err(fault) => {
+                    drop(first);
+                    Err(fault)
+                }
+            }
         }
     }
 }

@@ -20,7 +20,7 @@ use crate::make::made;
 use crate::row::is_another;
 use just_attributes::{ArgumentForm, kind_from_name};
 use just_expressions::{Cursor, Fault};
-use just_text::{CompileErrorKind, Expander, Name, Text, TokenKind};
+use just_text::{CompileErrorKind, Expander, Name, Text, TokenKind, both};
 use just_tree::{ArgumentOptions, Attribute, AttributeKind};
 use std::alloc::{AllocError, Global};
 
@@ -67,11 +67,12 @@ fn counted<'src, E: Expander>(
     let form = ArgumentForm::of(kind);
     let arguments = arguments(alloc, cursor, expander, form)?;
     let count = arguments.count();
-    if !form.takes(count) {
-        let fault = miscounted(alloc, name.lexeme(), count)?;
-        return Err(Fault::Refused(name.token, fault));
+    if form.takes(count) {
+        return Ok(arguments);
     }
-    Ok(arguments)
+    drop(arguments);
+    let fault = miscounted(alloc, name.lexeme(), count)?;
+    Err(Fault::Refused(name.token, fault))
 }
 
 /// What the arguments say of a parameter, if they are those of an `arg`.
@@ -80,10 +81,11 @@ fn parameter_options<'src>(arguments: ArgumentsRead<'src>) -> Option<ArgumentOpt
     ensures cooked { (expansion : Expansion) → IsCookedArguments expansion arguments.entry → IfSome result (AreCookedOptions expansion) }
 {
     match arguments {
-        ArgumentsRead::Nothing
-        | ArgumentsRead::Strings { .. }
-        | ArgumentsRead::Expressions { .. } => None,
         ArgumentsRead::Parameter { name, options } => options_of(name, options),
+        others => {
+            drop(others);
+            None
+        }
     }
 }
 
@@ -120,7 +122,8 @@ fn known<'src, E: Expander>(
 {
     let again = *cursor;
     let arguments = counted(alloc, cursor, expander, name, kind)?;
-    let options = options_again(alloc, again, expander, kind)?;
+    let options = options_again(alloc, again, expander, kind);
+    let (arguments, options) = both(arguments, options)?;
     let attribute = made(kind, arguments);
     Ok(AttributeRead {
         attribute,

@@ -79,7 +79,7 @@ fn unknown<'src, E: Expander>(
     if cursor.accept(TokenKind::Equals).is_none() {
         return Ok(());
     }
-    cursor.expression(expander)?;
+    drop(cursor.expression(expander)?);
     Ok(())
 }
 

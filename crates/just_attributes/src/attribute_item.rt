@@ -22,6 +22,13 @@ pub struct AttributeItem<'src> {
     ghost printed: { arguments ≡ arguments_text (attribute_shape attribute) },
 }
 
+/// Prints the arguments of an attribute, without parentheses.
+fn print_arguments(alloc: Global, attribute: &Attribute) -> Result<Text, AllocError>
+    ensures { IfOk result (λ arguments. arguments ≡ arguments_text (attribute_shape attribute.now)) }
+{
+    Ok(Text::from_string(PrintedArguments(attribute).to_string(alloc)?))
+}
+
 impl<'src> AttributeItem<'src> {
     ghost use Rattle.std.specs.Prelude.{option_map};
     ghost use Rattle.just_attributes.specs.Sets.{group_of};
@@ -34,12 +41,17 @@ impl<'src> AttributeItem<'src> {
     ) -> Result<AttributeItem<'src>, AllocError>
         ensures { IfOk result (λ item. (item.attribute ≡ attribute.entry) × (item.name ≡ name.entry)) }
     {
-        let arguments = Text::from_string(PrintedArguments(&attribute).to_string(alloc)?);
-        Ok(AttributeItem {
-            attribute,
-            name,
-            arguments,
-        })
+        match print_arguments(alloc, &attribute) {
+            Ok(arguments) => Ok(AttributeItem {
+                attribute,
+                name,
+                arguments,
+            }),
+            Err(refused) => {
+                drop(attribute);
+                Err(refused)
+            }
+        }
     }
 
     /// The text of a group.

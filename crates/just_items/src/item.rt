@@ -20,7 +20,7 @@ ghost use Rattle.just_items.specs.Reading.{alias_at, assignment_at, file_at, fun
 
 use crate::kind::is_named_value;
 use just_expressions::{Cursor, Fault};
-use just_recipes::{end_of_line, namepath, next_binding};
+use just_recipes::{end_of_line, ended, namepath, next_binding};
 use just_strings::StringLiteral;
 use just_text::{
     CompileError, CompileErrorKind, Expander, Name, Namepath, Numerator, Text, Token, TokenKind,
@@ -116,7 +116,7 @@ fn value<'src, E: Expander>(
 {
     cursor.expect(TokenKind::ColonEquals)?;
     let value = cursor.expression(expander)?;
-    end_of_line(cursor)?;
+    let value = ended(cursor, value)?;
     Ok(value)
 }
 
@@ -345,15 +345,15 @@ pub fn item<'src, E: Expander>(
     ensures plain { IfOk result IsPlainItem }
     ensures cooked { IfOk result (IsCookedItem (E.expansion expander.now)) }
 {
-    Ok(match kind {
-        ItemKind::Alias => Item::Alias(alias(alloc, cursor)?),
+    match kind {
+        ItemKind::Alias => alias(alloc, cursor).map(Item::Alias),
         ItemKind::Assignment => {
-            Item::Assignment(assignment(alloc, cursor, expander, numerator)?)
+            assignment(alloc, cursor, expander, numerator).map(Item::Assignment)
         }
-        ItemKind::Function => Item::Function(function(alloc, cursor, expander, numerator)?),
-        ItemKind::Import => Item::Import(import(alloc, cursor, expander)?),
-        ItemKind::Module => Item::Module(submodule(alloc, cursor, expander)?),
-        ItemKind::Unexport => Item::Unexport(unexport(cursor)?),
-        _ => return Err(cursor.unexpected()),
-    })
+        ItemKind::Function => function(alloc, cursor, expander, numerator).map(Item::Function),
+        ItemKind::Import => import(alloc, cursor, expander).map(Item::Import),
+        ItemKind::Module => submodule(alloc, cursor, expander).map(Item::Module),
+        ItemKind::Unexport => unexport(cursor).map(Item::Unexport),
+        _ => Err(cursor.unexpected()),
+    }
 }

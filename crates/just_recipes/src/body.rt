@@ -35,6 +35,18 @@ pub fn end_of_line<'src>(cursor: &mut Cursor<'_, 'src>) -> Result<(), Fault<'src
     Err(cursor.unexpected())
 }
 
+/// What was read, where its line ends here as `end_of_line` has it.
+///
+/// `Unexpected` where the line goes on; then what was read is dropped, and it is not said where the
+/// cursor stands.
+pub fn ended<'src, T: Drop>(cursor: &mut Cursor<'_, 'src>, read: T) -> Result<T, Fault<'src>>
+    ensures gives { Gives (λ _. ahead cursor.new) result (eol_at word_of (ahead cursor.old)) }
+    ensures same { IfOk result (λ x. x ≡ read) }
+{
+    end_of_line(cursor)?;
+    Ok(read)
+}
+
 /// Takes a line on which nothing stands but a comment, if it comes here.
 #[tactic(auto, unfolding(crate::specs::RecipeSeen::blank_line_at))]
 fn blank_line(cursor: &mut Cursor) -> bool

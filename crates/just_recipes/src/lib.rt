@@ -9,7 +9,7 @@ mod path;
 pub mod recipe;
 pub mod recipe_law;
 
-pub use body::{BodyRead, end_of_line};
+pub use body::{BodyRead, end_of_line, ended};
 pub use dependency::{dependencies, subsequents};
 pub use numbering::{next_binding, next_recipe};
 pub use parameter::parameters;

@@ -8,7 +8,6 @@ ghost use Rattle.just_expressions.specs.declared.fault.Fault.TheVariants.{OutOfM
 ghost use Rattle.just_expressions.specs.Literals.{AreCooked, Expansion, IsCooked};
 ghost use Rattle.just_expressions.specs.Reading.{Gives, ahead};
 ghost use Rattle.just_items.specs.Cooked.{IsCookedString};
-ghost use Rattle.just_recipes.specs.RecipeReading.{eol_at};
 ghost use Rattle.semver.specs.declared.Version.{Version as SemanticVersion};
 ghost use Rattle.semver.specs.Identifiers.{parts_of};
 ghost use Rattle.just_settings.specs.Cooked.{IsCookedInterpreter, IsCookedSetting};
@@ -21,7 +20,7 @@ use crate::form::{Form, form_named};
 use crate::make::{interpreter_setting, truth_setting, value_setting};
 use just_attributes::Indentation;
 use just_expressions::{Cursor, Fault};
-use just_recipes::end_of_line;
+use just_recipes::ended;
 use just_strings::StringLiteral;
 use just_text::{CompileError, CompileErrorKind, Expander, Name, Text, Token, TokenKind, both};
 use just_tree::{Expression, Interpreter, Set, Setting};
@@ -357,13 +356,17 @@ fn setting<'src, E: Expander>(
     }
 }
 
-/// What was read, where its line ends here.
-fn ended<'src, T: Drop>(cursor: &mut Cursor<'_, 'src>, read: T) -> Result<T, Fault<'src>>
-    ensures gives { Gives (λ _. ahead cursor.new) result (eol_at word_of (ahead cursor.old)) }
-    ensures same { IfOk result (λ x. x ≡ read) }
+/// That setting, without attributes.
+fn plain_set<'src>(alloc: Global, name: Name<'src>, value: Setting<'src>) -> Set<'src>
+    ensures name { result.name ≡ name.entry }
+    ensures value { result.value ≡ value.entry }
+    ensures plain { result.attributes.items ≡ [] }
 {
-    end_of_line(cursor)?;
-    Ok(read)
+    Set {
+        attributes: Vec::new(alloc),
+        name,
+        value,
+    }
 }
 
 /// `set NAME`, perhaps `:=` and a value, and the end of the line, without attributes. A setting is
@@ -387,9 +390,5 @@ pub fn set<'src, E: Expander>(
     cursor.expect(TokenKind::Identifier)?;
     let name = Name::from_token(cursor.expect(TokenKind::Identifier)?);
     let value = setting(alloc, cursor, expander, current, name)?;
-    ended(cursor, value).map(|value| Set {
-        attributes: Vec::new(alloc),
-        name,
-        value,
-    })
+    Ok(plain_set(alloc, name, ended(cursor, value)?))
 }

@@ -10,6 +10,6 @@ pub returns-then-is_whole-clause-shape : goal.returns-then-is_whole-clause-shape
 returns-then-is_whole-clause-shape c = λ x all.
     whole_so x (written c.args.name) (map given_shape c.args.given.items) (options_shape c.in_ok-options.options) (c.in_ok-options.ensures.shape x all) (sym (c.is_whole.ensures x) ∙ c.if-is_whole.true)
 
-pub returns-clause-shape : goal.returns-clause-shape
-returns-clause-shape c = λ x all.
+pub returns-else-is_whole-clause-shape : goal.returns-else-is_whole-clause-shape
+returns-else-is_whole-clause-shape c = λ x all.
     not_whole_so x (written c.args.name) (map given_shape c.args.given.items) (options_shape c.in_ok-options.options) (c.in_ok-options.ensures.shape x all) (sym (c.is_whole.ensures x) ∙ c.if-is_whole.false)

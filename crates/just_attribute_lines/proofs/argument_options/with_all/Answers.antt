@@ -1,28 +1,27 @@
 -- Each turn adds an option.
-use Rattle.std.proofs.Common.{◌≡◌, ◌+◌, suc, List, ◌∷◌, length, map, Option, Some, ap, subst, sym, arith}
+use Rattle.std.proofs.Common.{◌≡◌, ◌+◌, suc, List, ◌∷◌, length, map, Option, None, ap, subst, sym, rules, arith}
 use Rattle.std.specs.List.{All}
 use Rattle.std.specs.Vec.Iter.{into_iter_items, into_iter_len}
 use Rattle.just_tree.specs.Attributes.{options_shape}
 use Rattle.just_tree.specs.Shape.{written}
 use Rattle.just_expressions.specs.Literals.{Expansion}
 use Rattle.just_attribute_lines.specs.declared.parameter_option.OptionRead.{OptionRead}
-use Rattle.just_attribute_lines.specs.Held.{IsCookedGiven, IsCookedOption, given_shape}
+use Rattle.just_attribute_lines.specs.Held.{IsCookedGiven, given_shape}
 use Rattle.just_attribute_lines.specs.Options.{with_all, without_options}
-use Rattle.just_attribute_lines.proofs.Adding.{adds, all_first, all_others}
+use Rattle.just_attribute_lines.proofs.Adding.{adds, stops, all_first, all_others}
 use Rattle.just_attribute_lines.proofs.argument_options.with_all.Goals as goal
 
 pub loop-option-preserved : goal.loop-option-preserved
 loop-option-preserved c =
     let l = c.loop-option in
     let i = l.invariant in
-    let p = c.in_ok-option.field-0 in
+    let p = c.in-Some.option in
     let rest = into_iter_items c.next.new.self in
-    let was : c.in-Some.option ≡ Some p = c.in_ok-option.was in
-    let items : into_iter_items l.option-iterator ≡ Some p ∷ rest = rw was at c.in-Some.ensures.steps.0 in
+    let items : into_iter_items l.option-iterator ≡ p ∷ rest = c.in-Some.ensures.steps.0 in
     let fewer : into_iter_len c.next.new.self + 1 ≡ into_iter_len l.option-iterator = c.in-Some.ensures.steps.1 in
     let more : length (into_iter_items l.option-iterator) ≡ suc (length rest) = ap length items in
-    let all_left : (x : Expansion) → All (IsCookedGiven x) c.args.given.items → All (IsCookedGiven x) (Some p ∷ rest) = λ x all. subst (All (IsCookedGiven x)) items (i.others x all) in
-    let here : (x : Expansion) → All (IsCookedGiven x) c.args.given.items → IsCookedOption x p = λ x all. all_first (IsCookedGiven x) (Some p) rest (all_left x all) in
+    let all_left : (x : Expansion) → All (IsCookedGiven x) c.args.given.items → All (IsCookedGiven x) (p ∷ rest) = λ x all. subst (All (IsCookedGiven x)) items (i.others x all) in
+    let here : (x : Expansion) → All (IsCookedGiven x) c.args.given.items → IsCookedGiven x p = λ x all. all_first (IsCookedGiven x) p rest (all_left x all) in
     record {
       can = tt;
       finite = tt;
@@ -31,5 +30,18 @@ loop-option-preserved c =
           adds x (options_shape l.options) (options_shape c.in_ok-options.options) p rest (with_all x (without_options (written c.args.name)) (map given_shape c.args.given.items)) (sym (c.in_ok-options.ensures.shape x (here x all)))
           (subst (λ (xs : List (Option OptionRead)). with_all x (options_shape l.options) (map given_shape xs) ≡ with_all x (without_options (written c.args.name)) (map given_shape c.args.given.items)) items (i.so_far x all));
       these = λ x name all. c.in_ok-options.ensures.cooked x (i.these x name all) (here x all);
-      others = λ x all. all_others (IsCookedGiven x) (Some p) rest (all_left x all);
+      others = λ x all. all_others (IsCookedGiven x) p rest (all_left x all);
     }
+
+pub returns-in_err-options-clause-shape : goal.returns-in_err-options-clause-shape
+returns-in_err-options-clause-shape c = λ x all.
+    let l = c.loop-option in
+    let i = l.invariant in
+    let p = c.in-Some.option in
+    let rest = into_iter_items c.next.new.self in
+    let items : into_iter_items l.option-iterator ≡ p ∷ rest = c.in-Some.ensures.steps.0 in
+    let here : IsCookedGiven x p = all_first (IsCookedGiven x) p rest (subst (All (IsCookedGiven x)) items (i.others x all)) in
+    let none : c.from_residual.result ≡ None = search rules in
+    rw none
+    (stops x (options_shape l.options) p rest (with_all x (without_options (written c.args.name)) (map given_shape c.args.given.items)) (sym (c.in_err-options.ensures.shape x here))
+    (subst (λ (xs : List (Option OptionRead)). with_all x (options_shape l.options) (map given_shape xs) ≡ with_all x (without_options (written c.args.name)) (map given_shape c.args.given.items)) items (i.so_far x all)))

@@ -1,11 +1,15 @@
 -- What is counted is made an attribute, and its options are those of the second reading.
-use Rattle.std.proofs.Common.{◌∙◌, Ok, Option, sym, ap}
+use Rattle.std.proofs.Common.{◌∙◌, Ok, Option, sym, ap, subst}
+use Rattle.std.specs.Prelude.{IfOk, IfSome}
 use Rattle.std.proofs.lemmas.Result.{err_from_is_err_and}
+use Rattle.just_expressions.proofs.Together.{both_given, second_refused}
 use Rattle.just_text.specs.Tokens.{word_of}
 use Rattle.just_tree.specs.Attributes.{AttributeShape}
 use Rattle.just_expressions.specs.Reading.{ahead}
 use Rattle.just_attribute_lines.specs.Arguments.{made}
-use Rattle.just_attribute_lines.specs.Held.{arguments_shape}
+use Rattle.just_attribute_lines.specs.Held.{GivesOptions, IsCookedArguments, arguments_shape}
+use Rattle.just_attribute_lines.specs.Cooked.{AreCookedOptions}
+use Rattle.just_attribute_lines.specs.declared.arguments.ArgumentsRead.{ArgumentsRead}
 use Rattle.just_attribute_lines.specs.Seen.{options_in}
 use Rattle.just_attribute_lines.proofs.Known.{counted_read, known_so, not_counted, refused_again}
 use Rattle.just_attribute_lines.proofs.attribute.known.Goals as goal
@@ -15,21 +19,25 @@ returns-in_err-arguments-clause-gives g c =
     let p = err_from_is_err_and c.from_residual.result c.from_residual.ensures.1 in
     rw (p.1, p.2) (not_counted (g.E.Expander.expansion c.args.expander.now) c.args.name.token c.args.kind (ahead c.args.cursor.now) c.in_err-arguments.field-0.0 c.in_err-arguments.ensures.gives)
 
-pub returns-in_err-options-clause-gives : goal.returns-in_err-options-clause-gives
-returns-in_err-options-clause-gives g c =
+pub returns-in_err-arguments-2-clause-gives : goal.returns-in_err-arguments-2-clause-gives
+returns-in_err-arguments-2-clause-gives g c =
     let x = g.E.Expander.expansion c.args.expander.now in
     let a = arguments_shape c.in_ok-arguments.arguments in
     let rest = ahead c.counted.new.cursor in
     let read = counted_read x c.args.name.token c.args.kind (ahead c.args.cursor.now) a rest c.in_ok-arguments.ensures.gives in
-    let p = err_from_is_err_and c.from_residual-in_err-options.result c.from_residual-in_err-options.ensures.1 in
-    rw (p.1, p.2) (refused_again (options_in (made x c.args.kind a)) c.in_err-options.field-0.0 _ (c.in_err-options.ensures.gives a rest c.in_ok-arguments.ensures.sort read))
+    let refused = second_refused c.in_ok-arguments.arguments c.options_again-options.result c.in_err-arguments-2.field-0.0 c.in_err-arguments-2.ensures in
+    let gives = subst (λ r. GivesOptions r (options_in (made x c.args.kind a))) refused (c.options_again-options.ensures.gives a rest c.in_ok-arguments.ensures.sort read) in
+    let p = err_from_is_err_and c.from_residual-in_err-arguments-2.result c.from_residual-in_err-arguments-2.ensures.1 in
+    rw (p.1, p.2) (refused_again (options_in (made x c.args.kind a)) c.in_err-arguments-2.field-0.0 _ gives)
 
 pub returns-clause-gives : goal.returns-clause-gives
 returns-clause-gives g c =
     let x = g.E.Expander.expansion c.args.expander.now in
     let rest = ahead c.counted.new.cursor in
+    let given = both_given c.in_ok-arguments.arguments c.options_again-options.result (c.in_ok-arguments-2.arguments, c.in_ok-arguments-2.options) c.in_ok-arguments-2.ensures in
+    let cooked : IsCookedArguments x c.in_ok-arguments-2.arguments = rw given.0 c.in_ok-arguments.ensures.cooked in
     known_so x c.args.name.token c.args.kind (ahead c.args.cursor.now) (arguments_shape c.in_ok-arguments.arguments) rest c.in_ok-arguments.ensures.gives
-    ∙ ap (λ (o : Option AttributeShape). Ok (o, rest)) (sym (c.made-attribute.ensures.shape x c.in_ok-arguments.ensures.cooked))
+    ∙ ap (λ (o : Option AttributeShape). Ok (o, rest)) (ap (λ (r : ArgumentsRead). made x c.args.kind (arguments_shape r)) (sym given.0) ∙ sym (c.made-attribute.ensures.shape x cooked))
 
 pub returns-clause-whole : goal.returns-clause-whole
 returns-clause-whole g c =
@@ -37,8 +45,11 @@ returns-clause-whole g c =
     let a = arguments_shape c.in_ok-arguments.arguments in
     let rest = ahead c.counted.new.cursor in
     let read = counted_read x c.args.name.token c.args.kind (ahead c.args.cursor.now) a rest c.in_ok-arguments.ensures.gives in
+    let given = both_given c.in_ok-arguments.arguments c.options_again-options.result (c.in_ok-arguments-2.arguments, c.in_ok-arguments-2.options) c.in_ok-arguments-2.ensures in
+    let cooked : IsCookedArguments x c.in_ok-arguments-2.arguments = rw given.0 c.in_ok-arguments.ensures.cooked in
+    let gives = subst (λ r. GivesOptions r (options_in (made x c.args.kind a))) given.1 (c.options_again-options.ensures.gives a rest c.in_ok-arguments.ensures.sort read) in
     record {
-      again = c.in_ok-options.ensures.gives a rest c.in_ok-arguments.ensures.sort read ∙ ap options_in (sym (c.made-attribute.ensures.shape x c.in_ok-arguments.ensures.cooked));
-      cooked = c.made-attribute.ensures.cooked x c.in_ok-arguments.ensures.cooked;
-      cooked_options = c.in_ok-options.ensures.cooked;
+      again = gives ∙ ap options_in (ap (λ (r : ArgumentsRead). made x c.args.kind (arguments_shape r)) (sym given.0) ∙ sym (c.made-attribute.ensures.shape x cooked));
+      cooked = c.made-attribute.ensures.cooked x cooked;
+      cooked_options = subst (λ r. IfOk r (λ o. IfSome o (AreCookedOptions x))) given.1 c.options_again-options.ensures.cooked;
     }
