@@ -30,30 +30,53 @@ fn call(alloc: Global) -> Result<Expression<'static>, AllocError> {
     })
 }
 
+/// `x == f(a, b)`
+fn comparison(alloc: Global) -> Result<Box<Expression<'static>>, AllocError> {
+    let lhs = boxed(alloc, "x")?;
+    let rhs = Box::new(alloc, call(alloc)?)?;
+    Ok(Box::new(
+        alloc,
+        Expression::Comparison {
+            lhs,
+            operator: ConditionalOperator::Equality,
+            rhs,
+            token: token("==", TokenKind::Identifier),
+        },
+    )?)
+}
+
+/// `!v`
+fn negation(alloc: Global) -> Result<Box<Expression<'static>>, AllocError> {
+    let operand = boxed(alloc, "v")?;
+    Ok(Box::new(alloc, Expression::Not { operand })?)
+}
+
+/// A conditional without an `else`, or with one.
+fn conditional<'src>(
+    alloc: Global,
+    condition: Box<Expression<'src>>,
+    then: Box<Expression<'src>>,
+    otherwise: Option<Box<Expression<'src>>>,
+) -> Result<Box<Expression<'src>>, AllocError> {
+    Ok(Box::new(
+        alloc,
+        Expression::Conditional {
+            condition,
+            then,
+            otherwise,
+        },
+    )?)
+}
+
 #[test]
 fn prints_a_conditional(rt: HostRuntime) -> Result<(), Fail> {
     let alloc = rt.alloc();
-    let condition = Expression::Comparison {
-        lhs: boxed(alloc, "x")?,
-        operator: ConditionalOperator::Equality,
-        rhs: Box::new(alloc, call(alloc)?)?,
-        token: token("==", TokenKind::Identifier),
-    };
-    let other = Expression::Conditional {
-        condition: boxed(alloc, "y")?,
-        then: boxed(alloc, "z")?,
-        otherwise: None,
-    };
-    let whole = Expression::Conditional {
-        condition: Box::new(alloc, condition)?,
-        then: Box::new(
-            alloc,
-            Expression::Not {
-                operand: boxed(alloc, "v")?,
-            },
-        )?,
-        otherwise: Some(Box::new(alloc, other)?),
-    };
+    let condition = boxed(alloc, "y")?;
+    let then = boxed(alloc, "z")?;
+    let other = conditional(alloc, condition, then, None)?;
+    let condition = comparison(alloc)?;
+    let then = negation(alloc)?;
+    let whole = conditional(alloc, condition, then, Some(other))?;
     let text = whole.to_string(alloc)?;
     assert_eq!(rt; text.as_str(), "if x == f(a, b) { !v } else if y { z }");
     Ok(())
