@@ -1,21 +1,24 @@
 -- What the parser answers, from what its reading gives.
-use Rattle.std.proofs.Common.{◌≡◌, List, [], ◌∷◌, map, Ok, Err, Some, None, refl, sym, ap, ◌∙◌, inl, inr}
-use Rattle.std.specs.List.{IsAmong}
-use Rattle.just_text.specs.Tokens.{Word, word_of, words_of}
+use Rattle.std.proofs.Common.{◌≡◌, List, [], ◌∷◌, Result, Ok, Err, Some, None, refl, sym, ap, ◌∙◌, inl, inr}
+use Rattle.just_text.specs.Tokens.{word_of, words_of}
 use Rattle.just_text.specs.declared.compile_error.CompileError.{CompileError}
-use Rattle.just_text.specs.declared.compile_error.CompileErrorKind.TheVariants.{OutOfMemory}
+use Rattle.just_text.specs.declared.compile_error.CompileErrorKind.{CompileErrorKind}
+use Rattle.just_text.specs.declared.compile_error.CompileErrorKind.TheVariants as kinds
 use Rattle.just_text.specs.declared.token.Token.{Token}
-use Rattle.just_grammar.specs.declared.fault.Fault.{Fault}
-use Rattle.just_grammar.specs.declared.fault.Fault.TheVariants as faults
-use Rattle.just_grammar.specs.Shape.{RecipeShape}
-use Rattle.just_grammar.specs.Words.{is_significant, significant}
-use Rattle.just_grammar.specs.Derives.{Derives}
-use Rattle.just_grammar.specs.Parsed.{RefusalHolds, IsPlaced, AtMostOne}
-use Rattle.just_grammar.specs.Reading.{Fails, Tells, shown, file_at}
-use Rattle.just_grammar.proofs.Taken.{test, ok_is}
-use Rattle.just_grammar.proofs.Found.{file_found}
-use Rattle.just_grammar.proofs.Again.{file_again}
-use Rattle.just_grammar.proofs.Among.{Every, Kept, every_shown, all_among, file}
+use Rattle.just_tree.specs.Files.{ItemShape}
+use Rattle.just_expressions.specs.declared.fault.Fault.{Fault}
+use Rattle.just_expressions.specs.declared.fault.Fault.TheVariants as faults
+use Rattle.just_expressions.specs.Literals.{Expansion}
+use Rattle.just_expressions.specs.Reading.{shown, unexpected, refused}
+use Rattle.just_expressions.specs.Words.{is_significant, significant}
+use Rattle.just_expressions.proofs.Taken.{test}
+use Rattle.just_attributed_items.specs.Halting.{Halt, HaltsUnless, stopped, broken}
+use Rattle.just_grammar.specs.Files.{Derives, Entry, items_in}
+use Rattle.just_grammar.specs.Laws.{FilesExactly}
+use Rattle.just_grammar.specs.Parsed.{HaltsBy, IsHalt, IsReason, IsWant, RefusalHolds}
+use Rattle.just_grammar.specs.Reading.{file_at}
+use Rattle.just_grammar.specs.Told.{IsRefused, Tells, items_read}
+use Rattle.semver.specs.declared.Version.{Version}
 
 shown_words : (ts : List Token) → words_of (shown ts) ≡ significant (words_of ts)
 shown_words [] = refl
@@ -25,38 +28,64 @@ shown_words (t ∷ ts) =
       | inr h ↦ let s = shown_words ts in rw (h, s) refl
     ]
 
-pub derived : (ts : List Token) (shape : List RecipeShape) → file_at word_of (shown ts) ≡ Ok shape → Derives (words_of ts) shape
-derived ts shape h = rw (← (shown_words ts)) (file_found word_of (shown ts) shape h)
+entries_read : (read : Result (List Entry) (Halt Token)) (items : List ItemShape) → items_read read ≡ Ok items → (es : List Entry) × (read ≡ Ok es) × (items ≡ items_in es)
+entries_read (Ok es) items h = (es, refl, let e : items_in es ≡ items = cc in sym e)
+entries_read (Err halt) items h = absurd cc
 
-pub read : (ts : List Token) (shape : List RecipeShape) → Derives (words_of ts) shape → file_at word_of (shown ts) ≡ Ok shape
-read ts shape d = file_again word_of (shown ts) shape (rw (shown_words ts) d)
+halted : (read : Result (List Entry) (Halt Token)) (halt : Halt Token) → items_read read ≡ Err halt → read ≡ Err halt
+halted (Ok es) halt h = absurd cc
+halted (Err other) halt h = let e : other ≡ halt = cc in ap Err e
 
-pub holds : (f : Fault) (ts : List Token) (e : CompileError) → Fails f (file_at word_of (shown ts)) → Tells f ts e → RefusalHolds (words_of ts) e.kind
-holds faults.OutOfMemory ts e h t = rw t tt
-holds (faults.Unexpected (Some token)) ts e h t = rw t.1 (λ shape d. let p = sym h ∙ read ts shape d in absurd cc)
-holds (faults.Unexpected None) ts e h t = rw t.0.1 (λ shape d. let p = sym h ∙ read ts shape d in absurd cc)
+module _ (expansion : Expansion) (current : Version) (law : FilesExactly word_of expansion current) (ts : List Token) where
+  pub derived : (items : List ItemShape) → items_read (file_at word_of expansion current (shown ts)) ≡ Ok items → Derives expansion current (words_of ts) items
+  derived items h =
+      let e = entries_read (file_at word_of expansion current (shown ts)) items h in
+      let f = law.found (shown ts) e.0 e.1 in
+      record { entries = e.0; behind_mark = f.behind_mark; start = rw (shown_words ts) at f.start; stand = f.stand; whole = e.2 }
 
-way_among : (ts : List Token) (token : Token) → file_at word_of (shown ts) ≡ Err (Some token) → IsAmong ts token
-way_among ts token h =
-    let each : Every (IsAmong ts) (shown ts) = every_shown (IsAmong ts) (λ t. is_significant (word_of t)) ts (all_among ts) in
-    let k : Kept (IsAmong ts) (λ _. []) (file_at word_of (shown ts)) = file (IsAmong ts) word_of (shown ts) each in
-    rw h at k
+  pub read : (items : List ItemShape) → Derives expansion current (words_of ts) items → items_read (file_at word_of expansion current (shown ts)) ≡ Ok items
+  read items d =
+      let whole = law.only (shown ts) d.entries (record { behind_mark = d.behind_mark; start = rw (shown_words ts) d.start; stand = d.stand }) in
+      rw whole (ap (λ (is : List ItemShape). Ok is) (sym d.whole))
 
-pub placed : (f : Fault) (ts : List Token) (e : CompileError) → Fails f (file_at word_of (shown ts)) → Tells f ts e → IsPlaced ts e.token e.kind
-placed faults.OutOfMemory ts e h t = rw t tt
-placed (faults.Unexpected (Some token)) ts e h t = rw (t.1, t.0) (λ some. (way_among ts token h, refl))
-placed (faults.Unexpected None) ts e h t = t.1
+  none_derived : (halt : Halt Token) → items_read (file_at word_of expansion current (shown ts)) ≡ Err halt → (items : List ItemShape) → Derives expansion current (words_of ts) items → ⊥
+  none_derived halt h items d = let p = sym h ∙ read items d in absurd cc
 
-pub starved : (f : Fault) (ts : List Token) (e : CompileError) (shape : List RecipeShape) → Fails f (file_at word_of (shown ts)) → Tells f ts e → Derives (words_of ts) shape → e.kind ≡ OutOfMemory
-starved faults.OutOfMemory ts e shape h t d = t
-starved (faults.Unexpected found) ts e shape h t d = let p = sym h ∙ read ts shape d in absurd cc
+  -- a rule that is broken
+  module _ (used : Type 0) (token : Token) (e : CompileError) where
+    holds_refused : (kind : CompileErrorKind) → IsRefused token kind e → ((items : List ItemShape) → Derives expansion current (words_of ts) items → ⊥) → RefusalHolds used expansion current (words_of ts) e.kind
+    holds_refused kinds.NumbersUsed t none = rw t tt
+    holds_refused kinds.OutOfMemory t none = rw t.1 tt
+    holds_refused kind t none = rw t.1 none
 
-same_words : (ws : List Word) → map (λ w. w) ws ≡ ws
-same_words [] = refl
-same_words (w ∷ ws) = ap (λ vs. w ∷ vs) (same_words ws)
+    reason_refused : (kind : CompileErrorKind) → IsRefused token kind e → HaltsBy (file_at word_of expansion current (shown ts)) token kind → IsReason expansion current ts e.token e.kind
+    reason_refused kinds.NumbersUsed t by = rw t tt
+    reason_refused kinds.OutOfMemory t by = rw t.1 tt
+    reason_refused kind t by = rw (t.0, t.1) by
 
-again_words : (ws : List Word) (shape : List RecipeShape) → Derives ws shape → file_at (λ w. w) (significant ws) ≡ Ok shape
-again_words ws shape d = file_again (λ w. w) (significant ws) shape (rw (same_words (significant ws)) d)
+  module _ (used : Type 0) (e : CompileError) where
+    pub starved : (f : Fault) → HaltsUnless used f (items_read (file_at word_of expansion current (shown ts))) → Tells f e → (items : List ItemShape) → Derives expansion current (words_of ts) items → IsWant used e.kind
+    starved faults.OutOfMemory h t items d = rw t tt
+    starved faults.NumbersUsed h t items d = rw t h
+    starved (faults.Unexpected found) h t items d = absurd (none_derived (stopped (unexpected found)) h items d)
+    starved (faults.Refused token kind) (inl h) t items d = absurd (none_derived (stopped (refused token kind)) h items d)
+    starved (faults.Refused token kind) (inr h) t items d = absurd (none_derived (broken kind) h items d)
 
-pub one : AtMostOne
-one words shape other d e = ok_is shape other (sym (again_words words shape d) ∙ again_words words other e)
+    pub holds : (f : Fault) → HaltsUnless used f (items_read (file_at word_of expansion current (shown ts))) → Tells f e → RefusalHolds used expansion current (words_of ts) e.kind
+    holds faults.OutOfMemory h t = rw t tt
+    holds faults.NumbersUsed h t = rw t h
+    holds (faults.Unexpected None) h t = rw t.1 (none_derived (stopped (unexpected None)) h)
+    holds (faults.Unexpected (Some token)) h t = rw t.1 (none_derived (stopped (unexpected (Some token))) h)
+    holds (faults.Refused token kind) (inl h) t = holds_refused used token e kind t (none_derived (stopped (refused token kind)) h)
+    holds (faults.Refused token kind) (inr h) t = holds_refused used token e kind t (none_derived (broken kind) h)
+
+    halts_by : (halt : Halt Token) (token : Token) (kind : CompileErrorKind) → items_read (file_at word_of expansion current (shown ts)) ≡ Err halt → IsHalt halt token kind → HaltsBy (file_at word_of expansion current (shown ts)) token kind
+    halts_by halt token kind h is = let p = halted (file_at word_of expansion current (shown ts)) halt h in rw p is
+
+    pub reason : (f : Fault) → HaltsUnless used f (items_read (file_at word_of expansion current (shown ts))) → Tells f e → IsReason expansion current ts e.token e.kind
+    reason faults.OutOfMemory h t = rw t tt
+    reason faults.NumbersUsed h t = rw t tt
+    reason (faults.Unexpected None) h t = rw t.1 (halts_by (stopped (unexpected None)) e.token (kinds.UnexpectedToken t.0) h (t.0, refl))
+    reason (faults.Unexpected (Some token)) h t = rw (t.0, t.1) (halts_by (stopped (unexpected (Some token))) token (kinds.UnexpectedToken token.kind) h (refl, refl))
+    reason (faults.Refused token kind) (inl h) t = reason_refused used token e kind t (halts_by (stopped (refused token kind)) token kind h (refl, refl))
+    reason (faults.Refused token kind) (inr h) t = reason_refused used token e kind t (halts_by (broken kind) token kind h refl)

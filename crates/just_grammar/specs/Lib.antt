@@ -1,6 +1,8 @@
-pub mod Shape
-pub mod Words
-pub mod Derives
+pub mod Files
 pub mod Reading
+pub mod Features
+pub mod Numbered
 pub mod Parsed
 pub mod Reads
+pub mod Told
+pub mod Laws

@@ -1,31 +1,63 @@
--- What a parser answers.
-use Rattle.std.specs.Prelude.{◌≡◌, ◌<◌, List, length, Result, Ok, Err}
-use Rattle.std.specs.List.{IsAmong}
-use Rattle.just_text.specs.Tokens.{Word}
+-- What a parser of files answers.
+use Rattle.std.specs.Prelude.{◌≡◌, List, Some, None, Result, Ok, Err}
+use Rattle.std.specs.List.{All}
+use Rattle.just_text.specs.Tokens.{Word, word_of}
 use Rattle.just_text.specs.declared.compile_error.CompileError.{CompileError}
 use Rattle.just_text.specs.declared.compile_error.CompileErrorKind.{CompileErrorKind}
-use Rattle.just_text.specs.declared.compile_error.CompileErrorKind.TheVariants.{OutOfMemory, UnexpectedToken}
+use Rattle.just_text.specs.declared.compile_error.CompileErrorKind.TheVariants.{OutOfMemory, NumbersUsed, UnexpectedToken}
 use Rattle.just_text.specs.declared.token.Token.{Token}
-use Rattle.just_grammar.specs.declared.ast.Ast.{Ast}
-use Rattle.just_grammar.specs.Shape.{RecipeShape, shape_of}
-use Rattle.just_grammar.specs.Derives.{Derives}
+use Rattle.just_text.specs.declared.token_kind.TokenKind.{TokenKind}
+use Rattle.just_tree.specs.declared.ast.Ast.{Ast}
+use Rattle.just_tree.specs.Files.{ItemShape, item_shapes}
+use Rattle.just_expressions.specs.Literals.{Expansion}
+use Rattle.just_expressions.specs.Reading.{Stop, unexpected, refused, shown}
+use Rattle.just_attributed_items.specs.Halting.{Halt, stopped, broken}
+use Rattle.just_attributed_items.specs.Held.{IsItemCooked, IsOwnItem}
+use Rattle.just_grammar.specs.Features.{features_of}
+use Rattle.just_grammar.specs.Files.{Derives, Entry}
+use Rattle.just_grammar.specs.Reading.{file_at}
+use Rattle.semver.specs.declared.Version.{Version}
 
--- the tree of that shape, unless memory ran out
-abbrev pub GivesShape : Result Ast CompileError → List RecipeShape → Type 0
-GivesShape (Ok ast) shape = shape_of ast ≡ shape
-GivesShape (Err e) shape = e.kind ≡ OutOfMemory
+-- want of memory, or of numbers where none is left
+abbrev pub IsWant : Type 0 → CompileErrorKind → Type 0
+IsWant used OutOfMemory = Unit {0}
+IsWant used NumbersUsed = used
+IsWant used other = ⊥
 
--- nothing is derived, where memory is not what was lacking
-abbrev pub RefusalHolds : List Word → CompileErrorKind → Type 0
-RefusalHolds words OutOfMemory = Unit {0}
-RefusalHolds words (UnexpectedToken found) = (shape : List RecipeShape) → Derives words shape → ⊥
-RefusalHolds words _ = ⊥
+-- the tree of these items, unless memory or numbers ran out
+abbrev pub GivesItems : Type 0 → Result Ast CompileError → List ItemShape → Type 0
+GivesItems used (Ok ast) items = item_shapes ast.items.items ≡ items
+GivesItems used (Err e) items = IsWant used e.kind
 
--- an unexpected token is one of the tokens, and it is its kind that is told
-abbrev pub IsPlaced : List Token → Token → CompileErrorKind → Type 0
-IsPlaced tokens token (UnexpectedToken found) = 0 < length tokens → IsAmong tokens token × (found ≡ token.kind)
-IsPlaced tokens token _ = Unit {0}
+-- nothing is derived, unless memory or numbers ran out
+abbrev pub RefusalHolds : Type 0 → Expansion → Version → List Word → CompileErrorKind → Type 0
+RefusalHolds used expansion current words OutOfMemory = Unit {0}
+RefusalHolds used expansion current words NumbersUsed = used
+RefusalHolds used expansion current words kind = (items : List ItemShape) → Derives expansion current words items → ⊥
 
--- words derive at most one shape
-abbrev pub AtMostOne : Type 0
-AtMostOne = (words : List Word) (shape other : List RecipeShape) → Derives words shape → Derives words other → shape ≡ other
+-- why reading stops, at which token: one that no rule takes, or one that breaks a rule; where the tokens end, no token is told
+abbrev pub IsStop : Stop Token → Token → CompileErrorKind → Type 0
+IsStop (unexpected None) token kind = (found : TokenKind) × (kind ≡ UnexpectedToken found)
+IsStop (unexpected (Some t)) token kind = (token ≡ t) × (kind ≡ UnexpectedToken t.kind)
+IsStop (refused t k) token kind = (token ≡ t) × (kind ≡ k)
+
+-- why reading halts
+abbrev pub IsHalt : Halt Token → Token → CompileErrorKind → Type 0
+IsHalt (stopped stop) token kind = IsStop stop token kind
+IsHalt (broken k) token kind = kind ≡ k
+
+abbrev pub HaltsBy : Result (List Entry) (Halt Token) → Token → CompileErrorKind → Type 0
+HaltsBy (Ok es) token kind = ⊥
+HaltsBy (Err halt) token kind = IsHalt halt token kind
+
+-- the refusal is that which reading the tokens in order meets first, unless memory or numbers ran out
+abbrev pub IsReason : Expansion → Version → List Token → Token → CompileErrorKind → Type 0
+IsReason expansion current tokens token OutOfMemory = Unit {0}
+IsReason expansion current tokens token NumbersUsed = Unit {0}
+IsReason expansion current tokens token kind = HaltsBy (file_at word_of expansion current (shown tokens)) token kind
+
+-- What a tree holds beside its shape: the texts that its strings stand for, what attributes make of items, and its features.
+pub record IsWhole (expansion : Expansion) (ast : Ast) : Type 0 where
+  pub cooked : All (IsItemCooked expansion) ast.items.items
+  pub own : All (IsOwnItem expansion) ast.items.items
+  pub features : ast.unstable_features.items ≡ features_of (item_shapes ast.items.items)

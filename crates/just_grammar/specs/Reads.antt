@@ -1,34 +1,42 @@
 -- What a text says.
-use Rattle.std.specs.Prelude.{ℕ, List, map}
-use Rattle.just_lexer.specs.Lexes.{Piece, piece_word, Lexes}
+use Rattle.std.specs.Prelude.{ℕ, ◌⊎◌, List, map}
+use Rattle.just_lexer.specs.Lexes.{Piece, piece_word, pieces, Lexes}
 use Rattle.just_lexer.specs.Lexed.{HasFault}
 use Rattle.just_lexer.specs.declared.position.Position.{Position}
+use Rattle.just_text.specs.Tokens.{word_of}
 use Rattle.just_text.specs.declared.compile_error.CompileErrorKind.{CompileErrorKind}
-use Rattle.just_text.specs.declared.compile_error.CompileErrorKind.TheVariants.{OutOfMemory, NumbersUsed, ExtraLeadingWhitespace, UnexpectedToken}
-use Rattle.just_grammar.specs.Shape.{RecipeShape}
-use Rattle.just_grammar.specs.Derives.{Derives}
+use Rattle.just_text.specs.declared.compile_error.CompileErrorKind.TheVariants.{OutOfMemory, NumbersUsed}
+use Rattle.just_text.specs.declared.token.Token.{Token}
+use Rattle.just_tree.specs.Files.{ItemShape}
+use Rattle.just_expressions.specs.Literals.{Expansion}
+use Rattle.just_expressions.specs.Reading.{shown}
+use Rattle.just_grammar.specs.Files.{Derives}
+use Rattle.just_grammar.specs.Parsed.{HaltsBy}
+use Rattle.just_grammar.specs.Reading.{file_at}
+use Rattle.semver.specs.declared.Version.{Version}
 
--- the text says these recipes: its tokens derive them
-pub record Reads (text : List ℕ) (recipes : List RecipeShape) : Type 0 where
-  pub tokens : List Piece
-  pub lexed : Lexes text tokens
-  pub derived : Derives (map piece_word tokens) recipes
+module _ (expansion : Expansion) (current : Version) where
+  -- the text says these items: its tokens derive them
+  pub record Reads (text : List ℕ) (items : List ItemShape) : Type 0 where
+    pub tokens : List Piece
+    pub lexed : Lexes text tokens
+    pub derived : Derives expansion current (map piece_word tokens) items
 
--- the text has tokens, and they derive nothing
-pub record DerivesNothing (text : List ℕ) : Type 0 where
-  pub tokens : List Piece
-  pub lexed : Lexes text tokens
-  pub none : (recipes : List RecipeShape) → Derives (map piece_word tokens) recipes → ⊥
+  -- the text has tokens, and reading them halts for that reason
+  pub record Halts (text : List ℕ) (kind : CompileErrorKind) : Type 0 where
+    pub tokens : List Token
+    pub lexed : Lexes text (pieces tokens)
+    pub token : Token
+    pub halts : HaltsBy (file_at word_of expansion current (shown tokens)) token kind
 
--- the text says nothing, for the reason that the kind says
-abbrev pub IsSyntaxFault : List ℕ → CompileErrorKind → Type 0
-IsSyntaxFault text OutOfMemory = ⊥
-IsSyntaxFault text NumbersUsed = ⊥
-IsSyntaxFault text ExtraLeadingWhitespace = ⊥
-IsSyntaxFault text (UnexpectedToken found) = DerivesNothing text
-IsSyntaxFault text kind = (at : Position) × HasFault text kind at
+  -- the text says nothing, for the reason that the kind says: it has no tokens, or they derive nothing
+  abbrev pub IsSyntaxFault : List ℕ → CompileErrorKind → Type 0
+  IsSyntaxFault text OutOfMemory = ⊥
+  IsSyntaxFault text NumbersUsed = ⊥
+  IsSyntaxFault text kind = ((at : Position) × HasFault text kind at) ⊎ Halts text kind
 
--- the text says nothing, unless memory ran out
-abbrev pub IsRefusal : List ℕ → CompileErrorKind → Type 0
-IsRefusal text OutOfMemory = Unit {0}
-IsRefusal text kind = IsSyntaxFault text kind
+  -- the text is refused for that reason, unless memory or numbers ran out
+  abbrev pub IsRefusal : Type 0 → List ℕ → CompileErrorKind → Type 0
+  IsRefusal used text OutOfMemory = Unit {0}
+  IsRefusal used text NumbersUsed = used
+  IsRefusal used text kind = IsSyntaxFault text kind

@@ -1,9 +1,11 @@
-//! The trees of justfiles and their parser.
+//! The parser of justfiles.
 #![tactic(auto)]
 
-pub mod ast;
-mod fault;
+mod features;
+mod file;
+mod item;
+pub mod law;
 pub mod parser;
+mod refusal;
 
-pub use ast::{Ast, Line, Recipe};
 pub use parser::Parser;

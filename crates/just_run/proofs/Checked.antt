@@ -1,15 +1,15 @@
 -- What the checks of the root file's recipes and of the overrides show.
-use Rattle.std.proofs.Common.{◌≡◌, ℕ, zero, suc, ◌<◌, ◌∷◌, [], Bool, true, false, ◌||◌, List, Some, None, map, length, get_or, refl, sym, subst, ap, ◌∙◌, arith}
+use Rattle.std.proofs.Common.{inl, inr, ◌≡◌, ℕ, zero, suc, ◌<◌, ◌∷◌, [], Bool, true, false, ◌||◌, List, Some, None, map, length, get_or, refl, sym, subst, ap, ◌∙◌, arith}
 use Rattle.std.specs.Prelude.{Contains}
 use Rattle.std.specs.List.{list_any}
 use Rattle.just_text.specs.declared.compile_error.CompileError.{CompileError}
 use Rattle.just_text.specs.declared.compile_error.CompileErrorKind.{CompileErrorKind}
 use Rattle.just_text.specs.declared.compile_error.CompileErrorKind.TheVariants.{OutOfMemory, NumbersUsed, UnknownStartOfToken, UnpairedCarriageReturn, MixedLeadingWhitespace, InconsistentLeadingWhitespace, ExtraLeadingWhitespace, UnexpectedToken, UnexpectedCharacter, UnterminatedString, UnterminatedBacktick, UnterminatedInterpolation, InvalidEscapeSequence, MismatchedClosingDelimiter, UnexpectedClosingDelimiter, ShellExpansion, ParsingRecursionDepthExceeded, BacktickShebang, UnknownSetting, UnknownAttribute, AttributeArgumentCount, InvalidAttribute, DuplicateAttribute, DuplicateParameter, ParameterFollowsVariadic, RequiredParameterFollowsDefault, MinimumVersion, GuardAndInfallible, TwoStars, InvalidSetting}
-use Rattle.just_grammar.specs.Shape.{RecipeShape}
+use Rattle.just_plain.specs.Shape.{RecipeShape}
 use Rattle.just_run.specs.Recipes.{IsRedefined, IsUnknownDependency, IsCircle}
 use Rattle.just_run.specs.Inputs.{Inputs}
-use Rattle.just_run.specs.Rules.{Rule, no_root_for_word, missing_root, syntax, redefinition, unknown_dependency, circular_recipe, unknown_override, unknown_recipe, unknown_module, no_recipes, has_extra, IsRefusedFor, Broken, is_of_words}
-use Rattle.just_run.specs.Drives.{verdict}
+use Rattle.just_run.specs.Rules.{Rule, no_root_for_word, missing_root, syntax, not_yet, redefinition, unknown_dependency, circular_recipe, unknown_override, unknown_recipe, unknown_module, no_recipes, has_extra, IsRefusedFor, Broken, is_of_words}
+use Rattle.just_run.specs.Drives.{syntax_verdict, verdict}
 use Rattle.just_run.specs.Faulted.{by_kind, by_syntax}
 use Rattle.just_run.specs.Stages.{IsTold, IsRead, Stands}
 
@@ -27,20 +27,20 @@ any_mapped f p (x ∷ xs) (suc i) d lt h = or_right (p (f x)) (list_any p (map f
 pub told_extra : (i : Inputs) (recipes : List RecipeShape) (e : CompileError) → e.kind ≡ ExtraLeadingWhitespace → has_extra recipes ≡ true → IsRead i recipes → IsTold i (verdict (by_syntax e))
 told_extra i recipes e is extra read =
     let s = read.says in
-    let P : CompileErrorKind → Type 0 = λ k. IsTold i (verdict (by_kind k e)) in
-    let Q : CompileErrorKind → Type 0 = λ k. Broken i (syntax k) in
-    let broken : Q e.kind = subst Q (sym is) (s.path, s.text, s.rooted, s.there, (recipes, s.reads, extra)) in
-    subst P (sym is) (broken, refl)
+    let P : CompileErrorKind → Type 0 = λ k. IsTold i (syntax_verdict k) in
+    let R : CompileErrorKind → Type 0 = λ k. IsTold i (verdict (by_kind k e)) in
+    subst R (sym is) (subst P (sym is) ((s.path, s.text, s.rooted, s.there, inl (recipes, s.reads, extra)), refl))
 
 none_in : (name : List ℕ) (names : List (List ℕ)) → names ≡ [] → Contains names name → ⊥
 none_in name names e h = let lt : h.0 < length names = h.1 in let n : length names ≡ 0 = ap length e in omega arith
 
 -- the root file is refused for nothing
-text_clear : (i : Inputs) (recipes : List RecipeShape) → IsRead i recipes → has_extra recipes ≡ false → (path text : List ℕ) → i.root ≡ Some path → i.source path ≡ Some text → (kind : CompileErrorKind) → IsRefusedFor text kind → ⊥
-text_clear i recipes read plain path text rooted there ExtraLeadingWhitespace h =
+text_clear : (i : Inputs) (recipes : List RecipeShape) → IsRead i recipes → has_extra recipes ≡ false → (path text : List ℕ) → i.root ≡ Some path → i.source path ≡ Some text → (kind : CompileErrorKind) → IsRefusedFor i.reader text kind → ⊥
+text_clear i recipes read plain path text rooted there ExtraLeadingWhitespace (inl h) =
     let same : recipes ≡ h.0 = read.only h.0 (record { path = path; text = text; rooted = rooted; there = there; reads = h.1 }) in
     let e : has_extra recipes ≡ true = ap has_extra same ∙ h.2 in
     let f : false ≡ true = sym plain ∙ e in cc
+text_clear i recipes read plain path text rooted there ExtraLeadingWhitespace (inr h) = read.clear path text ExtraLeadingWhitespace rooted there h
 text_clear i recipes read plain path text rooted there OutOfMemory h = read.clear path text OutOfMemory rooted there h
 text_clear i recipes read plain path text rooted there NumbersUsed h = read.clear path text NumbersUsed rooted there h
 text_clear i recipes read plain path text rooted there (UnknownStartOfToken c) h = read.clear path text (UnknownStartOfToken c) rooted there h
@@ -85,6 +85,7 @@ module _ (i : Inputs) (recipes : List RecipeShape) (read : IsRead i recipes) (pl
       let g : None ≡ Some read.says.text = sym b.1 ∙ ap i.source f ∙ read.says.there in
       absurd (cc)
   cleared (syntax kind) b = absurd (text_clear i recipes read plain b.0 b.1 b.2 b.3 kind b.4)
+  cleared (not_yet path) b = absurd (read.plain path b.1.0 b.0 b.1.1 b.1.2)
   cleared (redefinition name) b = absurd (no_redefinition name (subst (λ rs. IsRedefined rs name) (sym (read.only b.0 b.1)) b.2))
   cleared (unknown_dependency name dependency) b = absurd (no_unknown name dependency (subst (λ rs. IsUnknownDependency rs name dependency) (sym (read.only b.0 b.1)) b.2))
   cleared (circular_recipe names) b = absurd (no_circle names (subst (λ rs. IsCircle rs names) (sym (read.only b.0 b.1)) b.2))

@@ -7,12 +7,12 @@ use Rattle.std.proofs.lemmas.List.{take_more}
 use Rattle.std.proofs.lemmas.Option.{slice_get_within}
 use Rattle.std.proofs.lemmas.Slice.Eq.{bytes_eq-Decides}
 use Rattle.std.specs.Str.{bytes_eq}
-use Rattle.just_grammar.specs.declared.ast.Recipe.{Recipe}
-use Rattle.just_grammar.specs.Shape.{RecipeShape, recipe_shape, name_text}
+use Rattle.just_plain.specs.declared.ast.Recipe.{Recipe}
+use Rattle.just_plain.specs.Shape.{RecipeShape, recipe_shape, name_text}
 use Rattle.just_run.specs.Recipes.{recipe_named}
 use Rattle.just_run.specs.Order.{PlannedShape, name_at, name_or_empty, IsOrder}
 use Rattle.just_run.specs.Inputs.{Inputs, Says, invoked}
-use Rattle.just_run.specs.Rules.{Rule, no_root_for_word, missing_root, syntax, redefinition, unknown_dependency, circular_recipe, unknown_override, unknown_recipe, unknown_module, no_recipes, Broken}
+use Rattle.just_run.specs.Rules.{Rule, no_root_for_word, missing_root, syntax, not_yet, redefinition, unknown_dependency, circular_recipe, unknown_override, unknown_recipe, unknown_module, no_recipes, Broken}
 use Rattle.just_run.specs.Drives.{Verdict, ran_out, breaks, fails}
 use Rattle.just_run.specs.Stages.{Stands, IsTurnedAway}
 use Rattle.just_run.specs.Invocations.{NoneNamed, IsPlaceOf, IsBadWord, IsFirst, ArePlacesOf, HasBadWord}
@@ -121,6 +121,7 @@ pub default_clear : (i : Inputs) (recipes : List RecipeShape) (order : List Plan
 default_clear i recipes order place none first s (no_root_for_word word) b = let e : false ≡ true = s.clear (no_root_for_word word) b in cc
 default_clear i recipes order place none first s (missing_root path) b = let e : false ≡ true = s.clear (missing_root path) b in cc
 default_clear i recipes order place none first s (syntax kind) b = let e : false ≡ true = s.clear (syntax kind) b in cc
+default_clear i recipes order place none first s (not_yet path) b = let e : false ≡ true = s.clear (not_yet path) b in cc
 default_clear i recipes order place none first s (redefinition name) b = let e : false ≡ true = s.clear (redefinition name) b in cc
 default_clear i recipes order place none first s (unknown_dependency name dependency) b = let e : false ≡ true = s.clear (unknown_dependency name dependency) b in cc
 default_clear i recipes order place none first s (circular_recipe names) b = let e : false ≡ true = s.clear (circular_recipe names) b in cc
@@ -140,6 +141,7 @@ pub named_clear : (i : Inputs) (recipes : List RecipeShape) (order : List Planne
 named_clear i recipes order places is some each s (no_root_for_word word) b = let e : false ≡ true = s.clear (no_root_for_word word) b in cc
 named_clear i recipes order places is some each s (missing_root path) b = let e : false ≡ true = s.clear (missing_root path) b in cc
 named_clear i recipes order places is some each s (syntax kind) b = let e : false ≡ true = s.clear (syntax kind) b in cc
+named_clear i recipes order places is some each s (not_yet path) b = let e : false ≡ true = s.clear (not_yet path) b in cc
 named_clear i recipes order places is some each s (redefinition name) b = let e : false ≡ true = s.clear (redefinition name) b in cc
 named_clear i recipes order places is some each s (unknown_dependency name dependency) b = let e : false ≡ true = s.clear (unknown_dependency name dependency) b in cc
 named_clear i recipes order places is some each s (circular_recipe names) b = let e : false ≡ true = s.clear (circular_recipe names) b in cc
@@ -163,6 +165,7 @@ bad_turned i recipes order word is says there (breaks (unknown_recipe name)) bad
 bad_turned i recipes order word is says there (breaks (no_root_for_word w)) bad = absurd bad
 bad_turned i recipes order word is says there (breaks (missing_root path)) bad = absurd bad
 bad_turned i recipes order word is says there (breaks (syntax kind)) bad = absurd bad
+bad_turned i recipes order word is says there (breaks (not_yet path)) bad = absurd bad
 bad_turned i recipes order word is says there (breaks (redefinition name)) bad = absurd bad
 bad_turned i recipes order word is says there (breaks (unknown_dependency name dependency)) bad = absurd bad
 bad_turned i recipes order word is says there (breaks (circular_recipe names)) bad = absurd bad

@@ -5,7 +5,7 @@ use Rattle.std.specs.List.{All}
 use Rattle.std.proofs.lemmas.Option.{none-some, slice_get_within}
 use Rattle.std.proofs.lemmas.List.{map_push, length_push}
 use Rattle.std.proofs.lemmas.List.Elements.{All-nil, All-push, All-weaker}
-use Rattle.just_grammar.specs.Shape.{RecipeShape}
+use Rattle.just_plain.specs.Shape.{RecipeShape}
 use Rattle.just_run.specs.Recipes.{recipe_named, Walks}
 use Rattle.just_run.specs.Order.{PlannedShape, name_at, name_or_empty}
 use Rattle.just_run.specs.Marked.{IsSet}

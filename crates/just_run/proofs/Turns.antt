@@ -3,7 +3,7 @@ use Rattle.std.proofs.Common.{◌≡◌, sym, ◌∙◌, ap, subst, List, [], �
 use Rattle.std.specs.Prelude.{slice_get, option_map}
 use Rattle.std.proofs.lemmas.Option.{none-some, same_Some, slice_get_within, slice_get-map}
 use Rattle.std.proofs.lemmas.List.{map_push, drop-map, drop-append-le, length-map, length_push}
-use Rattle.just_grammar.specs.Shape.{RecipeShape}
+use Rattle.just_plain.specs.Shape.{RecipeShape}
 use Rattle.just_run.specs.Recipes.{recipe_named, Walks, DependsOn, IsUnknownDependency, IsCircle}
 use Rattle.just_run.specs.Order.{PlannedShape}
 use Rattle.just_run.specs.Marked.{IsSet}

@@ -4,7 +4,7 @@ use Rattle.std.specs.Prelude.{slice_get, Contains}
 use Rattle.std.proofs.lemmas.Option.{slice_get_within, get_or_from_slice_get}
 use Rattle.std.proofs.lemmas.List.{drop_more, drop-append-le, length-drop, length_push}
 use Rattle.std.proofs.lemmas.List.Elements.{Contains-append_right}
-use Rattle.just_grammar.specs.Shape.{RecipeShape}
+use Rattle.just_plain.specs.Shape.{RecipeShape}
 use Rattle.just_run.specs.Recipes.{DependsOn, Walks, IsCircle}
 use Rattle.just_run.specs.Order.{PlannedShape}
 use Rattle.just_run.specs.Search.{FrameShape, IsFrame}

@@ -2,7 +2,7 @@
 use Rattle.std.proofs.Common.{◌≡◌, inl, inr, sym, ◌∙◌, ap, Bool, true, false, List, [], ◌∷◌, ◌++◌, ℕ, zero, suc, ◌+◌, ◌≤◌, Option, Some, None, refl, arith, length, drop}
 use Rattle.std.specs.Prelude.{slice_get}
 use Rattle.std.proofs.lemmas.Option.{none-some, same_Some}
-use Rattle.just_grammar.specs.Shape.{RecipeShape}
+use Rattle.just_plain.specs.Shape.{RecipeShape}
 use Rattle.just_run.specs.Marked.{IsSet}
 use Rattle.just_run.specs.Search.{FrameShape, IsNearer, fresh, passed, is_new, work_at, work_of_new, work_on_stack}
 use Rattle.just_run.specs.declared.marks.Mark.{Mark}

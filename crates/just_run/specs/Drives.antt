@@ -1,10 +1,12 @@
 -- What a call answers.
 use Rattle.std.specs.Prelude.{◌≡◌, List, true, false, Option, Some, None, Result, Ok, Err, map}
-use Rattle.just_grammar.specs.Shape.{RecipeShape, name_text}
+use Rattle.just_plain.specs.Shape.{RecipeShape, name_text}
+use Rattle.just_text.specs.declared.compile_error.CompileErrorKind.{CompileErrorKind}
+use Rattle.just_text.specs.declared.compile_error.CompileErrorKind.TheVariants.{NumbersUsed}
 use Rattle.just_host.specs.Record.{Record}
 use Rattle.just_run.specs.Setup.{Setup}
 use Rattle.just_run.specs.Inputs.{Inputs, Says, invoked}
-use Rattle.just_run.specs.Rules.{Rule, no_root_for_word, missing_root, syntax, redefinition, unknown_dependency, circular_recipe, unknown_override, unknown_recipe, unknown_module, no_recipes, is_of_words, Broken}
+use Rattle.just_run.specs.Rules.{Rule, no_root_for_word, missing_root, syntax, not_yet, redefinition, unknown_dependency, circular_recipe, unknown_override, unknown_recipe, unknown_module, no_recipes, is_of_words, Broken}
 use Rattle.just_run.specs.Goes.{Failure, by_code, by_signal, not_started, Runs}
 use Rattle.just_host.specs.declared.entry.Entry.{Entry}
 use Rattle.just_run.specs.declared.outcome.Outcome.{Outcome}
@@ -12,17 +14,22 @@ use Rattle.just_run.specs.declared.outcome.Outcome.TheVariants.{Ran}
 use Rattle.just_run.specs.declared.fault.Fault.{Fault}
 use Rattle.just_run.specs.declared.fault.Fault.TheVariants as faults
 
--- What a fault says: memory ran out, a rule is broken, or a recipe failed.
+-- What a fault says: memory ran out, or numbers did, a rule is broken, or a recipe failed.
 pub data Verdict : Type 0 where
   ran_out : Verdict
   breaks : Rule → Verdict
   fails : Failure → Verdict
 
+abbrev pub syntax_verdict : CompileErrorKind → Verdict
+syntax_verdict NumbersUsed = ran_out
+syntax_verdict kind = breaks (syntax kind)
+
 abbrev pub verdict : Fault → Verdict
 verdict faults.OutOfMemory = ran_out
 verdict (faults.NoRootForWord word) = breaks (no_root_for_word word)
 verdict (faults.MissingRoot path) = breaks (missing_root path)
-verdict (faults.Syntax error) = breaks (syntax error.kind)
+verdict (faults.Syntax error) = syntax_verdict error.kind
+verdict (faults.NotYet path) = breaks (not_yet path)
 verdict (faults.Redefinition name) = breaks (redefinition (name_text name))
 verdict (faults.UnknownDependency recipe dependency) = breaks (unknown_dependency (name_text recipe) (name_text dependency))
 verdict (faults.CircularRecipe names) = breaks (circular_recipe (map name_text names))

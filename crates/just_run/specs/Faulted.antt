@@ -9,9 +9,9 @@ use Rattle.just_text.specs.declared.name.Name.{Name}
 use Rattle.just_text.specs.declared.compile_error.CompileErrorKind.{CompileErrorKind}
 use Rattle.just_text.specs.declared.compile_error.CompileErrorKind.TheVariants as kinds
 use Rattle.just_text.specs.declared.compile_error.CompileError.{CompileError}
-use Rattle.just_grammar.specs.Shape.{name_text}
+use Rattle.just_plain.specs.Shape.{name_text}
 use Rattle.just_run.specs.declared.fault.Fault.{Fault}
-use Rattle.just_run.specs.declared.fault.Fault.TheVariants.{OutOfMemory, NoRootForWord, MissingRoot, Syntax, Redefinition, UnknownDependency, CircularRecipe, UnknownOverride, UnknownRecipe, UnknownModule, NoRecipes, Code, Signal, CouldNotStart}
+use Rattle.just_run.specs.declared.fault.Fault.TheVariants.{OutOfMemory, NoRootForWord, MissingRoot, Syntax, NotYet, Redefinition, UnknownDependency, CircularRecipe, UnknownOverride, UnknownRecipe, UnknownModule, NoRecipes, Code, Signal, CouldNotStart}
 use Rattle.just_run.specs.declared.order.OrderFault.{OrderFault}
 use Rattle.just_run.specs.declared.order.OrderFault.TheVariants as orders
 use Rattle.just_run.specs.declared.run.RunFault.{RunFault}
@@ -22,6 +22,7 @@ fault_text OutOfMemory = codes "out of memory"
 fault_text (NoRootForWord word) = with_fields (codes "no root for word") (word ∷ [])
 fault_text (MissingRoot path) = with_fields (codes "missing root") (path ∷ [])
 fault_text (Syntax error) = error_text error.kind
+fault_text (NotYet path) = with_fields (codes "not yet") (path ∷ [])
 fault_text (Redefinition name) = with_fields (codes "redefinition") (name_text name ∷ [])
 fault_text (UnknownDependency recipe dependency) = with_fields (codes "unknown dependency") (name_text recipe ∷ name_text dependency ∷ [])
 fault_text (CircularRecipe names) = with_fields (codes "circular recipe") (map name_text names)

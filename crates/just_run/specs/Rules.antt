@@ -1,13 +1,13 @@
 -- The rules that inputs may break.
-use Rattle.std.specs.Prelude.{◌≡◌, ℕ, List, [], Bool, true, false, ◌||◌, ◌==◌, Some, None, map, unwrap_or, codes, Contains, slice_index}
+use Rattle.std.specs.Prelude.{◌≡◌, ◌⊎◌, ℕ, List, [], Bool, true, false, ◌||◌, ◌==◌, Some, None, map, unwrap_or, codes, Contains, slice_index}
 use Rattle.std.specs.List.{list_any}
 use Rattle.std.specs.Str.Iter.{HasSubslice}
 use Rattle.just_text.specs.declared.compile_error.CompileErrorKind.{CompileErrorKind}
 use Rattle.just_text.specs.declared.compile_error.CompileErrorKind.TheVariants.{ExtraLeadingWhitespace}
-use Rattle.just_grammar.specs.Shape.{RecipeShape}
-use Rattle.just_grammar.specs.Reads.{Reads, IsSyntaxFault}
+use Rattle.just_plain.specs.Shape.{RecipeShape}
+use Rattle.just_grammar.specs.Reads.{IsSyntaxFault}
 use Rattle.just_run.specs.Recipes.{recipe_named, IsRedefined, IsUnknownDependency, IsCircle}
-use Rattle.just_run.specs.Inputs.{Inputs, Says}
+use Rattle.just_run.specs.Inputs.{Inputs, IsNotPlain, Reader, ReadsPlain, Says}
 
 -- A rule, with what breaks it.
 pub data Rule : Type 0 where
@@ -17,6 +17,8 @@ pub data Rule : Type 0 where
   missing_root : List ℕ → Rule
   -- the root file says nothing
   syntax : CompileErrorKind → Rule
+  -- the root file says more than plain recipes
+  not_yet : List ℕ → Rule
   redefinition : List ℕ → Rule
   unknown_dependency : List ℕ → List ℕ → Rule
   circular_recipe : List (List ℕ) → Rule
@@ -45,15 +47,17 @@ abbrev pub HasPath : List ℕ → Type 0
 HasPath word = HasSubslice word (codes "::")
 
 -- what a root file's text is refused for
-abbrev pub IsRefusedFor : List ℕ → CompileErrorKind → Type 0
-IsRefusedFor text ExtraLeadingWhitespace = (recipes : List RecipeShape) × Reads text recipes × (has_extra recipes ≡ true)
-IsRefusedFor text kind = IsSyntaxFault text kind
+abbrev pub IsRefusedFor : Reader → List ℕ → CompileErrorKind → Type 0
+IsRefusedFor reader text ExtraLeadingWhitespace =
+    ((recipes : List RecipeShape) × ReadsPlain reader text recipes × (has_extra recipes ≡ true)) ⊎ IsSyntaxFault reader.expansion reader.version text ExtraLeadingWhitespace
+IsRefusedFor reader text kind = IsSyntaxFault reader.expansion reader.version text kind
 
 -- the inputs break the rule
 abbrev pub Broken : Inputs → Rule → Type 0
 Broken i (no_root_for_word word) = (i.root ≡ None) × (word ≡ unwrap_or i.words.search_directory [])
 Broken i (missing_root path) = (i.root ≡ Some path) × (i.source path ≡ None)
-Broken i (syntax kind) = (path text : List ℕ) × (i.root ≡ Some path) × (i.source path ≡ Some text) × IsRefusedFor text kind
+Broken i (syntax kind) = (path text : List ℕ) × (i.root ≡ Some path) × (i.source path ≡ Some text) × IsRefusedFor i.reader text kind
+Broken i (not_yet path) = (i.root ≡ Some path) × ((text : List ℕ) × (i.source path ≡ Some text) × IsNotPlain i.reader text)
 Broken i (redefinition name) = (recipes : List RecipeShape) × Says i recipes × IsRedefined recipes name
 Broken i (unknown_dependency name dependency) = (recipes : List RecipeShape) × Says i recipes × IsUnknownDependency recipes name dependency
 Broken i (circular_recipe names) = (recipes : List RecipeShape) × Says i recipes × IsCircle recipes names

@@ -1,7 +1,7 @@
 -- What a search for an order has found so far.
 use Rattle.std.specs.Prelude.{◌≡◌, ◌<◌, ◌+◌, ℕ, List, [], ◌∷◌, ◌++◌, Bool, true, false, Option, Some, None, map, slice_get, length, drop}
 use Rattle.std.specs.List.{All}
-use Rattle.just_grammar.specs.Shape.{RecipeShape, recipe_shape, name_text}
+use Rattle.just_plain.specs.Shape.{RecipeShape, recipe_shape, name_text}
 use Rattle.just_run.specs.Recipes.{recipe_named, Walks}
 use Rattle.just_run.specs.Order.{PlannedShape, planned_shape, name_at}
 use Rattle.just_run.specs.Marked.{mark_of}

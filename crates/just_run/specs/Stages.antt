@@ -1,9 +1,9 @@
 -- What is known behind each stage of a call.
 use Rattle.std.specs.Prelude.{◌≡◌, ℕ, List, true, false, Some}
 use Rattle.just_text.specs.declared.compile_error.CompileErrorKind.{CompileErrorKind}
-use Rattle.just_grammar.specs.Shape.{RecipeShape}
+use Rattle.just_plain.specs.Shape.{RecipeShape}
 use Rattle.just_grammar.specs.Reads.{IsSyntaxFault}
-use Rattle.just_run.specs.Inputs.{Inputs, Says}
+use Rattle.just_run.specs.Inputs.{Inputs, IsNotPlain, Says}
 use Rattle.just_run.specs.Rules.{Rule, Broken, is_of_words}
 use Rattle.just_run.specs.Drives.{Verdict, ran_out, breaks, fails}
 
@@ -19,11 +19,12 @@ IsTurnedAway i ran_out = Unit {0}
 IsTurnedAway i (breaks broken) = Broken i broken × (is_of_words broken ≡ true)
 IsTurnedAway i (fails f) = ⊥
 
--- the root file says these recipes and no others
+-- the root file says these recipes and no others, and nothing else
 pub record IsRead (i : Inputs) (recipes : List RecipeShape) : Type 0 where
   pub says : Says i recipes
   pub only : (others : List RecipeShape) → Says i others → recipes ≡ others
-  pub clear : (path text : List ℕ) (kind : CompileErrorKind) → i.root ≡ Some path → i.source path ≡ Some text → IsSyntaxFault text kind → ⊥
+  pub clear : (path text : List ℕ) (kind : CompileErrorKind) → i.root ≡ Some path → i.source path ≡ Some text → IsSyntaxFault i.reader.expansion i.reader.version text kind → ⊥
+  pub plain : (path text : List ℕ) → i.root ≡ Some path → i.source path ≡ Some text → IsNotPlain i.reader text → ⊥
 
 -- and only rules of words may be broken
 pub record Stands (i : Inputs) (recipes : List RecipeShape) : Type 0 where

@@ -1,7 +1,7 @@
 //! The whole: from words to a run.
 ghost use Rattle.std.specs.Prelude.{◌≡◌, ◌++◌, List, ℕ, IfErr, IfOk, OnOk, OnErr, map, IfSome};
-ghost use Rattle.just_grammar.specs.Shape.{RecipeShape, shape_of};
-ghost use Rattle.just_run.specs.Inputs.{Inputs, inputs_of};
+ghost use Rattle.just_plain.specs.Shape.{RecipeShape, shape_of};
+ghost use Rattle.just_run.specs.Inputs.{Inputs, inputs_of, reader_of};
 ghost use Rattle.just_run.specs.Rules.{Rule, Broken};
 ghost use Rattle.just_run.specs.Drives.{verdict, NamesBroken, IsRefusal, RunsOf, IfRun};
 ghost use Rattle.just_run.specs.Stages.{IsRead};
@@ -16,10 +16,10 @@ use crate::outcome::{Action, Outcome};
 use crate::output::Out;
 use crate::root::read_root;
 use crate::run::run;
-use just_grammar::Ast;
 use just_host::{Config, Recorded, RunHost};
-use just_text::Expander;
+use just_plain::Ast;
 use just_value::Positional;
+use justfile_syntax::Expander;
 use std::alloc::Global;
 use std::collections::BTreeMap;
 
@@ -51,13 +51,15 @@ fn run_file<'src, H: RunHost + Drop>(
 /// directory.
 ///
 /// A call is refused before anything is asked of the host exactly where a rule is broken: of the
-/// root file, of its recipes, or of the words. Else its record and its answer are a run of the
+/// root file, of its recipes, or of the words; a root file that says more than plain recipes is one,
+/// until the rest can be run. Else its record and its answer are a run of the
 /// recipes that the words name: each after all that it depends on, none twice, up to the first
-/// command that fails. Want of memory alone may come in the place of any answer.
+/// command that fails. Want of memory, or of numbers for recipes and bindings, may come in the place of
+/// any answer, and nothing else.
 pub fn drive<'src, E: Expander, H: RunHost + Drop, O: Out>(
     alloc: Global,
     config: &Config,
-    _expander: &E,
+    expander: &E,
     sources: &'src BTreeMap<String, String>,
     roots: &'src BTreeMap<Option<String>, String>,
     words: &[String],
@@ -66,11 +68,11 @@ pub fn drive<'src, E: Expander, H: RunHost + Drop, O: Out>(
     _out: &mut O,
 ) -> Result<Outcome, Fault<'src>>
     // A rule that is named is broken, a rule of words only where no other is, and then nothing was asked.
-    ensures refused { IfErr result (λ fault. NamesBroken (inputs_of sources.now roots.now words.now) (verdict fault) host.old host.new) }
+    ensures refused { IfErr result (λ fault. NamesBroken (inputs_of (reader_of (E.expansion expander.now) config.now.version) sources.now roots.now words.now) (verdict fault) host.old host.new) }
     // Where a rule is broken, a rule is named, unless memory ran out.
-    ensures complete { (rule : Rule) → Broken (inputs_of sources.now roots.now words.now) rule → IsRefusal result }
+    ensures complete { (rule : Rule) → Broken (inputs_of (reader_of (E.expansion expander.now) config.now.version) sources.now roots.now words.now) rule → IsRefusal result }
     // Otherwise record and answer are a run of what the words name, which enters no recipe twice.
-    ensures goes { IfRun host.new result (RunsOf (inputs_of sources.now roots.now words.now) (setup_of config.now) host.old.entries host.new.entries) }
+    ensures goes { IfRun host.new result (RunsOf (inputs_of (reader_of (E.expansion expander.now) config.now.version) sources.now roots.now words.now) (setup_of config.now) host.old.entries host.new.entries) }
     // The record has exactly what was asked, however the call ended.
     ensures followed { (piece : List Entry) × Follows H.goes host.old piece host.new }
     // Nothing is written.
@@ -79,7 +81,7 @@ pub fn drive<'src, E: Expander, H: RunHost + Drop, O: Out>(
 {
     let Action::Run = action;
     let words = Positional::from_values(alloc, words)?;
-    let ast = read_root(alloc, sources, roots, &words)?;
+    let ast = read_root(alloc, &words, sources, roots, expander, &config.version)?;
     run_file(alloc, config, &ast, &words, host)
 }
 

@@ -3,7 +3,7 @@ ghost use Rattle.std.specs.Prelude.{◌≡◌, Some};
 
 use crate::order::OrderFault;
 use crate::run::RunFault;
-use just_text::{CompileError, CompileErrorKind, Name, Sequence, Text, Token};
+use justfile_syntax::{CompileError, CompileErrorKind, Name, Sequence, Text, Token};
 use std::alloc::{AllocError, AllocFailed};
 use std::fmt;
 
@@ -17,8 +17,10 @@ pub enum Fault<'src> {
     NoRootForWord(Text),
     /// There is no text at this path of the root file.
     MissingRoot(Text),
-    /// The root file is no justfile.
+    /// The root file is no justfile, or no number is left for what it says.
     Syntax(CompileError<'src>),
+    /// The root file at this path is a justfile, but has more than plain recipes, which can't be run yet.
+    NotYet(Text),
     /// A second recipe has this name.
     Redefinition(Name<'src>),
     /// A recipe depends on a name that is no recipe's.
@@ -80,7 +82,7 @@ struct TickedNames<'a, 'src>(&'a [Name<'src>]);
 
 impl fmt::Display for TickedNames<'_, '_> {
     ghost use Rattle.std.specs.Prelude.{map};
-    ghost use Rattle.just_grammar.specs.Shape.{name_text};
+    ghost use Rattle.just_plain.specs.Shape.{name_text};
     ghost use Rattle.just_text.specs.Fields.{ticked_list};
 
     ghost output = { λ t. Some (ticked_list (map name_text t.0.now)) };
@@ -109,6 +111,7 @@ impl fmt::Display for Fault<'_> {
             Fault::NoRootForWord(word) => write!(f, "no root for word: `{word}`"),
             Fault::MissingRoot(path) => write!(f, "missing root: `{path}`"),
             Fault::Syntax(error) => write!(f, "{error}"),
+            Fault::NotYet(path) => write!(f, "not yet: `{path}`"),
             Fault::Redefinition(name) => write!(f, "redefinition: `{name}`"),
             Fault::UnknownDependency { recipe, dependency } => {
                 write!(f, "unknown dependency: `{recipe}`, `{dependency}`")

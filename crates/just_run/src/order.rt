@@ -3,8 +3,8 @@ ghost use Rattle.std.specs.Prelude.{◌≡◌, map, List, ℕ, slice_get, MatchO
 
 use crate::marks::{Mark, Marks};
 use crate::search::{Search, list};
-use just_grammar::Recipe;
-use just_text::{Name, Sequence};
+use just_plain::Recipe;
+use justfile_syntax::{Name, Sequence};
 use std::alloc::{AllocError, AllocFailed, Global};
 use std::marker::Model;
 
@@ -74,7 +74,7 @@ impl<'a, 'src> Model for Order<'a, 'src> {
 impl<'a, 'src> Order<'a, 'src> {
     ghost use Rattle.just_run.specs.Order.{PlannedShape, planned_shape, IsOrder, IsBrokenOrder};
     ghost use Rattle.just_run.specs.Recipes.{IsRedefined, IsUnknownDependency, IsCircle};
-    ghost use Rattle.just_grammar.specs.Shape.{recipe_shape};
+    ghost use Rattle.just_plain.specs.Shape.{recipe_shape};
 
     /// Puts recipes that are given in the order of their file into an order in which each dependency
     /// comes earlier. The turns of the search are at most in proportion to the recipes and their

@@ -1,17 +1,21 @@
 //! The root file: where it is, and what it says.
 ghost use Rattle.std.specs.Prelude.{◌≡◌, IfErr, IfOk, Some, None, unwrap_or, []};
-ghost use Rattle.just_grammar.specs.Shape.{shape_of};
-ghost use Rattle.just_run.specs.Inputs.{root_at, text_at, given};
+ghost use Rattle.just_plain.specs.Shape.{shape_of};
+ghost use Rattle.just_tree.specs.Files.{item_shapes};
+ghost use Rattle.just_plain.specs.Plain.{plain_of};
+ghost use Rattle.just_run.specs.Inputs.{root_at, text_at, given, reader_of};
 ghost use Rattle.just_run.specs.Drives.{verdict};
 ghost use Rattle.just_run.specs.Stages.{IsTold, IsRead};
-ghost use Rattle.just_run.specs.Rooted.{IsRootless, IsMissing};
+ghost use Rattle.just_run.specs.Rooted.{IsRootless, IsMissing, IsOther};
 ghost use Rattle.std.specs.Option.{option_map};
 ghost use Rattle.std.specs.String.{string_bytes};
 
 use crate::fault::Fault;
-use just_grammar::{Ast, Parser};
-use just_text::Text;
-use just_value::Positional;
+use just_grammar::law::law;
+use just_plain::{Ast, plain};
+use just_value::{CONSTANT_COUNT, Positional};
+use justfile_syntax::{Expander, Item, Numerator, Parser, Text};
+use semver::Version;
 use std::alloc::{AllocError, Global};
 use std::collections::BTreeMap;
 
@@ -66,17 +70,37 @@ fn find_text<'src>(
     }
 }
 
-/// Reads the root file.
-pub(crate) fn read_root<'src>(
+/// The plain recipes of the file with these items, where it says nothing else.
+fn plain_root<'src>(
     alloc: Global,
+    items: &[Item<'src>],
+    path: &'src str,
+) -> Result<Ast<'src>, Fault<'src>>
+    ensures ok { IfOk result (λ ast. plain_of (item_shapes items.now) ≡ Some (shape_of ast)) }
+    ensures err { IfErr result (λ fault. IsOther path.now (plain_of (item_shapes items.now)) (verdict fault)) }
+{
+    match plain(alloc, items)? {
+        Some(ast) => Ok(ast),
+        None => Err(Fault::NotYet(Text::from_text(alloc, path)?)),
+    }
+}
+
+/// Reads the root file. The constants' numbers come before its own.
+pub(crate) fn read_root<'src, E: Expander>(
+    alloc: Global,
+    words: &Positional,
     sources: &'src BTreeMap<String, String>,
     roots: &'src BTreeMap<Option<String>, String>,
-    words: &Positional,
+    expander: &E,
+    version: &Version,
 ) -> Result<Ast<'src>, Fault<'src>>
-    ensures ok { IfOk result (λ ast. IsRead (given sources.now roots.now words.now) (shape_of ast)) }
-    ensures err { IfErr result (λ fault. IsTold (given sources.now roots.now words.now) (verdict fault)) }
+    ensures ok { IfOk result (λ ast. IsRead (given (reader_of (E.expansion expander.now) version.now) sources.now roots.now words.now) (shape_of ast)) }
+    ensures err { IfErr result (λ fault. IsTold (given (reader_of (E.expansion expander.now) version.now) sources.now roots.now words.now) (verdict fault)) }
 {
+    law();
     let path = find_root(alloc, roots, &words.search_directory)?;
     let text = find_text(alloc, sources, path)?;
-    Ok(Parser::parse_source(alloc, path, text)?)
+    let mut numerator = Numerator::new(CONSTANT_COUNT);
+    let file = Parser::parse_source(alloc, path, text, expander, version, &mut numerator)?;
+    plain_root(alloc, file.items.as_slice(), path)
 }

@@ -1,14 +1,14 @@
 //! A search for an order of recipes.
 ghost use Rattle.std.specs.Prelude.{◌≡◌, ◌<◌, ◌≤◌, ◌+◌, ◌++◌, ◌∷◌, [], drop, map, length, slice_get, Some, None, OnOk, IfOk, IfErr};
-ghost use Rattle.just_grammar.specs.Shape.{recipe_shape, name_text};
+ghost use Rattle.just_plain.specs.Shape.{recipe_shape, name_text};
 ghost use Rattle.just_run.specs.Marked.{mark_of, IsSet};
 ghost use Rattle.just_run.specs.Order.{IsBrokenOrder};
 ghost use Rattle.just_run.specs.Search.{AreListed, Searches, IsSearch, IsNearer, AreLookedAt, frame_shape, frame_name, fresh, closed, passed, stack_of, order_of};
 
 use crate::marks::{Mark, Marks};
 use crate::order::{OrderFault, Planned};
-use just_grammar::Recipe;
-use just_text::{Name, Sequence};
+use just_plain::Recipe;
+use justfile_syntax::{Name, Sequence};
 use std::alloc::{AllocError, Global};
 
 /// A recipe that waits for what it depends on: the dependencies that are still to look at, and the

@@ -1,16 +1,17 @@
-//! What stands for a text behind `x`: nothing, since no justfile of today has such texts.
-ghost use Rattle.std.specs.Prelude.{Err};
+//! What stands for a text behind `x`: the text itself. A justfile that has such strings can't be run
+//! yet, and is refused for that.
+ghost use Rattle.std.specs.Prelude.{Ok};
 
-use just_text::{ExpandFault, Expander, Text};
+use justfile_syntax::{ExpandFault, Expander, Text};
 use std::alloc::Global;
 
-/// Refuses each text.
-pub struct NoExpansion;
+/// Gives each text as it is.
+pub struct Unexpanded;
 
-impl Expander for NoExpansion {
-    ghost expansion = { λ _ text. Err text };
+impl Expander for Unexpanded {
+    ghost expansion = { λ _ text. Ok text };
 
     fn expand(&self, alloc: Global, text: &str) -> Result<Text, ExpandFault> {
-        Err(ExpandFault::Refused(Text::from_text(alloc, text)?))
+        Ok(Text::from_text(alloc, text)?)
     }
 }

@@ -3,7 +3,7 @@ use just_run::{
     Answer, CommandJob, Confirmation, DotenvRequest, Host, HostFault, Pair, Question, RunHost,
     ScriptJob, Status,
 };
-use just_text::Sequence;
+use justfile_syntax::Sequence;
 use std::io::Write;
 
 /// Prints each command as a line, and answers that it ended with code 0; it shows texts beside them.

@@ -5,13 +5,13 @@ mod expander;
 mod host;
 mod input;
 
-use crate::expander::NoExpansion;
+use crate::expander::Unexpanded;
 use crate::host::Printing;
 use crate::input::read_justfile;
 use anyhow::{Context, Result};
 use just_excerpt::Excerpt;
 use just_run::{Action, Collected, Config, Fault, Recorded, drive};
-use just_text::Os;
+use justfile_syntax::Os;
 use semver::Version;
 use std::alloc::Global;
 use std::collections::BTreeMap;
@@ -100,7 +100,7 @@ fn drive_words<W: Write + Drop, V: Write + Drop>(
     let answer = drive(
         alloc,
         config,
-        &NoExpansion,
+        &Unexpanded,
         sources,
         &roots,
         words,

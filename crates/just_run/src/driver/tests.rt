@@ -5,7 +5,7 @@ use just_host::{
     Answer, CommandJob, Confirmation, DotenvRequest, Entry, Host, HostFault, Pair, Question,
     ScriptJob, Status,
 };
-use just_text::{ExpandFault, Os, Sequence, Text};
+use justfile_syntax::{ExpandFault, Os, Sequence, Text};
 use semver::Version;
 use std::alloc::AllocError;
 use std::process::Abort;
@@ -400,16 +400,75 @@ fn faults_of_the_text_are_named(rt: HostRuntime) -> Result<(), Fail> {
     tells(
         &rt,
         rt.alloc(),
-        "a b:\n",
+        "a b\n",
         [].as_slice(),
-        "unexpected token: `identifier` (1)",
+        "unexpected token: `end of line` (1)",
     )?;
     tells(
         &rt,
         rt.alloc(),
-        "a:\n  @b\n",
+        "x := 'a' == 'b' == 'c'\na:\n",
         [].as_slice(),
-        "unexpected token: `command text` (1)",
+        "unexpected token: `'=='` (1)",
+    )
+}
+
+#[test]
+fn rules_of_settings_and_attributes_are_named(rt: HostRuntime) -> Result<(), Fail> {
+    tells(
+        &rt,
+        rt.alloc(),
+        "set nope := 'a'\n",
+        [].as_slice(),
+        "unknown setting: `nope` (1)",
+    )?;
+    tells(
+        &rt,
+        rt.alloc(),
+        "set minimum-version := '1.59.0'\n",
+        [].as_slice(),
+        "minimum version: `1.59.0`, `1.58.0` (1)",
+    )?;
+    tells(
+        &rt,
+        rt.alloc(),
+        "[private, private]\na:\n",
+        [].as_slice(),
+        "duplicate attribute: `private` (1)",
+    )?;
+    tells(
+        &rt,
+        rt.alloc(),
+        "[parallel]\nx := 'a'\n",
+        [].as_slice(),
+        "invalid attribute: `parallel`, `x` (1)",
+    )
+}
+
+#[test]
+fn other_justfiles_are_told_apart(rt: HostRuntime) -> Result<(), Fail> {
+    let alloc = rt.alloc();
+    let told = "not yet: `justfile` (1)";
+    tells(&rt, alloc, "a b:\n", [].as_slice(), told)?;
+    tells(&rt, alloc, "@a:\n", [].as_slice(), told)?;
+    tells(&rt, alloc, "a:\n  @b\n", [].as_slice(), told)?;
+    tells(&rt, alloc, "a:\n  b {{{{c\n", [].as_slice(), told)?;
+    tells(&rt, alloc, "x := 'a'\na:\n", [].as_slice(), told)?;
+    tells(&rt, alloc, "[private]\na:\n", [].as_slice(), told)?;
+    tells(&rt, alloc, "a: (b 'c')\nb:\n", [].as_slice(), told)?;
+    tells(&rt, alloc, "a: m::b\n", [].as_slice(), told)?;
+    tells(&rt, alloc, "a: && b\nb:\n", [].as_slice(), told)
+}
+
+#[test]
+fn plain_forms_run(rt: HostRuntime) -> Result<(), Fail> {
+    let source = "\u{feff}# one\n\na: (b)\n  echo a\n\nb:\n  echo b # c";
+    tells(
+        &rt,
+        rt.alloc(),
+        source,
+        [].as_slice(),
+        "echo b # c; echo a; ran",
     )
 }
 

@@ -1,5 +1,5 @@
 use Rattle.std.proofs.Common.{◌≡◌, false, map, take}
-use Rattle.just_grammar.specs.Shape.{recipe_shape}
+use Rattle.just_plain.specs.Shape.{recipe_shape}
 use Rattle.just_run.specs.Rules.{has_extra}
 use Rattle.just_run.proofs.checks.check_bodies.Given as goal
 

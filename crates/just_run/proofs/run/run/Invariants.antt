@@ -1,5 +1,5 @@
 use Rattle.std.proofs.Common.{◌≡◌, false, map, length, List}
-use Rattle.just_grammar.specs.Shape.{RecipeShape}
+use Rattle.just_plain.specs.Shape.{RecipeShape}
 use Rattle.just_run.specs.Setup.{setup_of}
 use Rattle.just_run.specs.Order.{IsOrder, planned_shape, name_at}
 use Rattle.just_run.proofs.Growth.{Some_piece}

@@ -1,5 +1,5 @@
 use Rattle.std.proofs.Common.{◌≡◌, map, take}
-use Rattle.just_grammar.specs.Shape.{name_text}
+use Rattle.just_plain.specs.Shape.{name_text}
 use Rattle.just_run.specs.Search.{frame_shape, frame_name}
 use Rattle.just_run.proofs.search.circle.Given as goal
 

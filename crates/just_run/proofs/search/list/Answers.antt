@@ -1,6 +1,6 @@
 -- One more recipe is marked, or its name stands earlier.
 use Rattle.std.proofs.Common.{sym, ◌∙◌, ap, subst, arith}
-use Rattle.just_grammar.specs.Shape.{recipe_shape, name_text}
+use Rattle.just_plain.specs.Shape.{recipe_shape, name_text}
 use Rattle.just_run.specs.Marked.{mark_of, IsSet}
 use Rattle.just_run.specs.declared.marks.Mark.TheVariants.{New}
 use Rattle.just_run.proofs.Places.{get_viewed, none_from_test, some_from_test}

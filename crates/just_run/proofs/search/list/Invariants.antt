@@ -1,5 +1,5 @@
 use Rattle.std.proofs.Common.{map}
-use Rattle.just_grammar.specs.Shape.{recipe_shape}
+use Rattle.just_plain.specs.Shape.{recipe_shape}
 use Rattle.just_run.specs.Marked.{mark_of}
 use Rattle.just_run.specs.Search.{AreListed}
 use Rattle.just_run.proofs.search.list.Given as goal

@@ -1,7 +1,7 @@
 -- When each recipe was looked at and none waits, the order is whole.
 use Rattle.std.proofs.Common.{◌≡◌, ◌≤◌, sym, ap, refl, arith, map, length}
 use Rattle.std.proofs.lemmas.List.{length-map}
-use Rattle.just_grammar.specs.Shape.{recipe_shape}
+use Rattle.just_plain.specs.Shape.{recipe_shape}
 use Rattle.just_run.specs.Order.{planned_shape}
 use Rattle.just_run.specs.Search.{frame_shape}
 use Rattle.just_run.proofs.Places.{unique_not_redefined}

@@ -1,6 +1,6 @@
 -- A new recipe on the empty stack keeps the search.
 use Rattle.std.proofs.Common.{sym, ◌∙◌, ap, refl, Some}
-use Rattle.just_grammar.specs.Shape.{recipe_shape, name_text}
+use Rattle.just_plain.specs.Shape.{recipe_shape, name_text}
 use Rattle.just_run.specs.Marked.{mark_of}
 use Rattle.just_run.proofs.Places.{on_ok_all}
 use Rattle.just_run.proofs.Turns.{search_along, new_start}

@@ -1,7 +1,7 @@
 -- Each turn keeps the search, leaves fewer turns, or names the rule that is broken.
 use Rattle.std.proofs.Common.{◌≡◌, sym, ◌∙◌, ap, subst, ◌++◌, ◌∷◌, [], drop, map, length, Some, arith, refl}
 use Rattle.std.proofs.lemmas.List.{length-map, drop-map}
-use Rattle.just_grammar.specs.Shape.{recipe_shape, name_text}
+use Rattle.just_plain.specs.Shape.{recipe_shape, name_text}
 use Rattle.just_run.specs.Recipes.{IsCircle}
 use Rattle.just_run.specs.Search.{frame_shape, frame_name, stack_of}
 use Rattle.just_run.proofs.Steps.{closed_search}

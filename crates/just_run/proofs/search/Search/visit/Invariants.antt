@@ -1,5 +1,5 @@
 use Rattle.std.proofs.Common.{map, ◌+◌}
-use Rattle.just_grammar.specs.Shape.{recipe_shape}
+use Rattle.just_plain.specs.Shape.{recipe_shape}
 use Rattle.just_run.specs.Marked.{mark_of}
 use Rattle.just_run.specs.Search.{Searches, AreLookedAt, stack_of, work_left}
 use Rattle.just_run.proofs.search.Search.visit.Given as goal

@@ -1,0 +1,13 @@
+pub mod Differ
+pub mod Faults
+pub mod Fits
+pub mod Named
+pub mod Options
+pub mod Others
+pub mod Private
+pub mod Repeated
+pub mod Taken
+pub mod WholeArguments
+pub mod FitLaw
+pub mod BareLaw
+pub mod AttributedLaw

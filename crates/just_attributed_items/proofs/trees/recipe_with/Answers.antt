@@ -1,0 +1,25 @@
+-- A recipe is the same but for the options of its parameters.
+use Rattle.std.proofs.Common.{refl}
+use Rattle.just_attributed_items.proofs.Options.{same_cooked, same_length, same_numbers, same_shapes}
+use Rattle.just_attributed_items.proofs.trees.recipe_with.Goals as goal
+
+pub returns-clause-shape : goal.returns-clause-shape
+returns-clause-shape c = rw (same_shapes c.in_ok-parameters.parameters.items c.args.recipe.parameters.items c.in_ok-parameters.ensures.kept) refl
+
+pub returns-clause-numbers : goal.returns-clause-numbers
+returns-clause-numbers c old new h =
+    let kept = c.in_ok-parameters.ensures.kept in
+    let length' = same_length c.in_ok-parameters.parameters.items c.args.recipe.parameters.items kept in
+    record {
+      number = h.number;
+      numbers = rw (same_numbers c.in_ok-parameters.parameters.items c.args.recipe.parameters.items kept, length') h.numbers;
+      gone_on = rw length' h.gone_on;
+    }
+
+pub returns-clause-cooked : goal.returns-clause-cooked
+returns-clause-cooked c expansion h = record {
+  parameters = same_cooked c.in_ok-parameters.parameters.items c.args.recipe.parameters.items c.in_ok-parameters.ensures.kept expansion h.parameters;
+  priors = h.priors;
+  subsequents = h.subsequents;
+  body = h.body;
+}

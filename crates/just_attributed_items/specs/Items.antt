@@ -1,0 +1,20 @@
+-- The grammar of items with their attributes.
+use Rattle.std.specs.Prelude.{ℕ, ◌≡◌, List}
+use Rattle.just_text.specs.Tokens.{Word}
+use Rattle.just_tree.specs.Attributes.{AttributeShape}
+use Rattle.just_tree.specs.Files.{ItemShape}
+use Rattle.just_expressions.specs.Literals.{Expansion}
+use Rattle.just_attribute_lines.specs.Lines.{AreAttributes}
+use Rattle.just_attributed_items.specs.Bare.{IsBare}
+use Rattle.just_attributed_items.specs.Fitting.{Fit, with_attributes}
+use Rattle.semver.specs.declared.Version.{Version}
+
+-- Up to rest there is the item behind its attributes; so many blank lines behind the body of a recipe belong to the file.
+pub record IsAttributed (expansion : Expansion) (current : Version) (i : ItemShape) (blanks : ℕ) (words rest : List Word) : Type 0 where
+  pub attributes : List AttributeShape
+  pub bare : ItemShape
+  pub behind : List Word
+  pub lines : AreAttributes expansion attributes words behind
+  pub item : IsBare expansion current bare blanks behind rest
+  pub fit : Fit expansion attributes bare
+  pub whole : i ≡ with_attributes attributes bare

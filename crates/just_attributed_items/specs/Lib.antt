@@ -1,0 +1,10 @@
+pub mod Bare
+pub mod Fitting
+pub mod Items
+pub mod Reading
+pub mod Halting
+pub mod Held
+pub mod Laws
+pub mod Plain
+pub mod Refusals
+pub mod Seen

@@ -1,0 +1,31 @@
+-- What items are before their attributes are read.
+use Rattle.std.specs.Prelude.{◌≡◌, true, []}
+use Rattle.just_tree.specs.declared.ast.Item.{Item}
+use Rattle.just_tree.specs.declared.ast.Item.TheVariants.{Recipe, Set}
+use Rattle.just_tree.specs.declared.recipe.Recipe.{Recipe as RecipeTree}
+use Rattle.just_tree.specs.declared.recipe.UnresolvedDependency.{UnresolvedDependency}
+use Rattle.just_tree.specs.Recipes.{parameter_shapes}
+use Rattle.just_expressions.specs.Literals.{Expansion}
+use Rattle.just_recipes.specs.Cooked.{IsRecipeCooked}
+use Rattle.just_recipes.specs.Plain.{IsPlainRecipe}
+use Rattle.just_items.specs.Cooked.{IsCookedItem}
+use Rattle.just_items.specs.Plain.{IsPlainItem}
+use Rattle.just_settings.specs.Cooked.{IsCookedSetting}
+use Rattle.just_parameter_options.specs.Rules.{are_distinct, names_of}
+
+-- the recipe has no attributes, and its parameters have no options and different names
+pub record IsBareRecipe (r : RecipeTree UnresolvedDependency) : Type 0 where
+  pub plain : IsPlainRecipe r
+  pub distinct : are_distinct (names_of (parameter_shapes r.parameters.items)) ≡ true
+
+-- the item has no attributes, and what they make of an item is not made yet
+abbrev pub IsBareTree : Item → Type 0
+IsBareTree (Recipe r) = IsBareRecipe r
+IsBareTree (Set s) = s.attributes.items ≡ []
+IsBareTree other = IsPlainItem other
+
+-- the expressions and strings of the item hold what their strings stand for
+abbrev pub IsBareCooked : Expansion → Item → Type 0
+IsBareCooked expansion (Recipe r) = IsRecipeCooked expansion r
+IsBareCooked expansion (Set s) = IsCookedSetting expansion s.value
+IsBareCooked expansion other = IsCookedItem expansion other

@@ -1,0 +1,37 @@
+-- What the parser of items with attributes holds as the grammar sees it.
+use Rattle.std.specs.Prelude.{ℕ, ◌≡◌, List, map, Option, Some}
+use Rattle.std.specs.List.{All}
+use Rattle.just_tree.specs.Attributes.{AttributeShape, attribute_shapes, options_shape}
+use Rattle.just_tree.specs.Files.{ItemShape, item_shape}
+use Rattle.just_expressions.specs.Literals.{Expansion}
+use Rattle.just_attribute_lines.specs.Cooked.{AreCookedOptions}
+use Rattle.just_attribute_lines.specs.Seen.{read_shapes}
+use Rattle.just_parameter_options.specs.Whole.{AreWholeOptions}
+use Rattle.just_attributed_items.specs.declared.bare.ItemRead.{ItemRead}
+use Rattle.just_attributed_items.specs.declared.item.PartsRead.{PartsRead}
+use Rattle.just_attributed_items.specs.declared.split.KnownAttributes.{KnownAttributes}
+use Rattle.just_attributed_items.specs.Fitting.{options_among}
+use Rattle.just_attributed_items.specs.Held.{AreAttributesCooked}
+use Rattle.just_attributed_items.specs.Reading.{Parts}
+
+-- an item and its blank lines
+abbrev pub read_of : ItemRead → ItemShape × ℕ
+read_of r = (item_shape r.item, r.blank_lines)
+
+-- attributes and the item behind them
+abbrev pub parts_of : PartsRead → Parts
+parts_of p = record { attributes = read_shapes p.attributes.items; item = item_shape p.read.item; blanks = p.read.blank_lines }
+
+-- the options are those of the `arg`s among the attributes, and all hold what their strings stand for
+pub record AreWholeKnown (expansion : Expansion) (s : KnownAttributes) : Type 0 where
+  pub again : map options_shape s.options.items ≡ options_among (attribute_shapes s.attributes.items)
+  pub cooked : AreAttributesCooked expansion s.attributes.items
+  pub cooked_options : All (AreCookedOptions expansion) s.options.items
+
+-- the texts of each `arg` among the attributes are of the form that it asks for
+abbrev pub AreWholeArguments : Expansion → List AttributeShape → Type 0
+AreWholeArguments expansion as' = All (AreWholeOptions expansion) (options_among as')
+
+-- the same of attributes as they are read, if all are known
+abbrev pub AreWholeWhereKnown : Expansion → List (Option AttributeShape) → Type 0
+AreWholeWhereKnown expansion reads = (as' : List AttributeShape) → reads ≡ map Some as' → AreWholeArguments expansion as'

@@ -1,0 +1,139 @@
+//! Items behind their attributes.
+ghost use Rattle.std.specs.Prelude.{◌≡◌, IfOk};
+ghost use Rattle.just_text.specs.Numbers.{Numbers};
+ghost use Rattle.just_text.specs.Tokens.{word_of};
+ghost use Rattle.just_tree.specs.Files.{item_shape, kind_of};
+ghost use Rattle.just_expressions.specs.Literals.{Expansion};
+ghost use Rattle.just_expressions.specs.Reading.{ahead};
+ghost use Rattle.just_recipes.specs.Numbering.{AreUsed, GivesUnless};
+ghost use Rattle.just_items.specs.Reading.{kind_at};
+ghost use Rattle.just_attribute_lines.specs.Seen.{AreWholeReads, read_shapes};
+ghost use Rattle.just_parameter_options.specs.Options.{GivesOrRefuses};
+ghost use Rattle.just_attributed_items.specs.Fitting.{argument_fault, fault_in, known, name_of};
+ghost use Rattle.just_attributed_items.specs.Halting.{GivesOrHalts};
+ghost use Rattle.just_attributed_items.specs.Held.{IsItemCooked, IsItemNumbered, IsOwnItem};
+ghost use Rattle.just_attributed_items.specs.Plain.{IsBareCooked, IsBareTree};
+ghost use Rattle.just_attributed_items.specs.Reading.{attributed_at, bare_behind, joined, parts_at};
+ghost use Rattle.just_attributed_items.specs.Refusals.{head_fault};
+ghost use Rattle.just_attributed_items.specs.Seen.{AreWholeArguments, AreWholeWhereKnown, parts_of, read_of};
+
+use crate::bare::{ItemRead, bare_item};
+use crate::carriers::may_stand;
+use crate::fit::ensure_fit;
+use crate::split::split;
+use crate::trees::item_with;
+use just_attribute_lines::law::law;
+use just_attribute_lines::{AttributeRead, attributes};
+use just_expressions::{Cursor, Fault};
+use just_items::kind::kind;
+use just_text::{Expander, Numerator, both};
+use semver::Version;
+use std::alloc::Global;
+
+/// Attributes, and the item behind them without them.
+#[derive(Drop)]
+struct PartsRead<'src> {
+    attributes: Vec<AttributeRead<'src>>,
+    read: ItemRead<'src>,
+}
+
+/// The item that stands here, behind these attributes but without them.
+fn bare_behind<'src, E: Expander>(
+    alloc: Global,
+    cursor: &mut Cursor<'_, 'src>,
+    expander: &E,
+    numerator: &mut Numerator,
+    current: &Version,
+    attributes: &[AttributeRead<'src>],
+) -> Result<ItemRead<'src>, Fault<'src>>
+    ensures gives { GivesUnless (AreUsed numerator.new) (λ r. (read_of r, ahead cursor.new)) result (bare_behind word_of (E.expansion expander.now) current.now (read_shapes attributes.now) (kind_at word_of (ahead cursor.old)) (ahead cursor.old)) }
+    ensures numbers { IfOk result (λ r. IsItemNumbered numerator.old numerator.new r.item) }
+    ensures plain { IfOk result (λ r. IsBareTree r.item) }
+    ensures cooked { IfOk result (λ r. IsBareCooked (E.expansion expander.now) r.item) }
+{
+    let kind = kind(*cursor);
+    if !may_stand(attributes, kind) {
+        return Err(cursor.unexpected());
+    }
+    bare_item(alloc, cursor, expander, numerator, current, kind)
+}
+
+/// The attributes that stand here, and the item behind them.
+#[tactic(auto, unfolding(crate::specs::Reading::parts_at))]
+fn parts<'src, E: Expander>(
+    alloc: Global,
+    cursor: &mut Cursor<'_, 'src>,
+    expander: &E,
+    numerator: &mut Numerator,
+    current: &Version,
+) -> Result<PartsRead<'src>, Fault<'src>>
+    ensures gives { GivesUnless (AreUsed numerator.new) (λ p. (parts_of p, ahead cursor.new)) result (parts_at word_of (E.expansion expander.now) current.now (ahead cursor.old)) }
+    ensures whole { IfOk result (λ p. AreWholeReads (E.expansion expander.now) p.attributes.items) }
+    ensures arguments { IfOk result (λ p. AreWholeWhereKnown (E.expansion expander.now) (read_shapes p.attributes.items)) }
+    ensures numbers { IfOk result (λ p. IsItemNumbered numerator.old numerator.new p.read.item) }
+    ensures plain { IfOk result (λ p. IsBareTree p.read.item) }
+    ensures cooked { IfOk result (λ p. IsBareCooked (E.expansion expander.now) p.read.item) }
+{
+    law();
+    let attributes = attributes(alloc, cursor, expander)?;
+    let read = bare_behind(alloc, cursor, expander, numerator, current, &attributes);
+    let (attributes, read) = both(attributes, read)?;
+    Ok(PartsRead { attributes, read })
+}
+
+/// Whether the attributes fit the item behind them, whatever the `arg`s say.
+fn ensure_parts_fit<'src>(alloc: Global, parts: &PartsRead<'src>) -> Result<(), Fault<'src>>
+    ensures { GivesOrRefuses result (head_fault (kind_of (item_shape parts.now.read.item)) (name_of (item_shape parts.now.read.item)) (read_shapes parts.now.attributes.items)) }
+{
+    ensure_fit(alloc, &parts.read.item, &parts.attributes)
+}
+
+/// The item with its attributes.
+fn joined<'src>(alloc: Global, parts: PartsRead<'src>) -> Result<ItemRead<'src>, Fault<'src>>
+    ensures gives { (expansion : Expansion) → AreWholeReads expansion parts.entry.attributes.items → GivesOrRefuses result (argument_fault expansion (known (read_shapes parts.entry.attributes.items)) (item_shape parts.entry.read.item)) }
+    ensures shape { IfOk result (λ r. read_of r ≡ (joined (parts_of parts.entry), parts.entry.read.blank_lines)) }
+    ensures numbers { (old new : Numbers) → IsItemNumbered old new parts.entry.read.item → IfOk result (λ r. IsItemNumbered old new r.item) }
+    ensures own { (expansion : Expansion) → AreWholeReads expansion parts.entry.attributes.items → AreWholeArguments expansion (known (read_shapes parts.entry.attributes.items)) → IsBareTree parts.entry.read.item → IfOk result (λ r. IsOwnItem expansion r.item) }
+    ensures cooked { (expansion : Expansion) → AreWholeReads expansion parts.entry.attributes.items → IsBareTree parts.entry.read.item → IsBareCooked expansion parts.entry.read.item → IfOk result (λ r. IsItemCooked expansion r.item) }
+{
+    let blank_lines = parts.read.blank_lines;
+    let known = split(alloc, parts.attributes);
+    let (item, known) = both(parts.read.item, known)?;
+    let item = item_with(alloc, item, known)?;
+    Ok(ItemRead { item, blank_lines })
+}
+
+/// The item with its attributes, if they fit it.
+fn fitted<'src>(alloc: Global, parts: PartsRead<'src>) -> Result<ItemRead<'src>, Fault<'src>>
+    ensures gives { (expansion : Expansion) → AreWholeReads expansion parts.entry.attributes.items → GivesOrRefuses result (fault_in expansion (read_shapes parts.entry.attributes.items) (item_shape parts.entry.read.item)) }
+    ensures shape { IfOk result (λ r. read_of r ≡ (joined (parts_of parts.entry), parts.entry.read.blank_lines)) }
+    ensures numbers { (old new : Numbers) → IsItemNumbered old new parts.entry.read.item → IfOk result (λ r. IsItemNumbered old new r.item) }
+    ensures own { (expansion : Expansion) → AreWholeReads expansion parts.entry.attributes.items → AreWholeWhereKnown expansion (read_shapes parts.entry.attributes.items) → IsBareTree parts.entry.read.item → IfOk result (λ r. IsOwnItem expansion r.item) }
+    ensures cooked { (expansion : Expansion) → AreWholeReads expansion parts.entry.attributes.items → IsBareTree parts.entry.read.item → IsBareCooked expansion parts.entry.read.item → IfOk result (λ r. IsItemCooked expansion r.item) }
+{
+    let fit = ensure_parts_fit(alloc, &parts);
+    let (parts, _fit) = both(parts, fit)?;
+    joined(alloc, parts)
+}
+
+/// Takes the item that stands here behind its attributes. It is neither a comment nor a blank line.
+///
+/// Refused where no such item stands here, where an item has attributes that takes none, or one that
+/// it may not carry, where an attribute stands twice that may stand once, where the options of an
+/// `arg` may not stand together or the `arg`s break a rule of the parameters, and where numbers or
+/// memory run out. What a refusal leaves of the cursor and of the numerator is not told.
+pub fn attributed_item<'src, E: Expander>(
+    alloc: Global,
+    cursor: &mut Cursor<'_, 'src>,
+    expander: &E,
+    numerator: &mut Numerator,
+    current: &Version,
+) -> Result<ItemRead<'src>, Fault<'src>>
+    ensures gives { GivesOrHalts (AreUsed numerator.new) (λ r. ((item_shape r.item, r.blank_lines), ahead cursor.new)) result (attributed_at word_of (E.expansion expander.now) current.now (ahead cursor.old)) }
+    ensures numbers { IfOk result (λ r. IsItemNumbered numerator.old numerator.new r.item) }
+    ensures own { IfOk result (λ r. IsOwnItem (E.expansion expander.now) r.item) }
+    ensures cooked { IfOk result (λ r. IsItemCooked (E.expansion expander.now) r.item) }
+{
+    let parts = parts(alloc, cursor, expander, numerator, current)?;
+    fitted(alloc, parts)
+}

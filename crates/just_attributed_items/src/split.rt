@@ -1,0 +1,62 @@
+//! Attributes, and beside them the options of those that are `arg`s.
+ghost use Rattle.std.specs.Prelude.{◌≡◌, ◌++◌, [], IfOk, OnOk};
+ghost use Rattle.std.specs.List.{cons_option};
+ghost use Rattle.just_tree.specs.Attributes.{attribute_shapes};
+ghost use Rattle.just_expressions.specs.Literals.{Expansion};
+ghost use Rattle.just_attribute_lines.specs.Seen.{AreWholeReads, read_shapes};
+ghost use Rattle.just_attributed_items.specs.Fitting.{known};
+ghost use Rattle.just_attributed_items.specs.Seen.{AreWholeKnown};
+
+use just_attribute_lines::AttributeRead;
+use just_text::both;
+use just_tree::{ArgumentOptions, Attribute};
+use std::alloc::{AllocError, Global};
+
+/// The attributes before an item in their order, and the options of those that are `arg`s.
+#[derive(Drop)]
+pub(crate) struct KnownAttributes<'src> {
+    pub(crate) attributes: Vec<Attribute<'src>>,
+    pub(crate) options: Vec<ArgumentOptions<'src>>,
+}
+
+/// Puts what is given behind the others.
+fn push_given<T: Drop>(list: &mut Vec<T>, given: Option<T>) -> Result<(), AllocError>
+    ensures { OnOk result (list.new.items ≡ list.old.items ++ cons_option given []) }
+{
+    match given {
+        Some(item) => {
+            list.push(item)?;
+            Ok(())
+        }
+        None => Ok(()),
+    }
+}
+
+/// Puts the attribute and its options behind the others.
+fn add<'src>(known: &mut KnownAttributes<'src>, read: AttributeRead<'src>) -> Result<(), AllocError>
+    ensures attributes { OnOk result (known.new.attributes.items ≡ known.old.attributes.items ++ cons_option read.entry.attribute []) }
+    ensures options { OnOk result (known.new.options.items ≡ known.old.options.items ++ cons_option read.entry.options []) }
+{
+    let pushed = push_given(&mut known.attributes, read.attribute);
+    let (options, _pushed) = both(read.options, pushed)?;
+    push_given(&mut known.options, options)
+}
+
+/// The attributes that are known, and the options of those that are `arg`s. Refused only where
+/// memory is.
+pub(crate) fn split<'src>(
+    alloc: Global,
+    reads: Vec<AttributeRead<'src>>,
+) -> Result<KnownAttributes<'src>, AllocError>
+    ensures shapes { IfOk result (λ s. attribute_shapes s.attributes.items ≡ known (read_shapes reads.entry.items)) }
+    ensures whole { (expansion : Expansion) → AreWholeReads expansion reads.entry.items → IfOk result (AreWholeKnown expansion) }
+{
+    let mut known = KnownAttributes {
+        attributes: Vec::new(alloc),
+        options: Vec::new(alloc),
+    };
+    for read in reads {
+        add(&mut known, read)?;
+    }
+    Ok(known)
+}

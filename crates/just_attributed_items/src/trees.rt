@@ -1,0 +1,174 @@
+//! Items with the attributes before them.
+ghost use Rattle.std.specs.Prelude.{◌≡◌, ◌||◌, IfOk};
+ghost use Rattle.std.specs.List.{list_any};
+ghost use Rattle.just_text.specs.Numbers.{Numbers};
+ghost use Rattle.just_tree.specs.declared.ast.Item.TheVariants as items;
+ghost use Rattle.just_tree.specs.Attributes.{attribute_shape, attribute_shapes, kind_of};
+ghost use Rattle.just_tree.specs.Files.{item_shape};
+ghost use Rattle.just_tree.specs.Recipes.{recipe_shape};
+ghost use Rattle.just_attributes.specs.Sets.{is_private_kind};
+ghost use Rattle.just_expressions.specs.Literals.{Expansion};
+ghost use Rattle.just_recipes.specs.Cooked.{IsRecipeCooked};
+ghost use Rattle.just_recipes.specs.Numbering.{IsRecipeNumbered};
+ghost use Rattle.just_parameter_options.specs.Options.{AreValuesCooked, GivesOrRefuses};
+ghost use Rattle.just_attributed_items.specs.Fitting.{argument_fault, with_attributes};
+ghost use Rattle.just_attributed_items.specs.Held.{HasOptions, IsItemCooked, IsItemNumbered, IsOwnItem, are_private};
+ghost use Rattle.just_attributed_items.specs.Plain.{IsBareCooked, IsBareRecipe, IsBareTree};
+ghost use Rattle.just_attributed_items.specs.Seen.{AreWholeArguments, AreWholeKnown};
+
+use crate::carriers::is_private;
+use crate::split::KnownAttributes;
+use just_expressions::Fault;
+use just_parameter_options::with_options;
+use just_text::Namepath;
+use just_tree::{
+    Alias, Assignment, Attribute, Binding, Item, Module, Recipe, Set, UnresolvedDependency,
+};
+use std::alloc::Global;
+
+/// The alias behind these attributes.
+fn alias_with<'src>(
+    alias: Alias<'src, Namepath<'src>>,
+    attributes: Vec<Attribute<'src>>,
+) -> Alias<'src, Namepath<'src>>
+    ensures { result ≡ record alias.entry { attributes = attributes.entry } }
+{
+    Alias {
+        attributes,
+        name: alias.name,
+        target: alias.target,
+    }
+}
+
+/// Whether one of the attributes is `private`.
+fn any_private(attributes: &[Attribute]) -> bool
+    ensures { result ≡ list_any (λ a. is_private_kind (kind_of (attribute_shape a))) attributes.now }
+{
+    attributes
+        .iter()
+        .any(|attribute| is_private(attribute.kind()))
+}
+
+/// The attributes, and whether one of them is `private`.
+#[tactic(auto, using(crate::proofs::Private::private_so))]
+fn with_privacy<'src>(attributes: Vec<Attribute<'src>>) -> (Vec<Attribute<'src>>, bool)
+    ensures { result ≡ (attributes.entry, are_private attributes.entry.items) }
+{
+    let private = any_private(&attributes);
+    (attributes, private)
+}
+
+/// The assignment behind these attributes, private if it was or if one of them says so.
+fn assignment_with<'src>(
+    assignment: Assignment<'src>,
+    attributes: Vec<Attribute<'src>>,
+) -> Assignment<'src>
+    ensures { result ≡ record assignment.entry { attributes = attributes.entry; private = assignment.entry.private || are_private attributes.entry.items } }
+{
+    let (attributes, private) = with_privacy(attributes);
+    Binding {
+        attributes,
+        eager: assignment.eager,
+        export: assignment.export,
+        file_depth: assignment.file_depth,
+        name: assignment.name,
+        number: assignment.number,
+        prelude: assignment.prelude,
+        private: assignment.private || private,
+        value: assignment.value,
+    }
+}
+
+/// The submodule behind these attributes.
+fn module_with<'src>(submodule: Module<'src>, attributes: Vec<Attribute<'src>>) -> Module<'src>
+    ensures { result ≡ record submodule.entry { attributes = attributes.entry } }
+{
+    Module {
+        attributes,
+        name: submodule.name,
+        optional: submodule.optional,
+        path: submodule.path,
+    }
+}
+
+/// The setting behind these attributes.
+fn set_with<'src>(set: Set<'src>, attributes: Vec<Attribute<'src>>) -> Set<'src>
+    ensures { result ≡ record set.entry { attributes = attributes.entry } }
+{
+    Set {
+        attributes,
+        name: set.name,
+        value: set.value,
+    }
+}
+
+/// The recipe behind these attributes, whose `arg`s give its parameters their options.
+fn recipe_with<'src>(
+    alloc: Global,
+    recipe: Recipe<'src, UnresolvedDependency<'src>>,
+    known: KnownAttributes<'src>,
+) -> Result<Recipe<'src, UnresolvedDependency<'src>>, Fault<'src>>
+    ensures gives { (expansion : Expansion) → AreWholeKnown expansion known.entry → GivesOrRefuses result (argument_fault expansion (attribute_shapes known.entry.attributes.items) (item_shape (items.Recipe recipe.entry))) }
+    ensures attributes { IfOk result (λ r. r.attributes ≡ known.entry.attributes) }
+    ensures shape { IfOk result (λ r. recipe_shape r ≡ recipe_shape recipe.entry) }
+    ensures numbers { (old new : Numbers) → IsRecipeNumbered old new recipe.entry → IfOk result (IsRecipeNumbered old new) }
+    ensures options { (expansion : Expansion) → AreWholeKnown expansion known.entry → AreWholeArguments expansion (attribute_shapes known.entry.attributes.items) → IsBareRecipe recipe.entry → IfOk result (HasOptions expansion) }
+    ensures cooked { (expansion : Expansion) → IsRecipeCooked expansion recipe.entry → IfOk result (IsRecipeCooked expansion) }
+    ensures values { (expansion : Expansion) → AreWholeKnown expansion known.entry → IsBareRecipe recipe.entry → IfOk result (λ r. AreValuesCooked expansion r.parameters.items) }
+{
+    let name = recipe.name;
+    let parameters = with_options(alloc, name.lexeme(), recipe.parameters, known.options)?;
+    Ok(Recipe {
+        attributes: known.attributes,
+        body: recipe.body,
+        name,
+        number: recipe.number,
+        parameters,
+        priors: recipe.priors,
+        quiet: recipe.quiet,
+        subsequents: recipe.subsequents,
+    })
+}
+
+/// The recipe behind these attributes, as an item.
+fn recipe_item_with<'src>(
+    alloc: Global,
+    recipe: Recipe<'src, UnresolvedDependency<'src>>,
+    known: KnownAttributes<'src>,
+) -> Result<Item<'src>, Fault<'src>>
+    ensures gives { (expansion : Expansion) → AreWholeKnown expansion known.entry → GivesOrRefuses result (argument_fault expansion (attribute_shapes known.entry.attributes.items) (item_shape (items.Recipe recipe.entry))) }
+    ensures shape { IfOk result (λ i. item_shape i ≡ with_attributes (attribute_shapes known.entry.attributes.items) (item_shape (items.Recipe recipe.entry))) }
+    ensures numbers { (old new : Numbers) → IsItemNumbered old new (items.Recipe recipe.entry) → IfOk result (IsItemNumbered old new) }
+    ensures own { (expansion : Expansion) → AreWholeKnown expansion known.entry → AreWholeArguments expansion (attribute_shapes known.entry.attributes.items) → IsBareTree (items.Recipe recipe.entry) → IfOk result (IsOwnItem expansion) }
+    ensures cooked { (expansion : Expansion) → AreWholeKnown expansion known.entry → IsBareTree (items.Recipe recipe.entry) → IsBareCooked expansion (items.Recipe recipe.entry) → IfOk result (IsItemCooked expansion) }
+{
+    let recipe = recipe_with(alloc, recipe, known)?;
+    Ok(Item::Recipe(recipe))
+}
+
+/// The item behind these attributes; an item that takes none as it is.
+///
+/// Refused where the `arg`s break a rule of the recipe's parameters, and where memory runs out.
+pub(crate) fn item_with<'src>(
+    alloc: Global,
+    item: Item<'src>,
+    known: KnownAttributes<'src>,
+) -> Result<Item<'src>, Fault<'src>>
+    ensures gives { (expansion : Expansion) → AreWholeKnown expansion known.entry → GivesOrRefuses result (argument_fault expansion (attribute_shapes known.entry.attributes.items) (item_shape item.entry)) }
+    ensures shape { IfOk result (λ i. item_shape i ≡ with_attributes (attribute_shapes known.entry.attributes.items) (item_shape item.entry)) }
+    ensures numbers { (old new : Numbers) → IsItemNumbered old new item.entry → IfOk result (IsItemNumbered old new) }
+    ensures own { (expansion : Expansion) → AreWholeKnown expansion known.entry → AreWholeArguments expansion (attribute_shapes known.entry.attributes.items) → IsBareTree item.entry → IfOk result (IsOwnItem expansion) }
+    ensures cooked { (expansion : Expansion) → AreWholeKnown expansion known.entry → IsBareTree item.entry → IsBareCooked expansion item.entry → IfOk result (IsItemCooked expansion) }
+{
+    match item {
+        Item::Alias(alias) => Ok(Item::Alias(alias_with(alias, known.attributes))),
+        Item::Assignment(assignment) => Ok(Item::Assignment(assignment_with(
+            assignment,
+            known.attributes,
+        ))),
+        Item::Module(submodule) => Ok(Item::Module(module_with(submodule, known.attributes))),
+        Item::Recipe(recipe) => recipe_item_with(alloc, recipe, known),
+        Item::Set(set) => Ok(Item::Set(set_with(set, known.attributes))),
+        other => Ok(other),
+    }
+}

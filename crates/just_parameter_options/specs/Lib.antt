@@ -1,0 +1,5 @@
+pub mod Rules
+pub mod Options
+pub mod Names
+pub mod Places
+pub mod Whole

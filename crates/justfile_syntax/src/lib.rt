@@ -1,0 +1,21 @@
+//! Justfiles by one name: their tokens and refusals, their trees with their printed texts, names of
+//! variables and attributes, and the parser.
+#![tactic(auto)]
+
+pub use just_attributes::{
+    AttributeItem, AttributeSet, Indentation, Keyed, PrintedArguments, file_indentation,
+};
+pub use just_grammar::Parser;
+pub use just_lexer::Lexer;
+pub use just_strings::{StringKind, StringLiteral, unindent};
+pub use just_text::{
+    CompileError, CompileErrorKind, Count, Delimiter, ExpandFault, Expander, Keyword, Name,
+    Namepath, Number, Numerator, Os, Sequence, Text, Ticked, Token, TokenKind,
+};
+pub use just_tree::{
+    Alias, Assignment, Ast, Attribute, AttributeKind, Binding, ConditionalOperator,
+    DependencyArgument, Expression, Fragment, FunctionDefinition, FunctionParameter, Import,
+    Interpreter, Item, ItemKind, Line, ListFeature, ListOperator, Module, Parameter, ParameterKind,
+    Recipe, Set, Setting, Sigils, Unexport, UnresolvedDependency, UnstableFeature,
+};
+pub use just_variables::{ExpressionContext, resolve_variables};
