@@ -2,7 +2,7 @@
 ghost use Rattle.std.specs.Prelude.{◌≡◌, IfOk, IfSome, find, is_some, not, option_map};
 ghost use Rattle.just_text.specs.declared.compile_error.CompileErrorKind.TheVariants as kinds;
 ghost use Rattle.just_tree.specs.Attributes.{kind_name, kind_of};
-ghost use Rattle.just_tree.specs.Files.{item_shape, kind_of as item_kind_of};
+ghost use Rattle.just_tree.specs.Files.{item_shape};
 ghost use Rattle.just_attribute_lines.specs.Seen.{read_shape, read_shapes};
 ghost use Rattle.just_parameter_options.specs.Options.{GivesOrRefuses};
 ghost use Rattle.just_attributed_items.specs.Fitting.{known, name_of, repeated};
@@ -16,7 +16,7 @@ use just_tree::{Item, ItemKind};
 use std::alloc::{AllocError, Global};
 
 /// The name of an item that may have attributes; empty for others.
-fn item_name<'src>(item: &Item<'src>) -> &'src str
+pub(crate) fn item_name<'src>(item: &Item<'src>) -> &'src str
     ensures { result.now ≡ name_of (item_shape item.now) }
 {
     match item {
@@ -161,21 +161,21 @@ fn ensure_known_fit<'src>(
     Ok(())
 }
 
-/// Whether the attributes fit the item, whatever the `arg`s say.
+/// Whether the attributes fit an item of that kind and name, whatever the `arg`s say.
 ///
 /// Refused at an `arg` whose options may not stand together, at an attribute that the item may not
 /// carry, at one that stands again and may not, and where memory runs out.
 pub(crate) fn ensure_fit<'src>(
     alloc: Global,
-    item: &Item<'src>,
+    carrier: ItemKind,
+    name: &str,
     reads: &[AttributeRead<'src>],
 ) -> Result<(), Fault<'src>>
-    ensures { GivesOrRefuses result (head_fault (item_kind_of (item_shape item.now)) (name_of (item_shape item.now)) (read_shapes reads.now)) }
+    ensures { GivesOrRefuses result (head_fault carrier name.now (read_shapes reads.now)) }
 {
-    let name = item_name(item);
     if let Some(read) = unknown(reads) {
         let fault = invalid(alloc, "arg", name)?;
         return Err(Fault::Refused(read.name.token, fault));
     }
-    ensure_known_fit(alloc, item.kind(), name, reads)
+    ensure_known_fit(alloc, carrier, name, reads)
 }

@@ -19,7 +19,7 @@ ghost use Rattle.just_attributed_items.specs.Seen.{AreWholeArguments, AreWholeWh
 
 use crate::bare::{ItemRead, bare_item};
 use crate::carriers::may_stand;
-use crate::fit::ensure_fit;
+use crate::fit::{ensure_fit, item_name};
 use crate::split::split;
 use crate::trees::item_with;
 use just_attribute_lines::law::law;
@@ -85,7 +85,8 @@ fn parts<'src, E: Expander>(
 fn ensure_parts_fit<'src>(alloc: Global, parts: &PartsRead<'src>) -> Result<(), Fault<'src>>
     ensures { GivesOrRefuses result (head_fault (kind_of (item_shape parts.now.read.item)) (name_of (item_shape parts.now.read.item)) (read_shapes parts.now.attributes.items)) }
 {
-    ensure_fit(alloc, &parts.read.item, &parts.attributes)
+    let item = &parts.read.item;
+    ensure_fit(alloc, item.kind(), item_name(item), &parts.attributes)
 }
 
 /// The item with its attributes.

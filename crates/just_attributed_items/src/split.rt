@@ -32,14 +32,37 @@ fn push_given<T: Drop>(list: &mut Vec<T>, given: Option<T>) -> Result<(), AllocE
     }
 }
 
+/// Puts what is given behind the others of its list.
+fn push_both<A: Drop, O: Drop>(
+    attributes: &mut Vec<A>,
+    options: &mut Vec<O>,
+    attribute: Option<A>,
+    option: Option<O>,
+) -> Result<(), AllocError>
+    ensures attributes { OnOk result (attributes.new.items ≡ attributes.old.items ++ cons_option attribute []) }
+    ensures options { OnOk result (options.new.items ≡ options.old.items ++ cons_option option []) }
+{
+    let pushed = push_given(attributes, attribute);
+    let (option, _pushed) = both(option, pushed)?;
+    push_given(options, option)
+}
+
 /// Puts the attribute and its options behind the others.
 fn add<'src>(known: &mut KnownAttributes<'src>, read: AttributeRead<'src>) -> Result<(), AllocError>
     ensures attributes { OnOk result (known.new.attributes.items ≡ known.old.attributes.items ++ cons_option read.entry.attribute []) }
     ensures options { OnOk result (known.new.options.items ≡ known.old.options.items ++ cons_option read.entry.options []) }
 {
-    let pushed = push_given(&mut known.attributes, read.attribute);
-    let (options, _pushed) = both(read.options, pushed)?;
-    push_given(&mut known.options, options)
+    let AttributeRead {
+        attribute,
+        options,
+        ..
+    } = read;
+    push_both(
+        &mut known.attributes,
+        &mut known.options,
+        attribute,
+        options,
+    )
 }
 
 /// The attributes that are known, and the options of those that are `arg`s. Refused only where
