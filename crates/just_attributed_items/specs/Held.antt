@@ -20,6 +20,7 @@ use Rattle.just_items.specs.Cooked.{IsCookedItem}
 use Rattle.just_items.specs.Numbered.{AreNext, binding_numbers}
 use Rattle.just_items.specs.Plain.{is_private}
 use Rattle.just_settings.specs.Cooked.{IsCookedSetting}
+use Rattle.just_settings.specs.Names.{setting_name}
 use Rattle.just_parameter_options.specs.Options.{AreValuesCooked, HaveOptions}
 use Rattle.just_attributed_items.specs.Fitting.{options_among}
 
@@ -42,10 +43,11 @@ pub record IsOwnAssignment (a : Binding Expression) : Type 0 where
 abbrev pub HasOptions : Expansion → RecipeTree UnresolvedDependency → Type 0
 HasOptions expansion r = HaveOptions expansion (options_among (attribute_shapes r.attributes.items)) r.parameters.items
 
--- what the attributes and the place of an item make of it
+-- what the attributes, the name and the place of an item make of it: a setting is the one that its name tells
 abbrev pub IsOwnItem : Expansion → Item → Type 0
 IsOwnItem expansion (Assignment a) = IsOwnAssignment a
 IsOwnItem expansion (Recipe r) = HasOptions expansion r
+IsOwnItem expansion (Set s) = setting_name s.value ≡ lexeme s.name.token
 IsOwnItem expansion other = Unit {0}
 
 -- the attributes before an item

@@ -1,9 +1,11 @@
 -- What items are before their attributes are read.
 use Rattle.std.specs.Prelude.{◌≡◌, true, []}
+use Rattle.just_text.specs.Tokens.{lexeme}
 use Rattle.just_tree.specs.declared.ast.Item.{Item}
 use Rattle.just_tree.specs.declared.ast.Item.TheVariants.{Recipe, Set}
 use Rattle.just_tree.specs.declared.recipe.Recipe.{Recipe as RecipeTree}
 use Rattle.just_tree.specs.declared.recipe.UnresolvedDependency.{UnresolvedDependency}
+use Rattle.just_tree.specs.declared.setting.Set.{Set as SetTree}
 use Rattle.just_tree.specs.Recipes.{parameter_shapes}
 use Rattle.just_expressions.specs.Literals.{Expansion}
 use Rattle.just_recipes.specs.Cooked.{IsRecipeCooked}
@@ -11,6 +13,7 @@ use Rattle.just_recipes.specs.Plain.{IsPlainRecipe}
 use Rattle.just_items.specs.Cooked.{IsCookedItem}
 use Rattle.just_items.specs.Plain.{IsPlainItem}
 use Rattle.just_settings.specs.Cooked.{IsCookedSetting}
+use Rattle.just_settings.specs.Names.{setting_name}
 use Rattle.just_parameter_options.specs.Rules.{are_distinct, names_of}
 
 -- the recipe has no attributes, and its parameters have no options and different names
@@ -18,10 +21,15 @@ pub record IsBareRecipe (r : RecipeTree UnresolvedDependency) : Type 0 where
   pub plain : IsPlainRecipe r
   pub distinct : are_distinct (names_of (parameter_shapes r.parameters.items)) ≡ true
 
+-- the setting has no attributes, and is the one that its name tells
+pub record IsBareSet (s : SetTree) : Type 0 where
+  pub attributes : s.attributes.items ≡ []
+  pub name : setting_name s.value ≡ lexeme s.name.token
+
 -- the item has no attributes, and what they make of an item is not made yet
 abbrev pub IsBareTree : Item → Type 0
 IsBareTree (Recipe r) = IsBareRecipe r
-IsBareTree (Set s) = s.attributes.items ≡ []
+IsBareTree (Set s) = IsBareSet s
 IsBareTree other = IsPlainItem other
 
 -- the expressions and strings of the item hold what their strings stand for
