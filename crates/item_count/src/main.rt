@@ -3,8 +3,7 @@
 #![tactic(auto)]
 
 use anyhow::{Context, Result, anyhow};
-use justfile_syntax::Parser;
-use justfile_syntax::{ExpandFault, Expander, Numerator, Text};
+use justfile_syntax::{ExpandFault, Expander, Numerator, Parser, Text};
 use semver::Version;
 use std::alloc::Global;
 use std::env;
@@ -50,24 +49,27 @@ fn rounds(rt: &HostRuntime) -> Result<u32> {
 }
 
 /// How many items the justfile has.
-fn count(alloc: Global, source: &str) -> Result<usize> {
-    let version = Version::new(1, 58, 0);
+fn count(alloc: Global, version: &Version, source: &str) -> Result<usize> {
     let mut numerator = Numerator::new(29);
-    match Parser::parse_source(alloc, "justfile", source, &Unexpanded, &version, &mut numerator) {
+    match Parser::parse_source(
+        alloc,
+        "justfile",
+        source,
+        &Unexpanded,
+        version,
+        &mut numerator,
+    ) {
         Ok(file) => Ok(file.items.len()),
-        Err(error) => Err(anyhow!(
-            "{} in line {}",
-            error.kind,
-            error.token.line
-        )),
+        Err(error) => Err(anyhow!("{} in line {}", error.kind, error.token.line)),
     }
 }
 
 fn run(rt: &HostRuntime) -> Result<()> {
     let source = read_source(rt)?;
+    let version = Version::new(1, 58, 0);
     let mut items = 0;
     for _ in 0..rounds(rt)? {
-        items = count(rt.alloc(), &source)?;
+        items = count(rt.alloc(), &version, &source)?;
     }
     println!(rt; "{items}")?;
     Ok(())
