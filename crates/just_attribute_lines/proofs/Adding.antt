@@ -4,9 +4,9 @@ use Rattle.std.specs.Prelude.{not, ◌&&◌, is_some, option_map, IfSome, if◌t
 use Rattle.std.specs.List.{All}
 use Rattle.std.specs.Option.{option_and_then}
 use Rattle.just_strings.specs.declared.string_literal.StringLiteral.{StringLiteral}
-use Rattle.just_tree.specs.declared.attribute.ArgumentOptions.{ArgumentOptions}
-use Rattle.just_tree.specs.Attributes.{OptionsShape, options_shape}
-use Rattle.just_tree.specs.Shape.{written}
+use Rattle.just_attribute_tree.specs.declared.attribute.ArgumentOptions.{ArgumentOptions}
+use Rattle.just_attribute_tree.specs.Attributes.{OptionsShape, options_shape}
+use Rattle.just_expression_tree.specs.Shape.{written}
 use Rattle.just_expressions.specs.Literals.{Expansion, text_or_none}
 use Rattle.just_expressions.specs.Strings.{IsCookedString}
 use Rattle.just_attribute_lines.specs.declared.parameter_option.OptionRead.{OptionRead}

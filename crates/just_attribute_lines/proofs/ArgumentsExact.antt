@@ -3,8 +3,8 @@ use Rattle.std.proofs.Common.{◌≡◌, ℕ, List, [], ◌∷◌, map, length, 
 use Rattle.std.specs.Option.{option_map, option_and_then}
 use Rattle.just_text.specs.Tokens.{Word}
 use Rattle.just_text.specs.declared.token_kind.TokenKind.TheVariants.{Colon, ParenL, ParenR}
-use Rattle.just_tree.specs.declared.attribute.AttributeKind.{AttributeKind}
-use Rattle.just_tree.specs.Attributes.{AttributeShape, OptionsShape, with_options}
+use Rattle.just_attribute_tree.specs.declared.attribute.AttributeKind.{AttributeKind}
+use Rattle.just_attribute_tree.specs.Attributes.{AttributeShape, OptionsShape, with_options}
 use Rattle.just_expressions.specs.Words.{Mark}
 use Rattle.just_expressions.specs.Literals.{Expansion}
 use Rattle.just_expressions.specs.Laws.{Exactly}

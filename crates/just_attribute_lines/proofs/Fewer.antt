@@ -6,10 +6,10 @@ use Rattle.just_text.specs.Tokens.{Word}
 use Rattle.just_text.specs.declared.token_kind.TokenKind.{TokenKind}
 use Rattle.just_text.specs.declared.token_kind.TokenKind.TheVariants.{BracketL, BracketR, Colon, Comma, Comment, Eol, Equals, Identifier, ParenL, ParenR, StringToken}
 use Rattle.just_strings.specs.Cooking.{cooked}
-use Rattle.just_tree.specs.declared.attribute.AttributeKind.{AttributeKind}
-use Rattle.just_tree.specs.Attributes.{AttributeShape}
-use Rattle.just_tree.specs.Shape.{Shape}
-use Rattle.just_attributes.specs.Forms.{form_of, takes}
+use Rattle.just_attribute_tree.specs.declared.attribute.AttributeKind.{AttributeKind}
+use Rattle.just_attribute_tree.specs.Attributes.{AttributeShape}
+use Rattle.just_expression_tree.specs.Shape.{Shape}
+use Rattle.just_attribute_tree.specs.Forms.{form_of, takes}
 use Rattle.just_expressions.specs.Literals.{Expansion}
 use Rattle.just_expressions.specs.Reading.{◌>>=◌, Stop, Read, taken_if, accept, expect}
 use Rattle.just_expressions.specs.Words.{is_kind}

@@ -3,14 +3,14 @@ use Rattle.std.proofs.Common.{◌≡◌, ℕ, Bool, true, false, List, [], ◌�
 use Rattle.std.specs.Prelude.{option_map}
 use Rattle.just_text.specs.Tokens.{word_of, lexeme}
 use Rattle.just_text.specs.declared.token.Token.{Token}
-use Rattle.just_tree.specs.declared.attribute.ArgumentOptions.{ArgumentOptions}
-use Rattle.just_tree.specs.declared.attribute.AttributeKind.{AttributeKind}
-use Rattle.just_tree.specs.declared.attribute.AttributeKind.TheVariants.{Arg}
-use Rattle.just_tree.specs.Attributes.{AttributeShape, OptionsShape, with_options, options_shape}
-use Rattle.just_tree.specs.Shape.{Shape}
-use Rattle.just_attributes.specs.declared.argument_form.ArgumentForm.{ArgumentForm}
-use Rattle.just_attributes.specs.declared.argument_form.ArgumentForm.TheVariants.{Expressions, Strings, TwoExpressions}
-use Rattle.just_attributes.specs.Forms.{form_of, takes}
+use Rattle.just_attribute_tree.specs.declared.attribute.ArgumentOptions.{ArgumentOptions}
+use Rattle.just_attribute_tree.specs.declared.attribute.AttributeKind.{AttributeKind}
+use Rattle.just_attribute_tree.specs.declared.attribute.AttributeKind.TheVariants.{Arg}
+use Rattle.just_attribute_tree.specs.Attributes.{AttributeShape, OptionsShape, with_options, options_shape}
+use Rattle.just_expression_tree.specs.Shape.{Shape}
+use Rattle.just_attribute_tree.specs.declared.argument_form.ArgumentForm.{ArgumentForm}
+use Rattle.just_attribute_tree.specs.declared.argument_form.ArgumentForm.TheVariants.{Expressions, Strings, TwoExpressions}
+use Rattle.just_attribute_tree.specs.Forms.{form_of, takes}
 use Rattle.just_expressions.specs.declared.fault.Fault.{Fault}
 use Rattle.just_expressions.specs.declared.fault.Fault.TheVariants as faults
 use Rattle.just_expressions.specs.Literals.{Expansion}

@@ -12,3 +12,4 @@ pub mod Rest
 pub mod Rows
 pub mod RowsExact
 pub mod StringsExact
+pub mod Making

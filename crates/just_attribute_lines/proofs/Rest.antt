@@ -3,9 +3,9 @@ use Rattle.std.proofs.Common.{◌<◌, ◌≤◌, ℕ, List, [], ◌∷◌, leng
 use Rattle.just_text.specs.Tokens.{Word}
 use Rattle.just_text.specs.declared.token_kind.TokenKind.{TokenKind}
 use Rattle.just_text.specs.declared.token_kind.TokenKind.TheVariants.{BracketL, BracketR, Colon, Comma, Comment, Eol, Equals, Identifier, ParenL, ParenR, StringToken}
-use Rattle.just_tree.specs.Attributes.{AttributeShape, kind_name}
-use Rattle.just_tree.specs.Shape.{Shape}
-use Rattle.just_attributes.specs.Forms.{form_of}
+use Rattle.just_attribute_tree.specs.Attributes.{AttributeShape, kind_name}
+use Rattle.just_expression_tree.specs.Shape.{Shape}
+use Rattle.just_attribute_tree.specs.Forms.{form_of}
 use Rattle.just_expressions.specs.Words.{is_kind, Begins, Mark}
 use Rattle.just_expressions.specs.Literals.{Expansion}
 use Rattle.just_expressions.specs.Strings.{IsAside, IsExpression, IsString}
@@ -71,7 +71,7 @@ aside_no_longer : (ws rest : List Word) → IsAside ws rest → length rest ≤ 
 aside_no_longer ws rest (inl m) = let p = mark_takes Comment ws rest m in omega arith
 aside_no_longer ws rest (inr same) = rw same.0 (omega arith)
 
-line_end_takes : Takes IsLineEnd
+pub line_end_takes : Takes IsLineEnd
 line_end_takes ws rest (a, b, i, m, same) =
     let p = aside_no_longer ws a i in
     let q = mark_takes Eol a b m in

@@ -1,13 +1,13 @@
 -- The arguments of attributes, and what they make of them.
 use Rattle.std.specs.Prelude.{ℕ, suc, List, [], ◌∷◌, length, Option, Some}
 use Rattle.std.specs.Option.{option_map}
-use Rattle.just_tree.specs.declared.attribute.AttributeKind.{AttributeKind}
-use Rattle.just_tree.specs.Attributes.{AttributeShape, plain, with_options, with_prompt, with_pair, with_string, with_strings, with_interpreter}
-use Rattle.just_tree.specs.Shape.{Shape, literal}
+use Rattle.just_attribute_tree.specs.declared.attribute.AttributeKind.{AttributeKind}
+use Rattle.just_attribute_tree.specs.Attributes.{AttributeShape, plain, with_options, with_prompt, with_pair, with_string, with_strings, with_interpreter}
+use Rattle.just_expression_tree.specs.Shape.{Shape, literal}
 use Rattle.just_expressions.specs.Literals.{Expansion}
-use Rattle.just_attributes.specs.declared.argument_form.ArgumentForm.{ArgumentForm}
-use Rattle.just_attributes.specs.declared.argument_form.ArgumentForm.TheVariants.{Expressions, OneString, OptionalString, Parameter, Strings, TwoExpressions}
-use Rattle.just_attributes.specs.Forms.{form_of}
+use Rattle.just_attribute_tree.specs.declared.argument_form.ArgumentForm.{ArgumentForm}
+use Rattle.just_attribute_tree.specs.declared.argument_form.ArgumentForm.TheVariants.{Expressions, OneString, OptionalString, Parameter, Strings, TwoExpressions}
+use Rattle.just_attribute_tree.specs.Forms.{form_of}
 use Rattle.just_attribute_lines.specs.Options.{OptionShape, options_of}
 
 -- what arguments are

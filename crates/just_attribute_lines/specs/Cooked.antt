@@ -1,15 +1,15 @@
 -- The cooked texts of attributes.
 use Rattle.std.specs.Prelude.{IfSome, Some}
 use Rattle.std.specs.List.{All}
-use Rattle.just_tree.specs.declared.attribute.ArgumentOptions.{ArgumentOptions}
-use Rattle.just_tree.specs.declared.attribute.Attribute.{Attribute}
-use Rattle.just_tree.specs.declared.attribute.Attribute.TheVariants.{Arg, Confirm, Doc, Env, Extension, Group, Metadata, Script, WorkingDirectory}
-use Rattle.just_tree.specs.declared.attribute.LongName.{LongName}
-use Rattle.just_tree.specs.declared.attribute.LongName.TheVariants.{Named}
+use Rattle.just_attribute_tree.specs.declared.attribute.ArgumentOptions.{ArgumentOptions}
+use Rattle.just_attribute_tree.specs.declared.attribute.Attribute.{Attribute}
+use Rattle.just_attribute_tree.specs.declared.attribute.Attribute.TheVariants.{Arg, Confirm, Doc, Env, Extension, Group, Metadata, Script, WorkingDirectory}
+use Rattle.just_attribute_tree.specs.declared.attribute.LongName.{LongName}
+use Rattle.just_attribute_tree.specs.declared.attribute.LongName.TheVariants.{Named}
 use Rattle.just_expressions.specs.Literals.{Expansion, IsCooked, AreCooked}
 use Rattle.just_expressions.specs.Strings.{IsCookedString}
-use Rattle.just_tree.specs.declared.expression.Expression.{Expression}
-use Rattle.just_tree.specs.declared.setting.Interpreter.{Interpreter}
+use Rattle.just_expression_tree.specs.declared.expression.Expression.{Expression}
+use Rattle.just_attribute_tree.specs.declared.setting.Interpreter.{Interpreter}
 
 -- the command and its arguments hold what their strings stand for
 pub record IsCookedCommand (expansion : Expansion) (i : Interpreter Expression) : Type 0 where

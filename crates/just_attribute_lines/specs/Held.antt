@@ -6,11 +6,11 @@ use Rattle.just_text.specs.Tokens.{Word, word_of, lexeme}
 use Rattle.just_text.specs.declared.compile_error.CompileErrorKind.TheVariants as kinds
 use Rattle.just_text.specs.declared.token.Token.{Token}
 use Rattle.just_text.specs.declared.token_kind.TokenKind.TheVariants.{Comment, Eol}
-use Rattle.just_tree.specs.declared.attribute.AttributeKind.{AttributeKind}
-use Rattle.just_tree.specs.declared.attribute.ArgumentOptions.{ArgumentOptions}
-use Rattle.just_tree.specs.Attributes.{OptionsShape, options_shape}
-use Rattle.just_tree.specs.Shape.{shape_of, written}
-use Rattle.just_attributes.specs.Forms.{form_of, takes}
+use Rattle.just_attribute_tree.specs.declared.attribute.AttributeKind.{AttributeKind}
+use Rattle.just_attribute_tree.specs.declared.attribute.ArgumentOptions.{ArgumentOptions}
+use Rattle.just_attribute_tree.specs.Attributes.{OptionsShape, options_shape}
+use Rattle.just_expression_tree.specs.Shape.{shape_of, written}
+use Rattle.just_attribute_tree.specs.Forms.{form_of, takes}
 use Rattle.just_expressions.specs.declared.fault.Fault.{Fault}
 use Rattle.just_expressions.specs.declared.fault.Fault.TheVariants.{OutOfMemory}
 use Rattle.just_expressions.specs.Literals.{Expansion, IsCooked, AreCooked}

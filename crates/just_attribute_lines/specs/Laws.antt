@@ -1,7 +1,7 @@
 -- What reading attributes and deriving them have to do with each other.
 use Rattle.std.specs.Prelude.{◌≡◌, List, map, Some, Ok}
 use Rattle.just_text.specs.Tokens.{Word, word_of}
-use Rattle.just_tree.specs.Attributes.{AttributeShape}
+use Rattle.just_attribute_tree.specs.Attributes.{AttributeShape}
 use Rattle.just_expressions.specs.Literals.{Expansion}
 use Rattle.just_attribute_lines.specs.Lines.{AreAttributes}
 use Rattle.just_attribute_lines.specs.Reading.{attributes_at}

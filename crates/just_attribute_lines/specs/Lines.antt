@@ -2,9 +2,9 @@
 use Rattle.std.specs.Prelude.{ℕ, ◌≡◌, ◌⊎◌, true, List, [], ◌∷◌, Some, None, codes, if◌then◌else◌}
 use Rattle.just_text.specs.Tokens.{Word}
 use Rattle.just_text.specs.declared.token_kind.TokenKind.TheVariants.{BracketL, BracketR, Colon, Comment, Eol, Equals, Identifier, ParenL, ParenR}
-use Rattle.just_tree.specs.declared.attribute.AttributeKind.{AttributeKind}
-use Rattle.just_tree.specs.Attributes.{AttributeShape, kind_name}
-use Rattle.just_attributes.specs.Forms.{form_of, takes}
+use Rattle.just_attribute_tree.specs.declared.attribute.AttributeKind.{AttributeKind}
+use Rattle.just_attribute_tree.specs.Attributes.{AttributeShape, kind_name}
+use Rattle.just_attribute_tree.specs.Forms.{form_of, takes}
 use Rattle.just_expressions.specs.Words.{is_kind, Begins, Mark, Lacks}
 use Rattle.just_expressions.specs.Literals.{Expansion}
 use Rattle.just_expressions.specs.Strings.{IsAside, IsExpression, IsString}

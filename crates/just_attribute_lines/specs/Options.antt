@@ -3,8 +3,8 @@ use Rattle.std.specs.Prelude.{ℕ, Bool, true, false, not, ◌&&◌, ◌||◌, n
 use Rattle.std.specs.List.{list_all}
 use Rattle.std.specs.Option.{option_and_then}
 use Rattle.just_strings.specs.Cooking.{cooked}
-use Rattle.just_tree.specs.Attributes.{OptionsShape}
-use Rattle.just_tree.specs.Shape.{Shape}
+use Rattle.just_attribute_tree.specs.Attributes.{OptionsShape}
+use Rattle.just_expression_tree.specs.Shape.{Shape}
 use Rattle.just_expressions.specs.Literals.{Expansion, text_or_none}
 
 -- an option as it is written

@@ -2,7 +2,7 @@
 use Rattle.std.specs.Prelude.{◌≡◌, List, map, Option, Some, None, IfSome}
 use Rattle.std.specs.List.{All}
 use Rattle.std.specs.Option.{option_map}
-use Rattle.just_tree.specs.Attributes.{AttributeShape, OptionsShape, with_options, attribute_shape, options_shape}
+use Rattle.just_attribute_tree.specs.Attributes.{AttributeShape, OptionsShape, with_options, attribute_shape, options_shape}
 use Rattle.just_expressions.specs.Literals.{Expansion}
 use Rattle.just_attribute_lines.specs.declared.attribute.AttributeRead.{AttributeRead}
 use Rattle.just_attribute_lines.specs.Cooked.{AreCookedOptions, IsCookedAttribute}

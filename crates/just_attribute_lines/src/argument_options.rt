@@ -1,8 +1,8 @@
 //! What the options of `arg` say of a parameter.
 ghost use Rattle.std.specs.Prelude.{◌≡◌, IfSome, Some, map, option_map, true};
 ghost use Rattle.std.specs.List.{All, list_all};
-ghost use Rattle.just_tree.specs.Attributes.{long_shape, options_shape};
-ghost use Rattle.just_tree.specs.Shape.{written};
+ghost use Rattle.just_attribute_tree.specs.Attributes.{long_shape, options_shape};
+ghost use Rattle.just_expression_tree.specs.Shape.{written};
 ghost use Rattle.just_expressions.specs.Literals.{Expansion};
 ghost use Rattle.just_expressions.specs.Strings.{IsCookedString};
 ghost use Rattle.just_attribute_lines.specs.Cooked.{AreCookedOptions, IsCookedName};
@@ -10,8 +10,8 @@ ghost use Rattle.just_attribute_lines.specs.Held.{IsCookedGiven, IsCookedOption,
 ghost use Rattle.just_attribute_lines.specs.Options.{is_count, is_digit, is_short, is_whole, options_of, with_all, with_option, without_options};
 
 use crate::parameter_option::OptionRead;
+use just_attribute_tree::{ArgumentOptions, LongName};
 use just_strings::StringLiteral;
-use just_tree::{ArgumentOptions, LongName};
 
 /// Whether the text is one ASCII letter or digit.
 fn is_short(text: &str) -> bool

@@ -2,7 +2,7 @@
 ghost use Rattle.std.specs.Prelude.{◌≡◌, IfOk, map, true};
 ghost use Rattle.std.specs.List.{All};
 ghost use Rattle.just_text.specs.Tokens.{word_of};
-ghost use Rattle.just_tree.specs.Shape.{shape_of, written};
+ghost use Rattle.just_expression_tree.specs.Shape.{shape_of, written};
 ghost use Rattle.just_expressions.specs.Literals.{AreCooked, Expansion};
 ghost use Rattle.just_expressions.specs.Reading.{Gives, ahead};
 ghost use Rattle.just_expressions.specs.Strings.{IsCookedString};
@@ -12,11 +12,11 @@ ghost use Rattle.just_attribute_lines.specs.Reading.{arguments_at, inside_at, op
 
 use crate::parameter_option::{OptionRead, option};
 use crate::row::is_more;
-use just_attributes::ArgumentForm;
+use just_attribute_tree::ArgumentForm;
+use just_expression_tree::Expression;
 use just_expressions::{Cursor, Fault};
 use just_strings::StringLiteral;
 use just_text::{Expander, TokenKind, both};
-use just_tree::Expression;
 use std::alloc::Global;
 
 /// Arguments as they are written.

@@ -3,9 +3,9 @@ ghost use Rattle.std.specs.Prelude.{◌≡◌, IfOk, IfSome, List, Ok, Some, opt
 ghost use Rattle.just_text.specs.Tokens.{lexeme, word_of};
 ghost use Rattle.just_text.specs.declared.compile_error.CompileErrorKind.TheVariants as kinds;
 ghost use Rattle.just_text.specs.declared.token.Token.{Token};
-ghost use Rattle.just_tree.specs.Attributes.{options_shape};
-ghost use Rattle.just_attributes.specs.Forms.{form_of, takes};
-ghost use Rattle.just_tree.specs.declared.attribute.AttributeKind.TheVariants.{Arg};
+ghost use Rattle.just_attribute_tree.specs.Attributes.{options_shape};
+ghost use Rattle.just_attribute_tree.specs.Forms.{form_of, takes};
+ghost use Rattle.just_attribute_tree.specs.declared.attribute.AttributeKind.TheVariants.{Arg};
 ghost use Rattle.just_expressions.specs.Literals.{Expansion};
 ghost use Rattle.just_expressions.specs.Reading.{Gives, ahead};
 ghost use Rattle.just_attribute_lines.specs.Arguments.{Arguments, count, made, sort_of};
@@ -18,10 +18,11 @@ use crate::argument_options::options_of;
 use crate::arguments::{ArgumentsRead, arguments};
 use crate::make::made;
 use crate::row::is_another;
-use just_attributes::{ArgumentForm, kind_from_name};
+use just_attribute_tree::{
+    ArgumentForm, ArgumentOptions, Attribute, AttributeKind, kind_from_name,
+};
 use just_expressions::{Cursor, Fault};
 use just_text::{CompileErrorKind, Expander, Name, Text, TokenKind, both};
-use just_tree::{ArgumentOptions, Attribute, AttributeKind};
 use std::alloc::{AllocError, Global};
 
 /// An attribute as it is read.

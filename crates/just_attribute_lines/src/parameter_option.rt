@@ -1,17 +1,17 @@
 //! The options of `arg`, as they are written.
 ghost use Rattle.std.specs.Prelude.{IfOk, IfSome, option_map};
 ghost use Rattle.just_text.specs.Tokens.{word_of};
-ghost use Rattle.just_tree.specs.Shape.{shape_of, written};
+ghost use Rattle.just_expression_tree.specs.Shape.{shape_of, written};
 ghost use Rattle.just_expressions.specs.Literals.{IsCooked};
 ghost use Rattle.just_expressions.specs.Reading.{Gives, ahead};
 ghost use Rattle.just_expressions.specs.Strings.{IsCookedString};
 ghost use Rattle.just_attribute_lines.specs.Held.{IsCookedOption, option_shape};
 ghost use Rattle.just_attribute_lines.specs.Reading.{assigned_at, long_at, named_at, option_at, unknown_at, value_at};
 
+use just_expression_tree::Expression;
 use just_expressions::{Cursor, Fault};
 use just_strings::StringLiteral;
 use just_text::{Expander, TokenKind};
-use just_tree::Expression;
 
 /// An option as it is written.
 #[derive(Drop)]

@@ -3,7 +3,7 @@ use Rattle.std.proofs.Common.{◌≡◌, ℕ, true, List, map, Result, Ok, Err, 
 use Rattle.just_text.specs.Tokens.{Word}
 use Rattle.just_text.specs.declared.compile_error.CompileErrorKind.{CompileErrorKind}
 use Rattle.just_tree.specs.declared.ast.ItemKind.{ItemKind}
-use Rattle.just_tree.specs.Attributes.{AttributeShape}
+use Rattle.just_attribute_tree.specs.Attributes.{AttributeShape}
 use Rattle.just_tree.specs.Files.{ItemShape}
 use Rattle.just_expressions.specs.Literals.{Expansion}
 use Rattle.just_expressions.specs.Reading.{Stop}

@@ -8,7 +8,7 @@ use Rattle.just_text.specs.declared.compile_error.CompileErrorKind.{CompileError
 use Rattle.just_text.specs.declared.compile_error.CompileErrorKind.TheVariants as kinds
 use Rattle.just_text.specs.declared.token.Token.{Token}
 use Rattle.just_tree.specs.declared.ast.ItemKind.{ItemKind}
-use Rattle.just_tree.specs.Attributes.{AttributeShape}
+use Rattle.just_attribute_tree.specs.Attributes.{AttributeShape}
 use Rattle.just_tree.specs.Files.{ItemShape, item_shape, kind_of}
 use Rattle.just_attributes.specs.Files.{or_next}
 use Rattle.just_expressions.specs.declared.fault.Fault.{Fault}

@@ -2,7 +2,7 @@
 use Rattle.std.proofs.Common.{◌≡◌, zero, suc, List, [], ◌∷◌, length, map, Option, refl, sym, ap, subst, ◌∙◌, arith}
 use Rattle.std.specs.Prelude.{IfSome}
 use Rattle.std.proofs.lemmas.List.Elements.{All-map}
-use Rattle.just_tree.specs.declared.expression.Expression.{Expression}
+use Rattle.just_expression_tree.specs.declared.expression.Expression.{Expression}
 use Rattle.std.specs.List.{All}
 use Rattle.std.proofs.lemmas.List.{length-map}
 use Rattle.just_tree.specs.declared.recipe.Parameter.{Parameter}

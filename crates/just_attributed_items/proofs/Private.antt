@@ -2,8 +2,8 @@
 use Rattle.std.proofs.Common.{◌≡◌, Bool, List, [], ◌∷◌, refl, ap}
 use Rattle.std.specs.Prelude.{◌||◌}
 use Rattle.std.specs.List.{list_any}
-use Rattle.just_tree.specs.declared.attribute.Attribute.{Attribute}
-use Rattle.just_tree.specs.Attributes.{attribute_shape, kind_of}
+use Rattle.just_attribute_tree.specs.declared.attribute.Attribute.{Attribute}
+use Rattle.just_attribute_tree.specs.Attributes.{attribute_shape, kind_of}
 use Rattle.just_attributes.specs.Sets.{is_private_kind}
 use Rattle.just_attributed_items.specs.Held.{are_private}
 

@@ -8,7 +8,7 @@ use Rattle.std.specs.Option.{option_map}
 use Rattle.just_text.specs.declared.compile_error.CompileErrorKind.{CompileErrorKind}
 use Rattle.just_text.specs.declared.compile_error.CompileErrorKind.TheVariants as kinds
 use Rattle.just_tree.specs.declared.ast.ItemKind.{ItemKind}
-use Rattle.just_tree.specs.Attributes.{AttributeShape, is_repeatable, kind_name, kind_of}
+use Rattle.just_attribute_tree.specs.Attributes.{AttributeShape, is_repeatable, kind_name, kind_of}
 use Rattle.just_attributes.specs.Files.{or_next}
 use Rattle.just_attribute_lines.specs.declared.attribute.AttributeRead.{AttributeRead}
 use Rattle.just_attribute_lines.specs.Seen.{read_shape, read_shapes}

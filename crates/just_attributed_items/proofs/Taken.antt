@@ -5,8 +5,8 @@ use Rattle.std.specs.List.{All, cons_option}
 use Rattle.std.specs.Option.{option_map}
 use Rattle.std.proofs.lemmas.List.{map-append}
 use Rattle.std.proofs.lemmas.List.Elements.{All-append, filter_map-append}
-use Rattle.just_tree.specs.declared.attribute.Attribute.{Attribute}
-use Rattle.just_tree.specs.Attributes.{AttributeShape, attribute_shape, attribute_shapes, options_shape}
+use Rattle.just_attribute_tree.specs.declared.attribute.Attribute.{Attribute}
+use Rattle.just_attribute_tree.specs.Attributes.{AttributeShape, attribute_shape, attribute_shapes, options_shape}
 use Rattle.just_expressions.specs.Literals.{Expansion}
 use Rattle.just_attribute_lines.specs.declared.attribute.AttributeRead.{AttributeRead}
 use Rattle.just_attribute_lines.specs.Cooked.{AreCookedOptions, IsCookedAttribute}

@@ -4,12 +4,12 @@ use Rattle.std.specs.Prelude.{IfSome}
 use Rattle.std.specs.List.{All, cons_option}
 use Rattle.std.specs.Option.{option_map}
 use Rattle.just_text.specs.Tokens.{Word}
-use Rattle.just_tree.specs.declared.attribute.AttributeKind.{AttributeKind}
-use Rattle.just_tree.specs.Attributes.{AttributeShape, OptionsShape, plain, with_options}
-use Rattle.just_tree.specs.Shape.{Shape}
-use Rattle.just_attributes.specs.declared.argument_form.ArgumentForm.{ArgumentForm}
-use Rattle.just_attributes.specs.declared.argument_form.ArgumentForm.TheVariants.{Expressions, Strings, TwoExpressions}
-use Rattle.just_attributes.specs.Forms.{form_of}
+use Rattle.just_attribute_tree.specs.declared.attribute.AttributeKind.{AttributeKind}
+use Rattle.just_attribute_tree.specs.Attributes.{AttributeShape, OptionsShape, plain, with_options}
+use Rattle.just_expression_tree.specs.Shape.{Shape}
+use Rattle.just_attribute_tree.specs.declared.argument_form.ArgumentForm.{ArgumentForm}
+use Rattle.just_attribute_tree.specs.declared.argument_form.ArgumentForm.TheVariants.{Expressions, Strings, TwoExpressions}
+use Rattle.just_attribute_tree.specs.Forms.{form_of}
 use Rattle.just_expressions.specs.Literals.{Expansion}
 use Rattle.just_attribute_lines.specs.Arguments.{Arguments, nothing, strings, expressions, parameter, made, of_texts, of_values}
 use Rattle.just_attribute_lines.specs.Lines.{AreAttributes, IsAttribute, IsBetween, IsLast}

@@ -6,7 +6,7 @@ use Rattle.just_text.specs.declared.compile_error.CompileErrorKind.{CompileError
 use Rattle.just_text.specs.declared.compile_error.CompileErrorKind.TheVariants as kinds
 use Rattle.just_tree.specs.declared.ast.ItemKind.{ItemKind}
 use Rattle.just_tree.specs.declared.ast.ItemKind.TheVariants as items
-use Rattle.just_tree.specs.Attributes.{AttributeShape, OptionsShape, kind_of, kind_name, is_repeatable}
+use Rattle.just_attribute_tree.specs.Attributes.{AttributeShape, OptionsShape, kind_of, kind_name, is_repeatable}
 use Rattle.just_tree.specs.Files.{ItemShape, alias_item, assignment_item, module_item, recipe_item, set_item, kind_of as item_kind_of}
 use Rattle.just_attributes.specs.Files.{or_next}
 use Rattle.just_attributes.specs.Sets.{may_carry}

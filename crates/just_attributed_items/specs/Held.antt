@@ -5,12 +5,12 @@ use Rattle.just_text.specs.Numbers.{Numbers}
 use Rattle.just_text.specs.Tokens.{lexeme}
 use Rattle.just_tree.specs.declared.ast.Item.{Item}
 use Rattle.just_tree.specs.declared.ast.Item.TheVariants.{Alias, Assignment, Module, Recipe, Set}
-use Rattle.just_tree.specs.declared.attribute.Attribute.{Attribute}
-use Rattle.just_tree.specs.declared.expression.Expression.{Expression}
+use Rattle.just_attribute_tree.specs.declared.attribute.Attribute.{Attribute}
+use Rattle.just_expression_tree.specs.declared.expression.Expression.{Expression}
 use Rattle.just_tree.specs.declared.item.Binding.{Binding}
 use Rattle.just_tree.specs.declared.recipe.Recipe.{Recipe as RecipeTree}
 use Rattle.just_tree.specs.declared.recipe.UnresolvedDependency.{UnresolvedDependency}
-use Rattle.just_tree.specs.Attributes.{attribute_shapes, kind_of}
+use Rattle.just_attribute_tree.specs.Attributes.{attribute_shapes, kind_of}
 use Rattle.just_attributes.specs.Sets.{is_private_kind}
 use Rattle.just_attribute_lines.specs.Cooked.{IsCookedAttribute}
 use Rattle.just_expressions.specs.Literals.{Expansion}

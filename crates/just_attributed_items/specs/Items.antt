@@ -1,7 +1,7 @@
 -- The grammar of items with their attributes.
 use Rattle.std.specs.Prelude.{ℕ, ◌≡◌, List}
 use Rattle.just_text.specs.Tokens.{Word}
-use Rattle.just_tree.specs.Attributes.{AttributeShape}
+use Rattle.just_attribute_tree.specs.Attributes.{AttributeShape}
 use Rattle.just_tree.specs.Files.{ItemShape}
 use Rattle.just_expressions.specs.Literals.{Expansion}
 use Rattle.just_attribute_lines.specs.Lines.{AreAttributes}

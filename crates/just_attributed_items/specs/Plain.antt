@@ -5,7 +5,7 @@ use Rattle.just_tree.specs.declared.ast.Item.{Item}
 use Rattle.just_tree.specs.declared.ast.Item.TheVariants.{Recipe, Set}
 use Rattle.just_tree.specs.declared.recipe.Recipe.{Recipe as RecipeTree}
 use Rattle.just_tree.specs.declared.recipe.UnresolvedDependency.{UnresolvedDependency}
-use Rattle.just_tree.specs.declared.setting.Set.{Set as SetTree}
+use Rattle.just_attribute_tree.specs.declared.setting.Set.{Set as SetTree}
 use Rattle.just_tree.specs.Recipes.{parameter_shapes}
 use Rattle.just_expressions.specs.Literals.{Expansion}
 use Rattle.just_recipes.specs.Cooked.{IsRecipeCooked}

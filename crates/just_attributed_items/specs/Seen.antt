@@ -1,7 +1,7 @@
 -- What the parser of items with attributes holds as the grammar sees it.
 use Rattle.std.specs.Prelude.{ℕ, ◌≡◌, List, map, Option, Some}
 use Rattle.std.specs.List.{All}
-use Rattle.just_tree.specs.Attributes.{AttributeShape, attribute_shapes, options_shape}
+use Rattle.just_attribute_tree.specs.Attributes.{AttributeShape, attribute_shapes, options_shape}
 use Rattle.just_tree.specs.Files.{ItemShape, item_shape}
 use Rattle.just_expressions.specs.Literals.{Expansion}
 use Rattle.just_attribute_lines.specs.Cooked.{AreCookedOptions}

@@ -1,15 +1,15 @@
 //! Whether attributes fit the item behind them, whatever the `arg`s say.
 ghost use Rattle.std.specs.Prelude.{◌≡◌, IfOk, IfSome, find, is_some, not, option_map};
 ghost use Rattle.just_text.specs.declared.compile_error.CompileErrorKind.TheVariants as kinds;
-ghost use Rattle.just_tree.specs.Attributes.{kind_name, kind_of};
+ghost use Rattle.just_attribute_tree.specs.Attributes.{kind_name, kind_of};
 ghost use Rattle.just_tree.specs.Files.{item_shape};
 ghost use Rattle.just_attribute_lines.specs.Seen.{read_shape, read_shapes};
 ghost use Rattle.just_parameter_options.specs.Options.{GivesOrRefuses};
 ghost use Rattle.just_attributed_items.specs.Fitting.{known, name_of, repeated};
 ghost use Rattle.just_attributed_items.specs.Refusals.{head_fault, is_misplaced, is_named, is_repeated, known_fault, may_repeat, name_in};
 
-use crate::carriers::may_carry;
 use just_attribute_lines::AttributeRead;
+use just_attributes::may_carry;
 use just_expressions::Fault;
 use just_text::{CompileErrorKind, Text};
 use just_tree::{Item, ItemKind};

@@ -1,15 +1,15 @@
 //! Attributes, and beside them the options of those that are `arg`s.
 ghost use Rattle.std.specs.Prelude.{◌≡◌, ◌++◌, [], IfOk, OnOk};
 ghost use Rattle.std.specs.List.{cons_option};
-ghost use Rattle.just_tree.specs.Attributes.{attribute_shapes};
+ghost use Rattle.just_attribute_tree.specs.Attributes.{attribute_shapes};
 ghost use Rattle.just_expressions.specs.Literals.{Expansion};
 ghost use Rattle.just_attribute_lines.specs.Seen.{AreWholeReads, read_shapes};
 ghost use Rattle.just_attributed_items.specs.Fitting.{known};
 ghost use Rattle.just_attributed_items.specs.Seen.{AreWholeKnown};
 
 use just_attribute_lines::AttributeRead;
+use just_attribute_tree::{ArgumentOptions, Attribute};
 use just_text::both;
-use just_tree::{ArgumentOptions, Attribute};
 use std::alloc::{AllocError, Global};
 
 /// The attributes before an item in their order, and the options of those that are `arg`s.

@@ -3,7 +3,7 @@ ghost use Rattle.std.specs.Prelude.{◌≡◌, ◌||◌, IfOk};
 ghost use Rattle.std.specs.List.{list_any};
 ghost use Rattle.just_text.specs.Numbers.{Numbers};
 ghost use Rattle.just_tree.specs.declared.ast.Item.TheVariants as items;
-ghost use Rattle.just_tree.specs.Attributes.{attribute_shape, attribute_shapes, kind_of};
+ghost use Rattle.just_attribute_tree.specs.Attributes.{attribute_shape, attribute_shapes, kind_of};
 ghost use Rattle.just_tree.specs.Files.{item_shape};
 ghost use Rattle.just_tree.specs.Recipes.{recipe_shape};
 ghost use Rattle.just_attributes.specs.Sets.{is_private_kind};
@@ -16,14 +16,13 @@ ghost use Rattle.just_attributed_items.specs.Held.{HasOptions, IsItemCooked, IsI
 ghost use Rattle.just_attributed_items.specs.Plain.{IsBareCooked, IsBareRecipe, IsBareTree};
 ghost use Rattle.just_attributed_items.specs.Seen.{AreWholeArguments, AreWholeKnown};
 
-use crate::carriers::is_private;
 use crate::split::KnownAttributes;
+use just_attribute_tree::{Attribute, Set};
+use just_attributes::is_private;
 use just_expressions::Fault;
 use just_parameter_options::with_options;
 use just_text::Namepath;
-use just_tree::{
-    Alias, Assignment, Attribute, Binding, Item, Module, Recipe, Set, UnresolvedDependency,
-};
+use just_tree::{Alias, Assignment, Binding, Item, Module, Recipe, UnresolvedDependency};
 use std::alloc::Global;
 
 /// The alias behind these attributes.

@@ -1,7 +1,7 @@
 -- The arguments of attributes as they are printed.
 use Rattle.std.specs.Prelude.{ℕ, List, [], ◌++◌, codes}
-use Rattle.just_tree.specs.Attributes.{AttributeShape, plain, with_options, with_prompt, with_pair, with_string, with_strings, with_interpreter, options_text, strings_text, expressions_text}
-use Rattle.just_tree.specs.Printing.{text_of}
+use Rattle.just_attribute_tree.specs.Attributes.{AttributeShape, plain, with_options, with_prompt, with_pair, with_string, with_strings, with_interpreter, options_text, strings_text, expressions_text}
+use Rattle.just_expression_tree.specs.Printing.{text_of}
 
 -- the arguments without the parentheses, and nothing where there are none
 abbrev pub arguments_text : AttributeShape → List ℕ

@@ -4,9 +4,9 @@ use Rattle.std.specs.Option.{option_and_then}
 use Rattle.just_text.specs.declared.os.Os.{Os}
 use Rattle.just_tree.specs.declared.ast.Item.{Item}
 use Rattle.just_tree.specs.declared.ast.Item.TheVariants.{Set as SetItem}
-use Rattle.just_tree.specs.declared.setting.Setting.{Setting}
-use Rattle.just_tree.specs.declared.setting.Setting.TheVariants.{Indentation}
-use Rattle.just_tree.specs.Attributes.{attribute_shape}
+use Rattle.just_attribute_tree.specs.declared.setting.Setting.{Setting}
+use Rattle.just_attribute_tree.specs.declared.setting.Setting.TheVariants.{Indentation}
+use Rattle.just_attribute_tree.specs.Attributes.{attribute_shape}
 use Rattle.just_attributes.specs.Indentations.{is_indentation}
 use Rattle.just_attributes.specs.Sets.{enabled}
 

@@ -1,7 +1,7 @@
 -- What the order of attributes comes to.
 use Rattle.std.specs.Prelude.{◌≡◌, List, map}
 use Rattle.std.specs.List.Sorted.{IsPermutation, IsSorted, IsStable}
-use Rattle.just_tree.specs.Attributes.{AttributeShape}
+use Rattle.just_attribute_tree.specs.Attributes.{AttributeShape}
 use Rattle.just_attributes.specs.declared.attribute_item.AttributeItem.{AttributeItem}
 use Rattle.just_attributes.specs.Order.{attribute_cmp, in_order, item_shape, items_in_order}
 

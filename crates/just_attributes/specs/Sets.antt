@@ -7,11 +7,11 @@ use Rattle.just_text.specs.declared.os.Os.{Os}
 use Rattle.just_text.specs.declared.os.Os.TheVariants.{Android as AndroidOs, Dragonfly as DragonflyOs, Freebsd as FreebsdOs, Linux as LinuxOs, Macos as MacosOs, Netbsd as NetbsdOs, Openbsd as OpenbsdOs}
 use Rattle.just_tree.specs.declared.ast.ItemKind.{ItemKind}
 use Rattle.just_tree.specs.declared.ast.ItemKind.TheVariants.{Alias, Assignment, Module, Recipe, Set}
-use Rattle.just_tree.specs.declared.attribute.Attribute.{Attribute}
-use Rattle.just_tree.specs.declared.attribute.Attribute.TheVariants.{Group}
-use Rattle.just_tree.specs.declared.attribute.AttributeKind.{AttributeKind}
-use Rattle.just_tree.specs.declared.attribute.AttributeKind.TheVariants.{Android, Doc, Dragonfly, Freebsd, Group as GroupKind, Linux, Macos, Netbsd, Openbsd, Private, Unix, Windows}
-use Rattle.just_tree.specs.Attributes.{AttributeShape, kind_name, kind_of}
+use Rattle.just_attribute_tree.specs.declared.attribute.Attribute.{Attribute}
+use Rattle.just_attribute_tree.specs.declared.attribute.Attribute.TheVariants.{Group}
+use Rattle.just_attribute_tree.specs.declared.attribute.AttributeKind.{AttributeKind}
+use Rattle.just_attribute_tree.specs.declared.attribute.AttributeKind.TheVariants.{Android, Doc, Dragonfly, Freebsd, Group as GroupKind, Linux, Macos, Netbsd, Openbsd, Private, Unix, Windows}
+use Rattle.just_attribute_tree.specs.Attributes.{AttributeShape, kind_name, kind_of}
 use Rattle.just_attributes.specs.declared.attribute_item.AttributeItem.{AttributeItem}
 use Rattle.just_attributes.specs.declared.attribute_set.AttributeSet.{AttributeSet}
 use Rattle.just_attributes.specs.Order.{name_text, item_shape}

@@ -4,12 +4,12 @@ ghost use Rattle.std.specs.Cmp.{partial_equiv_from_equiv, partial_order_from_own
 ghost use Rattle.std.specs.Ordering.{as_partial_cmp};
 ghost use Rattle.std.specs.Cmp.Rules.{comparing};
 ghost use Rattle.std.proofs.Common.{rules};
-ghost use Rattle.just_tree.specs.Attributes.{attribute_shape};
+ghost use Rattle.just_attribute_tree.specs.Attributes.{attribute_shape};
 ghost use Rattle.just_attributes.specs.Arguments.{arguments_text};
 
 use crate::printed_arguments::PrintedArguments;
+use just_attribute_tree::Attribute;
 use just_text::{Name, Text};
-use just_tree::Attribute;
 use std::alloc::{AllocError, Global};
 use std::cmp::Ordering;
 

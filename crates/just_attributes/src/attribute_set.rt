@@ -10,8 +10,9 @@ ghost use Rattle.just_text.specs.declared.compile_error.CompileErrorKind.TheVari
 
 use crate::attribute_item::AttributeItem;
 use crate::systems::{is_system, kind_for, may_carry};
+use just_attribute_tree::{Attribute, AttributeKind};
 use just_text::{CompileError, CompileErrorKind, Name, Os, Text};
-use just_tree::{Attribute, AttributeKind, ItemKind};
+use just_tree::ItemKind;
 use std::alloc::{AllocError, Global};
 use std::{slice, vec};
 

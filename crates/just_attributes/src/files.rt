@@ -1,14 +1,15 @@
 //! The indentation that a file sets.
 ghost use Rattle.std.specs.Prelude.{◌≡◌, option_map};
 ghost use Rattle.std.specs.List.{list_any};
-ghost use Rattle.just_tree.specs.Attributes.{attribute_shape};
+ghost use Rattle.just_attribute_tree.specs.Attributes.{attribute_shape};
 ghost use Rattle.just_attributes.specs.Files as spec;
 ghost use Rattle.just_attributes.specs.Sets as sets;
 
 use crate::indentation::Indentation;
 use crate::systems::{is_system, kind_for};
+use just_attribute_tree::{Attribute, AttributeKind, Setting};
 use just_text::Os;
-use just_tree::{Ast, Attribute, AttributeKind, Item, Setting};
+use just_tree::{Ast, Item};
 
 /// The indentation by the file's first enabled item that sets one; which items are enabled, the
 /// operating system decides.

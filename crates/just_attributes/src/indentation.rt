@@ -3,6 +3,7 @@ ghost use Rattle.std.specs.Prelude.{◌≡◌, true, false, codes, MatchOption, 
 ghost use Rattle.just_attributes.specs.Indentations.{is_indentation};
 
 use std::fmt;
+use std::str::FromStr;
 
 /// What stands in front of the lines of a printed body: one tab, or one to eight spaces.
 #[derive(Clone, Copy, Debug, PartialEq, Eq)]
@@ -37,6 +38,34 @@ impl Indentation {
         ensures form { is_indentation result.now ≡ true }
     {
         self.text
+    }
+}
+
+/// A text that is no indentation.
+#[derive(Clone, Copy, Debug, PartialEq, Eq)]
+pub struct InvalidIndentation;
+
+impl fmt::Display for InvalidIndentation {
+    ghost output = { λ _. Some (codes "an indentation is one tab, or one to eight spaces") };
+
+    fn fmt<W: fmt::Write>(&self, f: &mut fmt::Formatter<W>) -> fmt::Result {
+        f.write_str("an indentation is one tab, or one to eight spaces")
+    }
+}
+
+/// Takes what `from_text` takes.
+impl FromStr for Indentation {
+    type Err = InvalidIndentation;
+
+    ghost use Rattle.std.specs.Prelude.{IfErr, IfOk};
+
+    ghost from_str_gives = { λ text result. IfOk result (λ indentation. indentation.text.now ≡ text) × IfErr result (λ _. is_indentation text ≡ false) };
+
+    fn from_str(text: &str) -> Result<Indentation, InvalidIndentation> {
+        match Indentation::from_text(text) {
+            Some(indentation) => Ok(indentation),
+            None => Err(InvalidIndentation),
+        }
     }
 }
 

@@ -1,8 +1,9 @@
 //! Things that have a name.
 ghost use Rattle.just_text.specs.Tokens.{lexeme};
 
+use just_attribute_tree::Set;
 use just_text::Name;
-use just_tree::{Alias, Binding, FunctionDefinition, Recipe, Set};
+use just_tree::{Alias, Binding, FunctionDefinition, Recipe};
 
 /// What has a name, by which it can be looked up.
 pub trait Keyed {

@@ -1,11 +1,12 @@
 //! The arguments of attributes as they are printed.
 ghost use Rattle.std.specs.Prelude.{◌≡◌, ◌++◌, Some};
 ghost use Rattle.std.specs.Fmt.{WritesOnOk};
-ghost use Rattle.just_tree.specs.Attributes as tree;
+ghost use Rattle.just_attribute_tree.specs.Attributes as tree;
 ghost use Rattle.just_attributes.specs.Arguments as spec;
 
+use just_attribute_tree::{Attribute, Elements, Interpreter, Strings};
+use just_expression_tree::Expression;
 use just_strings::StringLiteral;
-use just_tree::{Attribute, Elements, Expression, Interpreter, Strings};
 use std::fmt;
 
 /// The arguments of an attribute without the parentheses, and nothing where it has none.

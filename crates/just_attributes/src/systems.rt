@@ -2,8 +2,9 @@
 ghost use Rattle.std.specs.Prelude.{◌≡◌};
 ghost use Rattle.just_attributes.specs.Sets as spec;
 
+use just_attribute_tree::AttributeKind;
 use just_text::Os;
-use just_tree::{AttributeKind, ItemKind};
+use just_tree::ItemKind;
 
 /// Whether the attribute names an operating system or a family of them.
 pub fn is_system(kind: AttributeKind) -> bool
@@ -38,7 +39,8 @@ pub fn kind_for(os: Os) -> AttributeKind
     }
 }
 
-fn is_private(kind: AttributeKind) -> bool
+/// Whether the attribute makes its item private.
+pub fn is_private(kind: AttributeKind) -> bool
     ensures { result ≡ spec.is_private_kind kind }
 {
     match kind {

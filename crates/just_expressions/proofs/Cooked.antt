@@ -6,8 +6,8 @@ use Rattle.std.specs.List.{flat_map}
 use Rattle.just_text.specs.Tokens.{lexeme}
 use Rattle.just_text.specs.declared.name.Name.{Name}
 use Rattle.just_text.specs.declared.token.Token.{Token}
-use Rattle.just_tree.specs.declared.expression.Expression.{Expression, Call, List as ListOf, the_lemmas}
-use Rattle.just_tree.specs.Shape.{call, listing, shape_of, shapes_of}
+use Rattle.just_expression_tree.specs.declared.expression.Expression.{Expression, Call, List as ListOf, the_lemmas}
+use Rattle.just_expression_tree.specs.Shape.{call, listing, shape_of, shapes_of}
 use Rattle.just_expressions.specs.Literals.{Expansion, AreCooked, IsCooked, cooked_in, texts_of}
 
 pub listing_cooked : (x : Expansion) (es : Vec Expression) (token : Token) → AreCooked x es.items → IsCooked x (ListOf es token)

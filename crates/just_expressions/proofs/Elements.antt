@@ -7,8 +7,8 @@ use Rattle.just_text.specs.Tokens.{word_of}
 use Rattle.just_text.specs.declared.token.Token.{Token}
 use Rattle.just_text.specs.declared.token_kind.TokenKind.{TokenKind}
 use Rattle.just_text.specs.declared.token_kind.TokenKind.TheVariants.{Comma}
-use Rattle.just_tree.specs.declared.expression.Expression.{Expression}
-use Rattle.just_tree.specs.Shape.{Shapes, end, more, shape_of, shapes_of}
+use Rattle.just_expression_tree.specs.declared.expression.Expression.{Expression}
+use Rattle.just_expression_tree.specs.Shape.{Shapes, end, more, shape_of, shapes_of}
 use Rattle.just_expressions.specs.declared.fault.Fault.{Fault}
 use Rattle.just_expressions.specs.declared.fault.Fault.TheVariants as faults
 use Rattle.just_expressions.specs.Literals.{Expansion, texts_of, cooked_in, cooked_in_all, IsCooked, AreCooked}

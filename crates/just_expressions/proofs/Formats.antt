@@ -7,8 +7,8 @@ use Rattle.just_strings.specs.declared.string_kind.StringKind.{StringKind}
 use Rattle.just_strings.specs.declared.string_literal.StringLiteral.{StringLiteral}
 use Rattle.just_strings.specs.Kinds.{kind_of}
 use Rattle.just_strings.specs.Parts.{cooked_part}
-use Rattle.just_tree.specs.declared.expression.Expression.{Expression, FormatString, the_lemmas}
-use Rattle.just_tree.specs.Shape.{format, shape_of, holes_of, written}
+use Rattle.just_expression_tree.specs.declared.expression.Expression.{Expression, FormatString, the_lemmas}
+use Rattle.just_expression_tree.specs.Shape.{format, shape_of, holes_of, written}
 use Rattle.just_expressions.specs.declared.fault.Fault.{Fault}
 use Rattle.just_expressions.specs.declared.fault.Fault.TheVariants as faults
 use Rattle.just_expressions.specs.Literals.{Expansion, is_open}

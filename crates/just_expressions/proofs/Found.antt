@@ -11,8 +11,8 @@ use Rattle.just_strings.specs.declared.string_kind.StringKind.{StringKind}
 use Rattle.just_strings.specs.Cooking.{cooked}
 use Rattle.just_strings.specs.Kinds.{kind_of}
 use Rattle.just_strings.specs.Parts.{cooked_part}
-use Rattle.just_tree.specs.Operators.{Binary}
-use Rattle.just_tree.specs.Shape.{Shape, Shapes, Holes, literal, command, format, variable, call, assertion, assertion_alone, group, listing, choice, choice_alone, negation, rooted, binary, end, more, closed, hole}
+use Rattle.just_expression_tree.specs.Operators.{Binary}
+use Rattle.just_expression_tree.specs.Shape.{Shape, Shapes, Holes, literal, command, format, variable, call, assertion, assertion_alone, group, listing, choice, choice_alone, negation, rooted, binary, end, more, closed, hole}
 use Rattle.just_expressions.specs.Words.{Begins, Mark, if_keyword, else_keyword, assert_keyword}
 use Rattle.just_expressions.specs.Operators.{rank, left_rank, right_rank, rank_of}
 use Rattle.just_expressions.specs.Literals.{Expansion, PartCooks, is_script, is_open}

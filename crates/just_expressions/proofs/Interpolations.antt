@@ -5,8 +5,8 @@ use Rattle.just_text.specs.declared.token.Token.{Token}
 use Rattle.just_strings.specs.declared.string_kind.StringKind.{StringKind}
 use Rattle.just_strings.specs.declared.string_literal.StringLiteral.{StringLiteral}
 use Rattle.just_strings.specs.Parts.{cooked_part}
-use Rattle.just_tree.specs.declared.expression.Expression.{Expression}
-use Rattle.just_tree.specs.Shape.{Holes, closed, hole, shape_of, holes_of, written}
+use Rattle.just_expression_tree.specs.declared.expression.Expression.{Expression}
+use Rattle.just_expression_tree.specs.Shape.{Holes, closed, hole, shape_of, holes_of, written}
 use Rattle.just_expressions.specs.declared.fault.Fault.{Fault}
 use Rattle.just_expressions.specs.declared.fault.Fault.TheVariants as faults
 use Rattle.just_expressions.specs.Literals.{Expansion, texts_of, cooked_in, cooked_in_holes, text_or_none, hole_texts, IsCooked, AreHolesCooked}

@@ -2,8 +2,8 @@
 use Rattle.std.proofs.Common.{◌≡◌, ◌≢◌, ◌-◌, ℕ, zero, suc, List, Ok, Some, None, refl, arith}
 use Rattle.just_text.specs.Tokens.{word_of}
 use Rattle.just_text.specs.declared.token.Token.{Token}
-use Rattle.just_tree.specs.Operators.{Binary}
-use Rattle.just_tree.specs.Shape.{Shape, binary}
+use Rattle.just_expression_tree.specs.Operators.{Binary}
+use Rattle.just_expression_tree.specs.Shape.{Shape, binary}
 use Rattle.just_expressions.specs.declared.fault.Fault.{Fault}
 use Rattle.just_expressions.specs.declared.fault.Fault.TheVariants as faults
 use Rattle.just_expressions.specs.Literals.{Expansion}

@@ -4,8 +4,8 @@ use Rattle.std.specs.Prelude.{◌==◌}
 use Rattle.just_text.specs.Tokens.{Word}
 use Rattle.just_text.specs.declared.token_kind.TokenKind.{TokenKind}
 use Rattle.just_text.specs.declared.token_kind.TokenKind.TheVariants.{AmpersandAmpersand, BangEquals, BangTilde, BarBar, EqualsEquals, EqualsTilde, Plus, PlusPlus, Slash}
-use Rattle.just_tree.specs.declared.operator.ConditionalOperator.TheVariants.{Equality, Inequality, RegexMatch, RegexMismatch}
-use Rattle.just_tree.specs.Operators.{Binary, disjunction, conjunction, comparison, appending, concatenation, joining}
+use Rattle.just_expression_tree.specs.declared.operator.ConditionalOperator.TheVariants.{Equality, Inequality, RegexMatch, RegexMismatch}
+use Rattle.just_expression_tree.specs.Operators.{Binary, disjunction, conjunction, comparison, appending, concatenation, joining}
 use Rattle.just_expressions.specs.Words.{Mark, Lacks}
 use Rattle.just_expressions.specs.Operators.{sign, operator_of, rank, left_rank}
 use Rattle.just_expressions.specs.Reading.{operator_if, operator_at}

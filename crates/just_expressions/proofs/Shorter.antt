@@ -8,8 +8,8 @@ use Rattle.just_strings.specs.declared.string_kind.StringKind.{StringKind}
 use Rattle.just_strings.specs.Cooking.{cooked}
 use Rattle.just_strings.specs.Kinds.{kind_of}
 use Rattle.just_strings.specs.Parts.{cooked_part}
-use Rattle.just_tree.specs.Operators.{Binary}
-use Rattle.just_tree.specs.Shape.{Shape, Shapes, Holes, literal, format, closed}
+use Rattle.just_expression_tree.specs.Operators.{Binary}
+use Rattle.just_expression_tree.specs.Shape.{Shape, Shapes, Holes, literal, format, closed}
 use Rattle.just_expressions.specs.Words.{is_kind, if_keyword, else_keyword, assert_keyword}
 use Rattle.just_expressions.specs.Operators.{operator_of, rank, right_rank}
 use Rattle.just_expressions.specs.Literals.{Expansion, is_script, is_open}

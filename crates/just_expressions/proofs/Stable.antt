@@ -9,7 +9,7 @@ use Rattle.just_text.specs.declared.token_kind.TokenKind.TheVariants.{Backtick, 
 use Rattle.just_strings.specs.declared.string_kind.StringKind.{StringKind}
 use Rattle.just_strings.specs.Kinds.{kind_of}
 use Rattle.just_strings.specs.Parts.{cooked_part}
-use Rattle.just_tree.specs.Shape.{Shape}
+use Rattle.just_expression_tree.specs.Shape.{Shape}
 use Rattle.just_expressions.specs.Words.{if_keyword, else_keyword, assert_keyword}
 use Rattle.just_expressions.specs.Operators.{right_rank}
 use Rattle.just_expressions.specs.Literals.{Expansion, is_open}

@@ -2,9 +2,9 @@
 use Rattle.std.proofs.Common.{◌≡◌, ◌++◌, Some, None, rules}
 use Rattle.std.specs.Global.{Box}
 use Rattle.just_text.specs.declared.token.Token.{Token}
-use Rattle.just_tree.specs.declared.expression.Expression.{Expression, Join, the_lemmas}
-use Rattle.just_tree.specs.Operators.{joining}
-use Rattle.just_tree.specs.Shape.{shape_of, binary, rooted}
+use Rattle.just_expression_tree.specs.declared.expression.Expression.{Expression, Join, the_lemmas}
+use Rattle.just_expression_tree.specs.Operators.{joining}
+use Rattle.just_expression_tree.specs.Shape.{shape_of, binary, rooted}
 use Rattle.just_expressions.specs.Literals.{texts_of}
 
 pub two_sides : (l r : Box Expression) (token : Token) → shape_of (Join (Some l) token r) ≡ binary joining (shape_of l.value) (shape_of r.value)

@@ -2,7 +2,7 @@
 use Rattle.std.specs.Prelude.{ℕ, ◌≡◌, ◌<◌, List, map, Option, Ok, Err}
 use Rattle.just_text.specs.Tokens.{Word, word_of}
 use Rattle.just_text.specs.declared.compile_error.CompileErrorKind.TheVariants.{ParsingRecursionDepthExceeded}
-use Rattle.just_tree.specs.Shape.{Shape}
+use Rattle.just_expression_tree.specs.Shape.{Shape}
 use Rattle.just_expressions.specs.Literals.{Expansion}
 use Rattle.just_expressions.specs.Grammar.{depth, Derives}
 use Rattle.just_expressions.specs.Reading.{expression_at, unexpected, refused}

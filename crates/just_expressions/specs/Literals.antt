@@ -8,9 +8,9 @@ use Rattle.just_strings.specs.Cooking.{cooked, command}
 use Rattle.just_strings.specs.Cutting.{begins, ends}
 use Rattle.just_strings.specs.Kinds.{kind_of}
 use Rattle.just_strings.specs.Parts.{cooked_part}
-use Rattle.just_tree.specs.declared.expression.Expression.{Expression, fold-Expression}
-use Rattle.just_tree.specs.declared.expression.Expression.TheOpen.{Expression-F}
-use Rattle.just_tree.specs.Shape.{Shape, Shapes, Holes, literal, command as command_shape, format, variable, call, assertion, assertion_alone, group, listing, choice, choice_alone, negation, rooted, binary, end, more, closed, hole, shape_of, shapes_of, holes_of}
+use Rattle.just_expression_tree.specs.declared.expression.Expression.{Expression, fold-Expression}
+use Rattle.just_expression_tree.specs.declared.expression.Expression.TheOpen.{Expression-F}
+use Rattle.just_expression_tree.specs.Shape.{Shape, Shapes, Holes, literal, command as command_shape, format, variable, call, assertion, assertion_alone, group, listing, choice, choice_alone, negation, rooted, binary, end, more, closed, hole, shape_of, shapes_of, holes_of}
 
 -- what `x` makes of a text, or the refusal's text
 abbrev pub Expansion : Type 0

@@ -2,10 +2,10 @@
 use Rattle.std.specs.Prelude.{ℕ, Option, Some, None}
 use Rattle.just_text.specs.declared.token_kind.TokenKind.{TokenKind}
 use Rattle.just_text.specs.declared.token_kind.TokenKind.TheVariants.{AmpersandAmpersand, BangEquals, BangTilde, BarBar, EqualsEquals, EqualsTilde, Plus, PlusPlus, Slash}
-use Rattle.just_tree.specs.declared.operator.ConditionalOperator.{ConditionalOperator}
-use Rattle.just_tree.specs.declared.operator.ConditionalOperator.TheVariants.{Equality, Inequality, RegexMatch, RegexMismatch}
-use Rattle.just_tree.specs.Operators.{Binary, disjunction, conjunction, comparison, appending, concatenation, joining}
-use Rattle.just_tree.specs.Shape.{Shape, negation, rooted, binary}
+use Rattle.just_expression_tree.specs.declared.operator.ConditionalOperator.{ConditionalOperator}
+use Rattle.just_expression_tree.specs.declared.operator.ConditionalOperator.TheVariants.{Equality, Inequality, RegexMatch, RegexMismatch}
+use Rattle.just_expression_tree.specs.Operators.{Binary, disjunction, conjunction, comparison, appending, concatenation, joining}
+use Rattle.just_expression_tree.specs.Shape.{Shape, negation, rooted, binary}
 
 -- the kind of an operator that compares
 abbrev pub comparison_sign : ConditionalOperator → TokenKind

@@ -1,5 +1,5 @@
 -- The operators of the parser as the grammar sees them.
-use Rattle.just_tree.specs.Operators.{Binary, disjunction, conjunction, comparison, appending, concatenation, joining}
+use Rattle.just_expression_tree.specs.Operators.{Binary, disjunction, conjunction, comparison, appending, concatenation, joining}
 use Rattle.just_expressions.specs.declared.operator.Operator.{Operator}
 use Rattle.just_expressions.specs.declared.operator.Operator.TheVariants.{And, Comparison, Concatenation, Join, ListConcatenation, Or}
 use Rattle.just_expressions.specs.declared.operator.Prefix.{Prefix}

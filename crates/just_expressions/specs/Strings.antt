@@ -5,7 +5,7 @@ use Rattle.just_text.specs.declared.token_kind.TokenKind.TheVariants.{Comment, S
 use Rattle.just_strings.specs.declared.string_literal.StringLiteral.{StringLiteral}
 use Rattle.just_strings.specs.Cooking.{cooked}
 use Rattle.just_strings.specs.Kinds.{kind_of}
-use Rattle.just_tree.specs.Shape.{Shape, written}
+use Rattle.just_expression_tree.specs.Shape.{Shape, written}
 use Rattle.just_expressions.specs.Words.{Begins, Mark, Lacks}
 use Rattle.just_expressions.specs.Literals.{Expansion, Cooks}
 use Rattle.just_expressions.specs.Grammar.{Derives}

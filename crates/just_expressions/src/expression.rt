@@ -2,7 +2,7 @@
 ghost use Rattle.std.specs.Prelude.{Err, IfOk, IfSome, List, length, suc};
 ghost use Rattle.just_text.specs.Tokens.{word_of, lexeme};
 ghost use Rattle.just_text.specs.declared.token.Token.{Token};
-ghost use Rattle.just_tree.specs.Shape.{Shape, inner_shape, shape_of, shapes_of, holes_of};
+ghost use Rattle.just_expression_tree.specs.Shape.{Shape, inner_shape, shape_of, shapes_of, holes_of};
 ghost use Rattle.just_expressions.specs.Literals.{AreCooked, AreHolesCooked, IsCooked};
 ghost use Rattle.just_expressions.specs.Reading.{Fails, Gives, ahead, first, too_deep, elements_at, holes_at, format_at, braces_at, otherwise_at, choice_at, closing_at, message_at, assertion_at, call_at, named_at, bracketed_at, primary_at, operand_at, expression_at};
 
@@ -10,9 +10,9 @@ use crate::cursor::Cursor;
 use crate::fault::Fault;
 use crate::literal::{format_part, is_open, string_literal};
 use crate::node::{assertion, binary, conditional, prefixed};
+use just_expression_tree::Expression;
 use just_strings::{StringKind, StringLiteral};
 use just_text::{CompileErrorKind, Expander, Name, Token, TokenKind, both};
-use just_tree::Expression;
 use std::alloc::Global;
 
 /// How deep expressions may nest.

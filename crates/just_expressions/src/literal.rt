@@ -8,13 +8,13 @@ ghost use Rattle.just_strings.specs.Parts.{cooked_part};
 ghost use Rattle.just_expressions.specs.declared.fault.Fault.TheVariants.{OutOfMemory, Refused};
 ghost use Rattle.just_expressions.specs.Literals.{is_open, texts_of};
 ghost use Rattle.just_expressions.specs.Reading.{Gives, ahead, taken_if, command_at, part_at};
-ghost use Rattle.just_tree.specs.Shape.{command, shape_of, written};
+ghost use Rattle.just_expression_tree.specs.Shape.{command, shape_of, written};
 
 use crate::cursor::Cursor;
 use crate::fault::Fault;
+use just_expression_tree::Expression;
 use just_strings::{StringKind, StringLiteral, command_text, cook_part, is_shebang};
 use just_text::{CompileError, CompileErrorKind, Expander, Token, TokenKind};
-use just_tree::Expression;
 use std::alloc::Global;
 
 /// Why a token is refused.

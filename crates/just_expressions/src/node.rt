@@ -1,14 +1,14 @@
 //! Expressions put together from their parts.
 ghost use Rattle.std.specs.Prelude.{◌≡◌, ◌++◌, option_map};
-ghost use Rattle.just_tree.specs.Shape as shape;
-ghost use Rattle.just_tree.specs.Shape.{inner_shape, shape_of};
+ghost use Rattle.just_expression_tree.specs.Shape as shape;
+ghost use Rattle.just_expression_tree.specs.Shape.{inner_shape, shape_of};
 ghost use Rattle.just_expressions.specs.Literals.{texts_if, texts_of};
 ghost use Rattle.just_expressions.specs.Reading.{asserted, chosen, prefixed as prefixed_shape};
 ghost use Rattle.just_expressions.specs.Seen.{operator_seen, prefix_seen};
 
 use crate::operator::{Operator, Prefix};
+use just_expression_tree::Expression;
 use just_text::{Name, Token};
-use just_tree::Expression;
 
 /// An operator and its two sides.
 pub(crate) fn binary<'src>(

@@ -7,8 +7,8 @@ ghost use Rattle.just_expressions.specs.Reading.{ahead, operator_at, prefix_at};
 ghost use Rattle.just_expressions.specs.Seen.{operator_seen, prefix_seen};
 
 use crate::cursor::Cursor;
+use just_expression_tree::ConditionalOperator;
 use just_text::{Token, TokenKind};
-use just_tree::ConditionalOperator;
 
 /// An operator between two expressions.
 #[derive(Clone, Copy)]

@@ -1,7 +1,7 @@
 //! Strings that stand alone.
 ghost use Rattle.std.specs.Prelude.{IfOk};
 ghost use Rattle.just_text.specs.Tokens.{word_of};
-ghost use Rattle.just_tree.specs.Shape.{written};
+ghost use Rattle.just_expression_tree.specs.Shape.{written};
 ghost use Rattle.just_expressions.specs.Reading.{Gives, ahead};
 ghost use Rattle.just_expressions.specs.Strings.{IsCookedString, string_at};
 

@@ -3,18 +3,17 @@ use Rattle.std.proofs.Common.{◌≡◌, ℕ, ◌<◌, ◌≤◌, Bool, true, fa
 use Rattle.just_text.specs.Tokens.{Word}
 use Rattle.just_text.specs.declared.token_kind.TokenKind.{TokenKind}
 use Rattle.just_text.specs.declared.token_kind.TokenKind.TheVariants.{BracketL, BracketR, ColonEquals, Comma, Comment, Eof, Eol, Identifier, StringToken}
-use Rattle.just_tree.specs.Attributes.{AttributeShape}
+use Rattle.just_attribute_tree.specs.Attributes.{AttributeShape}
 use Rattle.just_tree.specs.Files.{ItemShape, comment_item, newline_item, recipe_item, set_item}
-use Rattle.just_tree.specs.Settings.{SetShape, ValueShape, truth, expression, interpreter, string, truth_text}
-use Rattle.just_tree.specs.Shape.{Shape}
+use Rattle.just_attribute_tree.specs.Settings.{SetShape, ValueShape, truth, expression, interpreter, string, truth_text}
+use Rattle.just_expression_tree.specs.Shape.{Shape}
 use Rattle.just_expressions.specs.Words.{is_kind, Lacks}
 use Rattle.just_expressions.specs.Literals.{Expansion}
-use Rattle.just_expressions.specs.Strings.{IsAside}
 use Rattle.just_expressions.proofs.Starts.{shorter}
 use Rattle.just_attribute_lines.specs.Rows.{Follow}
-use Rattle.just_attribute_lines.specs.Lines.{behind_comments, behind_one, IsLineEnd, IsAttribute, IsBetween, IsLast, AreAttributes}
-use Rattle.just_attribute_lines.proofs.Rest.{closes_takes, between_takes, attribute_takes}
-use Rattle.just_recipes.proofs.RecipeTaken.{test, front_shorter, mark_shorter, lacks}
+use Rattle.just_attribute_lines.specs.Lines.{IsAttribute, IsBetween, IsLast, AreAttributes}
+use Rattle.just_attribute_lines.proofs.Rest.{closes_takes, between_takes, attribute_takes, line_end_takes}
+use Rattle.just_recipes.proofs.RecipeTaken.{front_shorter, mark_shorter, lacks}
 use Rattle.just_items.specs.Keywords.{set_keyword}
 use Rattle.just_settings.specs.declared.form.Form.{Form}
 use Rattle.just_settings.specs.declared.form.Form.TheVariants.{Indentation, Interpreter, Truth, Value, Version as VersionForm}
@@ -32,37 +31,6 @@ pub record IsNeverAhead (k : TokenKind) : Type 0 where
   pub item : IsNeverFirst k
   pub line : is_kind Eol k ≡ false
   pub comment : is_kind Comment k ≡ false
-
--- ---- the lines of attributes
-
-mutual
-  unfolding behind_comments behind_one
-
-  comments_no_longer : (ws : List Word) → length (behind_comments (λ (w : Word). w) ws) ≤ length ws
-  comments_no_longer [] = omega arith
-  comments_no_longer (w ∷ ws) =
-      elim (test (is_kind w.kind Comment)) [
-        | inl e ↦ rw e (one_no_longer w ws)
-        | inr e ↦ rw e (omega arith)
-      ]
-
-  one_no_longer : (w : Word) (ws : List Word) → length (behind_one (λ (w : Word). w) w ws) ≤ length (w ∷ ws)
-  one_no_longer w [] = omega arith
-  one_no_longer w (v ∷ vs) =
-      elim (test (is_kind v.kind Eol)) [
-        | inl e ↦ let p = comments_no_longer vs in rw e (omega (arith, p))
-        | inr e ↦ rw e (omega arith)
-      ]
-
-aside_no_longer : (ws rest : List Word) → IsAside ws rest → length rest ≤ length ws
-aside_no_longer ws rest (inl m) = let p = mark_shorter Comment ws rest m in omega arith
-aside_no_longer ws rest (inr same) = rw same.0 (omega arith)
-
-line_no_longer : (ws rest : List Word) → IsLineEnd ws rest → length rest ≤ length ws
-line_no_longer ws rest (a, b, aside, m, same) =
-    let p = aside_no_longer ws a aside in
-    let q = mark_shorter Eol a b m in
-    let r = comments_no_longer b in rw same (omega (arith, p, q, r))
 
 -- ---- settings
 
@@ -97,7 +65,7 @@ module _ (expansion : Expansion) where
   -- ---- attributes
 
   last_no_longer : (ws rest : List Word) → IsLast ws rest → length rest ≤ length ws
-  last_no_longer ws rest ((a, closes, eol), l) = let p = closes_takes BracketR ws a closes in let q = line_no_longer a rest eol in omega (arith, p, q)
+  last_no_longer ws rest ((a, closes, eol), l) = let p = closes_takes BracketR ws a closes in let q = line_end_takes a rest eol in omega (arith, p, q)
 
   follow_no_longer : (as' : List AttributeShape) (ws rest : List Word) → Follow (IsAttribute expansion) IsBetween IsLast as' ws rest → length rest ≤ length ws
   follow_no_longer [] ws rest i = last_no_longer ws rest i

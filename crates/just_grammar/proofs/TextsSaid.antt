@@ -36,9 +36,9 @@ words_are (t ∷ ts) = ap (λ ws. word_of t ∷ ws) (words_are ts)
 pub spelled : (expansion : Expansion) (current : Version) (words : List Word) (items : List ItemShape) → (d : Derives expansion current words items) → AreFile expansion current d.entries (significant words)
 spelled expansion current words items d = record { behind_mark = d.behind_mark; start = d.start; stand = d.stand }
 
-no_halt : (read : Result (List Entry) (Halt Token)) (es : List Entry) (token : Token) (kind : CompileErrorKind) → read ≡ Ok es → HaltsBy read token kind → ⊥
-no_halt (Ok xs) es token kind e h = h
-no_halt (Err halt) es token kind e h = absurd cc
+no_halt : (ts : List Token) (read : Result (List Entry) (Halt Token)) (es : List Entry) (token : Token) (kind : CompileErrorKind) → read ≡ Ok es → HaltsBy ts read token kind → ⊥
+no_halt ts (Ok xs) es token kind e h = h
+no_halt ts (Err halt) es token kind e h = absurd cc
 
 module _ (words_read : (expansion : Expansion) (current : Version) → FilesExactly (λ (w : Word). w) expansion current) where
   read_again : (expansion : Expansion) (current : Version) (words : List Word) (items : List ItemShape) → (d : Derives expansion current words items) → file_at (λ (w : Word). w) expansion current (significant words) ≡ Ok d.entries
@@ -67,7 +67,7 @@ module _ (tokens_read : (expansion : Expansion) (current : Version) → FilesExa
         let d : Derives expansion current (words_of h.tokens) items = rw same r.derived in
         let file = spelled expansion current (words_of h.tokens) items d in
         let exactly = tokens_read expansion current in
-        no_halt (file_at word_of expansion current (shown h.tokens)) d.entries h.token kind (exactly.only (shown h.tokens) d.entries (rw (shown_words h.tokens) file)) h.halts
+        no_halt h.tokens (file_at word_of expansion current (shown h.tokens)) d.entries h.token kind (exactly.only (shown h.tokens) d.entries (rw (shown_words h.tokens) file)) h.halts
 
     never_faulty : (kind : CompileErrorKind) → IsSyntaxFault expansion current text kind → ⊥
     never_faulty OutOfMemory h = h

@@ -3,7 +3,7 @@ use Rattle.std.specs.Prelude.{Bool, true, false, List, [], ◌∷◌, ◌++◌, 
 use Rattle.std.specs.List.{list_any}
 use Rattle.just_tree.specs.declared.ast.UnstableFeature.{UnstableFeature}
 use Rattle.just_tree.specs.declared.ast.UnstableFeature.TheVariants.{CachedRecipes, DefinedFunctions, Lists}
-use Rattle.just_tree.specs.declared.attribute.AttributeKind.TheVariants.{Cache}
+use Rattle.just_attribute_tree.specs.declared.attribute.AttributeKind.TheVariants.{Cache}
 use Rattle.just_tree.specs.Files.{ItemShape, function_item, recipe_item, set_item}
 use Rattle.just_attributes.specs.Sets.{has_kind}
 

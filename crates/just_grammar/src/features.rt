@@ -1,13 +1,14 @@
 //! The features of a file that must be asked for.
 ghost use Rattle.std.specs.Prelude.{◌≡◌, IfOk};
 ghost use Rattle.std.specs.List.{list_any};
-ghost use Rattle.just_tree.specs.declared.attribute.AttributeKind.TheVariants.{Cache};
-ghost use Rattle.just_tree.specs.Attributes.{attribute_shape};
+ghost use Rattle.just_attribute_tree.specs.declared.attribute.AttributeKind.TheVariants.{Cache};
+ghost use Rattle.just_attribute_tree.specs.Attributes.{attribute_shape};
 ghost use Rattle.just_tree.specs.Files.{item_shape, item_shapes};
 ghost use Rattle.just_attributes.specs.Sets.{has_kind};
 ghost use Rattle.just_grammar.specs.Features.{features_of, is_cached, is_function, sets_lists};
 
-use just_tree::{Attribute, Item, UnstableFeature};
+use just_attribute_tree::Attribute;
+use just_tree::{Item, UnstableFeature};
 use std::alloc::{AllocError, Global};
 
 /// Whether one of the attributes is `cache`.

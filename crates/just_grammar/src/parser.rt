@@ -6,7 +6,7 @@ ghost use Rattle.just_recipes.specs.Numbering.{AreUsed};
 ghost use Rattle.just_grammar.specs.Files.{Derives};
 ghost use Rattle.just_grammar.specs.Numbered.{AreInOrder};
 ghost use Rattle.just_grammar.specs.Parsed.{GivesItems, IsReason, IsWhole, RefusalHolds};
-ghost use Rattle.just_grammar.specs.Reads.{IsRefusal, Reads};
+ghost use Rattle.just_grammar.specs.Reads.{IsRefusal, Reads, Stands};
 
 use crate::file::tree;
 use crate::law::law;
@@ -73,6 +73,8 @@ impl Parser {
         ensures only { (items : List ItemShape) → Reads (E.expansion expander.now) version.now src.now items → GivesItems (AreUsed numerator.new) result items }
         // A refusal holds of the text, which says nothing then.
         ensures refused { IfErr result (λ e. IsRefusal (E.expansion expander.now) version.now (AreUsed numerator.new) src.now e.kind) }
+        // It stands at the lexer's fault, or at the token where reading halts.
+        ensures place { IfErr result (λ e. Stands (E.expansion expander.now) version.now path.now src.now e.token e.kind) }
         ensures numbers { IfOk result (λ ast. AreInOrder numerator.old numerator.new ast.items.items) }
         ensures whole { IfOk result (IsWhole (E.expansion expander.now)) }
     {

@@ -1,7 +1,5 @@
 //! Why a file is refused.
-ghost use Rattle.std.specs.Prelude.{◌≡◌};
-ghost use Rattle.just_text.specs.declared.compile_error.CompileErrorKind.TheVariants.{UnexpectedToken};
-ghost use Rattle.just_text.specs.declared.token_kind.TokenKind.{TokenKind};
+ghost use Rattle.just_grammar.specs.Parsed.{IsTooFew, last_token};
 ghost use Rattle.just_grammar.specs.Told.{IsRefused, Tells};
 
 use just_expressions::Fault;
@@ -9,7 +7,7 @@ use just_text::{CompileError, CompileErrorKind, Token, TokenKind};
 
 /// The refusal where tokens end too early, at the last of them.
 fn too_few<'src>(tokens: &[Token<'src>]) -> CompileError<'src>
-    ensures { (found : TokenKind) × (result.kind ≡ UnexpectedToken found) }
+    ensures { IsTooFew (last_token tokens.now) result.token result.kind }
 {
     match tokens.last() {
         Some(last) => last.error(CompileErrorKind::UnexpectedToken(last.kind)),
@@ -31,7 +29,7 @@ fn refused<'src>(token: Token<'src>, kind: CompileErrorKind) -> CompileError<'sr
 
 /// The refusal that tells a fault. Want of memory and of numbers has no place.
 pub(crate) fn refusal<'src>(fault: Fault<'src>, tokens: &[Token<'src>]) -> CompileError<'src>
-    ensures { Tells fault.entry result }
+    ensures { Tells tokens.now fault.entry result }
 {
     match fault {
         Fault::OutOfMemory => CompileError::without_place(CompileErrorKind::OutOfMemory),

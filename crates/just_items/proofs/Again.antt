@@ -6,7 +6,7 @@ use Rattle.just_text.specs.declared.token_kind.TokenKind.TheVariants.{ColonEqual
 use Rattle.just_strings.specs.Cooking.{cooked}
 use Rattle.just_tree.specs.Files.{ItemShape, alias_item, assignment_item, comment_item, function_item, import_item, module_item, newline_item, recipe_item, set_item, unexport_item}
 use Rattle.just_tree.specs.Items.{AliasShape, AssignmentShape, FunctionShape, ImportShape, ModuleShape}
-use Rattle.just_tree.specs.Shape.{Shape}
+use Rattle.just_expression_tree.specs.Shape.{Shape}
 use Rattle.just_expressions.specs.Words.{Mark}
 use Rattle.just_expressions.specs.Literals.{Expansion}
 use Rattle.just_expressions.specs.Laws.{Exactly}

@@ -8,7 +8,7 @@ use Rattle.just_tree.specs.declared.ast.ItemKind.{ItemKind}
 use Rattle.just_tree.specs.declared.ast.ItemKind.TheVariants.{Alias, Assignment, Comment, Function, Import, Module, Newline, Recipe, Set, Unexport}
 use Rattle.just_tree.specs.Files.{ItemShape, alias_item, assignment_item, function_item, import_item, module_item, unexport_item}
 use Rattle.just_tree.specs.Items.{AliasShape, AssignmentShape, FunctionShape, ImportShape, ModuleShape}
-use Rattle.just_tree.specs.Shape.{Shape}
+use Rattle.just_expression_tree.specs.Shape.{Shape}
 use Rattle.just_expressions.specs.Words.{Begins, Mark}
 use Rattle.just_expressions.specs.Literals.{Expansion}
 use Rattle.just_expressions.specs.Laws.{Exactly}

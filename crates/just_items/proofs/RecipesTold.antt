@@ -7,7 +7,7 @@ use Rattle.just_tree.specs.declared.ast.ItemKind.TheVariants.{Recipe}
 use Rattle.just_tree.specs.declared.recipe.ParameterKind.{ParameterKind}
 use Rattle.just_tree.specs.declared.recipe.ParameterKind.TheVariants.{Plus, Singular, Star}
 use Rattle.just_tree.specs.Recipes.{ParameterShape, RecipeShape}
-use Rattle.just_tree.specs.Shape.{Shape}
+use Rattle.just_expression_tree.specs.Shape.{Shape}
 use Rattle.just_expressions.specs.Words.{is_kind, Begins, Mark, Lacks}
 use Rattle.just_expressions.specs.Literals.{Expansion}
 use Rattle.just_expressions.specs.Reading.{accept}

@@ -5,7 +5,7 @@ use Rattle.just_strings.specs.Cooking.{cooked}
 use Rattle.just_strings.specs.Kinds.{kind_of}
 use Rattle.just_tree.specs.declared.ast.Item.{Item}
 use Rattle.just_tree.specs.declared.ast.Item.TheVariants.{Assignment, Function, Import, Module}
-use Rattle.just_tree.specs.Shape.{written}
+use Rattle.just_expression_tree.specs.Shape.{written}
 use Rattle.just_expressions.specs.Literals.{Expansion, IsCooked}
 
 -- the string is of the kind that it is written as, and holds what it stands for

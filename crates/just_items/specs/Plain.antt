@@ -4,7 +4,7 @@ use Rattle.just_text.specs.Tokens.{lexeme}
 use Rattle.just_strings.specs.Cutting.{begins}
 use Rattle.just_tree.specs.declared.ast.Item.{Item}
 use Rattle.just_tree.specs.declared.ast.Item.TheVariants.{Alias, Assignment, Module}
-use Rattle.just_tree.specs.declared.expression.Expression.{Expression}
+use Rattle.just_expression_tree.specs.declared.expression.Expression.{Expression}
 use Rattle.just_tree.specs.declared.item.Binding.{Binding}
 
 -- the name begins with `_`

@@ -10,7 +10,7 @@ use Rattle.just_tree.specs.declared.ast.ItemKind.{ItemKind}
 use Rattle.just_tree.specs.declared.ast.ItemKind.TheVariants.{Alias, Assignment, Function, Import, Module, Recipe, Set, Unexport}
 use Rattle.just_tree.specs.Files.{ItemShape, alias_item, assignment_item, function_item, import_item, module_item, unexport_item}
 use Rattle.just_tree.specs.Items.{AliasShape, AssignmentShape, FunctionShape, ImportShape, ModuleShape}
-use Rattle.just_tree.specs.Shape.{Shape}
+use Rattle.just_expression_tree.specs.Shape.{Shape}
 use Rattle.just_expressions.specs.Literals.{Expansion}
 use Rattle.just_expressions.specs.Reading.{◌>>=◌, on, Read, unexpected, refused, first, accept, expect, is_next, taken_if, expression_at}
 use Rattle.just_recipes.specs.RecipeReading.{eol_at, is_named, marked_at, path_at}

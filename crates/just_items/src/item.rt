@@ -6,7 +6,7 @@ ghost use Rattle.just_text.specs.declared.compile_error.CompileErrorKind.TheVari
 ghost use Rattle.just_text.specs.declared.token_kind.TokenKind.TheVariants.{Identifier};
 ghost use Rattle.just_tree.specs.Files.{item_shape};
 ghost use Rattle.just_tree.specs.Items.{alias_shape, assignment_shape, function_shape, import_shape, module_shape, names_of, unexport_shape};
-ghost use Rattle.just_tree.specs.Shape.{shape_of, written};
+ghost use Rattle.just_expression_tree.specs.Shape.{shape_of, written};
 ghost use Rattle.just_expressions.specs.declared.fault.Fault.TheVariants.{OutOfMemory, Refused};
 ghost use Rattle.just_expressions.specs.Literals.{IsCooked};
 ghost use Rattle.just_expressions.specs.Reading.{Gives, ahead, expect};
@@ -19,6 +19,7 @@ ghost use Rattle.just_items.specs.Plain.{IsPlainAssignment, IsPlainItem, is_priv
 ghost use Rattle.just_items.specs.Reading.{alias_at, assignment_at, file_at, function_at, import_at, item_of, module_at, names_at, new_name_at, string_at, unexport_at, value_at, words_at};
 
 use crate::kind::is_named_value;
+use just_expression_tree::Expression;
 use just_expressions::{Cursor, Fault};
 use just_recipes::{end_of_line, ended, namepath, next_binding};
 use just_strings::StringLiteral;
@@ -26,8 +27,8 @@ use just_text::{
     CompileError, CompileErrorKind, Expander, Name, Namepath, Numerator, Text, Token, TokenKind,
 };
 use just_tree::{
-    Alias, Assignment, Binding, Expression, FunctionDefinition, FunctionParameter, Import, Item,
-    ItemKind, Module, Unexport,
+    Alias, Assignment, Binding, FunctionDefinition, FunctionParameter, Import, Item, ItemKind,
+    Module, Unexport,
 };
 use std::alloc::Global;
 use std::collections::BTreeSet;

@@ -2,7 +2,7 @@
 use Rattle.std.proofs.Common.{◌≡◌, ℕ, Bool, true, false, List, ◌∷◌, Some, Option, refl}
 use Rattle.std.specs.Prelude.{not, ◌&&◌, ◌||◌, find, is_some}
 use Rattle.std.specs.Option.{option_map}
-use Rattle.just_tree.specs.Attributes.{OptionsShape}
+use Rattle.just_attribute_tree.specs.Attributes.{OptionsShape}
 use Rattle.just_tree.specs.Recipes.{ParameterShape}
 use Rattle.just_expressions.specs.Literals.{Expansion}
 use Rattle.just_parameter_options.specs.Rules.{late, may_lack}

@@ -4,7 +4,7 @@ use Rattle.std.specs.Prelude.{not, filter_map, if◌then◌else◌}
 use Rattle.std.specs.Option.{option_map, option_or}
 use Rattle.just_text.specs.declared.compile_error.CompileErrorKind.{CompileErrorKind}
 use Rattle.just_text.specs.declared.compile_error.CompileErrorKind.TheVariants as kinds
-use Rattle.just_tree.specs.Attributes.{OptionsShape}
+use Rattle.just_attribute_tree.specs.Attributes.{OptionsShape}
 use Rattle.just_tree.specs.Recipes.{ParameterShape}
 use Rattle.just_expressions.specs.declared.fault.Fault.{Fault}
 use Rattle.just_expressions.specs.declared.fault.Fault.TheVariants as faults

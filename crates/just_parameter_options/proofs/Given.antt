@@ -9,13 +9,13 @@ use Rattle.std.proofs.lemmas.Grind.{get_or-set_at}
 use Rattle.std.proofs.lemmas.List.{get_or-set_other, length-set}
 use Rattle.just_text.specs.Tokens.{lexeme}
 use Rattle.just_strings.specs.declared.string_literal.StringLiteral.{StringLiteral}
-use Rattle.just_tree.specs.declared.attribute.ArgumentOptions.{ArgumentOptions}
-use Rattle.just_tree.specs.declared.attribute.LongName.{LongName}
-use Rattle.just_tree.specs.declared.attribute.LongName.TheVariants.{Absent, Named, OfParameter}
+use Rattle.just_attribute_tree.specs.declared.attribute.ArgumentOptions.{ArgumentOptions}
+use Rattle.just_attribute_tree.specs.declared.attribute.LongName.{LongName}
+use Rattle.just_attribute_tree.specs.declared.attribute.LongName.TheVariants.{Absent, Named, OfParameter}
 use Rattle.just_tree.specs.declared.recipe.Parameter.{Parameter}
-use Rattle.just_tree.specs.Attributes.{OptionsShape, options_shape}
+use Rattle.just_attribute_tree.specs.Attributes.{OptionsShape, options_shape}
 use Rattle.just_tree.specs.Recipes.{parameter_shapes}
-use Rattle.just_tree.specs.Shape.{shape_of, written}
+use Rattle.just_expression_tree.specs.Shape.{shape_of, written}
 use Rattle.just_expressions.specs.Literals.{Expansion}
 use Rattle.just_expressions.specs.Strings.{IsCookedString}
 use Rattle.just_attribute_lines.specs.Cooked.{IsCookedName}

@@ -2,7 +2,7 @@
 use Rattle.std.proofs.Common.{◌≡◌, ℕ, Bool, true, false, List, [], ◌∷◌, Option, Some, None, refl, subst}
 use Rattle.std.specs.Prelude.{if◌then◌else◌}
 use Rattle.std.specs.Option.{option_and_then}
-use Rattle.just_tree.specs.Attributes.{OptionsShape}
+use Rattle.just_attribute_tree.specs.Attributes.{OptionsShape}
 use Rattle.just_expressions.specs.Literals.{Expansion}
 use Rattle.just_attribute_lines.specs.Options.{OptionShape, flag, multiple, long, help, max, min, short, value, if_new, if_whole, is_count, is_short, is_whole, options_of, text, with_all, with_option, without_options}
 use Rattle.just_parameter_options.specs.Whole.{AreWholeOptions}

@@ -5,9 +5,9 @@ use Rattle.std.specs.BTreeSet.{BTreeSet}
 use Rattle.just_text.specs.declared.compile_error.CompileErrorKind.{CompileErrorKind}
 use Rattle.just_text.specs.declared.compile_error.CompileErrorKind.TheVariants as kinds
 use Rattle.just_strings.specs.declared.string_literal.StringLiteral.{StringLiteral}
-use Rattle.just_tree.specs.declared.attribute.LongName.{LongName}
-use Rattle.just_tree.specs.declared.attribute.LongName.TheVariants.{Absent, Named, OfParameter}
-use Rattle.just_tree.specs.Attributes.{OptionsShape}
+use Rattle.just_attribute_tree.specs.declared.attribute.LongName.{LongName}
+use Rattle.just_attribute_tree.specs.declared.attribute.LongName.TheVariants.{Absent, Named, OfParameter}
+use Rattle.just_attribute_tree.specs.Attributes.{OptionsShape}
 use Rattle.just_expressions.specs.Literals.{Expansion}
 use Rattle.just_recipes.specs.RecipeSeen.{has_name}
 use Rattle.just_parameter_options.specs.declared.names.NameKind.{NameKind}

@@ -4,8 +4,8 @@ use Rattle.std.specs.List.{All}
 use Rattle.std.specs.Option.{option_map}
 use Rattle.just_text.specs.Tokens.{lexeme}
 use Rattle.just_text.specs.declared.compile_error.CompileErrorKind.{CompileErrorKind}
-use Rattle.just_tree.specs.Attributes.{OptionsShape}
-use Rattle.just_tree.specs.Shape.{Shape, shape_of}
+use Rattle.just_attribute_tree.specs.Attributes.{OptionsShape}
+use Rattle.just_expression_tree.specs.Shape.{Shape, shape_of}
 use Rattle.just_tree.specs.declared.recipe.Parameter.{Parameter}
 use Rattle.just_expressions.specs.declared.fault.Fault.{Fault}
 use Rattle.just_expressions.specs.declared.fault.Fault.TheVariants.{OutOfMemory, Refused}

@@ -1,6 +1,6 @@
 -- Options whose texts are of the form that `arg` asks for.
 use Rattle.std.specs.Prelude.{◌≡◌, true, IfSome}
-use Rattle.just_tree.specs.Attributes.{OptionsShape}
+use Rattle.just_attribute_tree.specs.Attributes.{OptionsShape}
 use Rattle.just_expressions.specs.Literals.{Expansion}
 use Rattle.just_attribute_lines.specs.Options.{text, is_count, is_short}
 

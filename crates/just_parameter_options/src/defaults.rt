@@ -4,7 +4,7 @@ ghost use Rattle.std.specs.List.{All};
 ghost use Rattle.std.specs.Option.{option_map};
 ghost use Rattle.just_text.specs.Tokens.{lexeme};
 ghost use Rattle.just_text.specs.declared.compile_error.CompileErrorKind.TheVariants as kinds;
-ghost use Rattle.just_tree.specs.Attributes.{OptionsShape, options_shape};
+ghost use Rattle.just_attribute_tree.specs.Attributes.{OptionsShape, options_shape};
 ghost use Rattle.just_tree.specs.Recipes.{parameter_shape, parameter_shapes};
 ghost use Rattle.just_expressions.specs.Literals.{Expansion};
 ghost use Rattle.just_attribute_lines.specs.Cooked.{AreCookedOptions};
@@ -12,9 +12,10 @@ ghost use Rattle.just_parameter_options.specs.Names.{AreOptions};
 ghost use Rattle.just_parameter_options.specs.Options.{GivesOrRefuses};
 ghost use Rattle.just_parameter_options.specs.Rules.{late, may_lack};
 
+use just_attribute_tree::{ArgumentOptions, LongName};
 use just_expressions::Fault;
 use just_text::{CompileErrorKind, Name, Text};
-use just_tree::{ArgumentOptions, LongName, Parameter};
+use just_tree::Parameter;
 use std::alloc::{AllocError, Global};
 use std::collections::BTreeSet;
 

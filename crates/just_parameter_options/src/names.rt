@@ -2,15 +2,15 @@
 ghost use Rattle.std.specs.Prelude.{◌≡◌, IfOk, List, [], is_some, map, not, ℕ};
 ghost use Rattle.std.specs.List.{All};
 ghost use Rattle.std.specs.Option.{option_copied};
-ghost use Rattle.just_tree.specs.Attributes.{options_shape};
+ghost use Rattle.just_attribute_tree.specs.Attributes.{options_shape};
 ghost use Rattle.just_expressions.specs.Literals.{Expansion};
 ghost use Rattle.just_attribute_lines.specs.Cooked.{AreCookedOptions};
 ghost use Rattle.just_recipes.specs.RecipeSeen.{HasNames};
 ghost use Rattle.just_parameter_options.specs.Names.{are_new, is_new, name_of, with_name};
 ghost use Rattle.just_parameter_options.specs.Rules.{long_name, short_name};
 
+use just_attribute_tree::{ArgumentOptions, LongName};
 use just_text::Token;
-use just_tree::{ArgumentOptions, LongName};
 use std::alloc::{AllocError, Global};
 use std::collections::BTreeSet;
 

@@ -2,7 +2,7 @@
 ghost use Rattle.std.specs.Prelude.{◌≡◌, ◌∷◌, IfSome, List, Some, [], map, true};
 ghost use Rattle.std.specs.List.{All};
 ghost use Rattle.std.specs.Option.{option_map};
-ghost use Rattle.just_tree.specs.Attributes.{OptionsShape, options_shape};
+ghost use Rattle.just_attribute_tree.specs.Attributes.{OptionsShape, options_shape};
 ghost use Rattle.just_tree.specs.Recipes.{parameter_shapes};
 ghost use Rattle.just_expressions.specs.Literals.{Expansion};
 ghost use Rattle.just_attribute_lines.specs.Cooked.{AreCookedOptions};
@@ -15,9 +15,10 @@ ghost use Rattle.just_parameter_options.specs.Rules.{are_distinct, names_of};
 ghost use Rattle.just_parameter_options.specs.Whole.{AreWholeOptions};
 
 use crate::places::Places;
+use just_attribute_tree::{ArgumentOptions, LongName};
 use just_strings::StringLiteral;
 use just_text::Text;
-use just_tree::{ArgumentOptions, LongName, Parameter};
+use just_tree::Parameter;
 
 /// Puts a value there, in place of what was there.
 fn set<T: Drop>(place: &mut T, value: T)

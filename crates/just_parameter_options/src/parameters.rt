@@ -1,7 +1,7 @@
 //! Parameters with the options that `arg`s give them.
 ghost use Rattle.std.specs.Prelude.{◌≡◌, IfOk, map, true};
 ghost use Rattle.std.specs.List.{All};
-ghost use Rattle.just_tree.specs.Attributes.{options_shape};
+ghost use Rattle.just_attribute_tree.specs.Attributes.{options_shape};
 ghost use Rattle.just_tree.specs.Recipes.{parameter_shapes};
 ghost use Rattle.just_attribute_lines.specs.Cooked.{AreCookedOptions};
 ghost use Rattle.just_expressions.specs.Literals.{Expansion};
@@ -13,8 +13,9 @@ ghost use Rattle.just_parameter_options.specs.Whole.{AreWholeOptions};
 use crate::options::with_all;
 use crate::places::Places;
 use crate::rules::check;
+use just_attribute_tree::ArgumentOptions;
 use just_expressions::Fault;
-use just_tree::{ArgumentOptions, Parameter};
+use just_tree::Parameter;
 use std::alloc::Global;
 
 /// Gives the parameters of the recipe with that name the options that its `arg`s say of them.

@@ -2,15 +2,16 @@
 ghost use Rattle.std.specs.Prelude.{◌≡◌, IfOk, List, None, OnOk, Some, if◌then◌else◌, is_some, map, not, ℕ};
 ghost use Rattle.std.specs.List.{All};
 ghost use Rattle.std.specs.Str.{bytes_eq};
-ghost use Rattle.just_tree.specs.Attributes.{options_shape};
+ghost use Rattle.just_attribute_tree.specs.Attributes.{options_shape};
 ghost use Rattle.just_tree.specs.Recipes.{parameter_shapes};
 ghost use Rattle.just_expressions.specs.Literals.{Expansion};
 ghost use Rattle.just_attribute_lines.specs.Cooked.{AreCookedOptions};
 ghost use Rattle.just_parameter_options.specs.Places.{HasPlaces, place_in};
 ghost use Rattle.just_parameter_options.specs.Rules.{name_parameters, names_of};
 
+use just_attribute_tree::ArgumentOptions;
 use just_text::Token;
-use just_tree::{ArgumentOptions, Parameter};
+use just_tree::Parameter;
 use std::alloc::{AllocError, Global};
 use std::collections::BTreeMap;
 

@@ -2,7 +2,7 @@
 ghost use Rattle.std.specs.Prelude.{◌≡◌, IfOk, map};
 ghost use Rattle.std.specs.List.{All};
 ghost use Rattle.just_text.specs.declared.compile_error.CompileErrorKind.TheVariants as kinds;
-ghost use Rattle.just_tree.specs.Attributes.{options_shape};
+ghost use Rattle.just_attribute_tree.specs.Attributes.{options_shape};
 ghost use Rattle.just_tree.specs.Recipes.{parameter_shapes};
 ghost use Rattle.just_expressions.specs.Literals.{Expansion};
 ghost use Rattle.just_attribute_lines.specs.Cooked.{AreCookedOptions};
@@ -14,9 +14,10 @@ ghost use Rattle.just_parameter_options.specs.Rules.{arg_keyword, fault_of, name
 use crate::defaults::check_late;
 use crate::names::{NameKind, repeated};
 use crate::places::Places;
+use just_attribute_tree::ArgumentOptions;
 use just_expressions::Fault;
 use just_text::{CompileErrorKind, Text};
-use just_tree::{ArgumentOptions, Parameter};
+use just_tree::Parameter;
 use std::alloc::{AllocError, Global};
 
 /// That an `arg` does not fit the recipe with that name.

@@ -2,7 +2,7 @@
 use Rattle.std.proofs.Common.{◌≡◌, ℕ, ◌<◌, List, length, map, Ok, arith}
 use Rattle.std.proofs.lemmas.List.{length-map}
 use Rattle.just_text.specs.Tokens.{Word}
-use Rattle.just_tree.specs.Shape.{Shape}
+use Rattle.just_expression_tree.specs.Shape.{Shape}
 use Rattle.just_expressions.specs.Literals.{Expansion}
 use Rattle.just_expressions.specs.Grammar.{Derives}
 use Rattle.just_expressions.specs.Reading.{expression_at}

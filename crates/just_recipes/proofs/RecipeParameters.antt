@@ -7,7 +7,7 @@ use Rattle.just_text.specs.declared.token_kind.TokenKind.TheVariants.{Asterisk, 
 use Rattle.just_tree.specs.declared.recipe.ParameterKind.{ParameterKind}
 use Rattle.just_tree.specs.declared.recipe.ParameterKind.TheVariants.{Plus, Singular, Star}
 use Rattle.just_tree.specs.Recipes.{is_variadic, ParameterShape}
-use Rattle.just_tree.specs.Shape.{Shape}
+use Rattle.just_expression_tree.specs.Shape.{Shape}
 use Rattle.just_expressions.specs.Words.{is_kind, Begins, Mark, Lacks}
 use Rattle.just_expressions.specs.Literals.{Expansion}
 use Rattle.just_expressions.specs.Laws.{Exactly}

@@ -7,7 +7,7 @@ use Rattle.just_text.specs.declared.token_kind.TokenKind.TheVariants.{Asterisk, 
 use Rattle.just_tree.specs.declared.recipe.ParameterKind.{ParameterKind}
 use Rattle.just_tree.specs.Lines.{Piece}
 use Rattle.just_tree.specs.Recipes.{is_variadic, ParameterShape, ArgumentShape, DependencyShape}
-use Rattle.just_tree.specs.Shape.{Shape}
+use Rattle.just_expression_tree.specs.Shape.{Shape}
 use Rattle.just_expressions.specs.Literals.{Expansion}
 use Rattle.just_expressions.specs.Reading.{◌>>=◌, Stop, Read, accept, expect, is_next}
 use Rattle.just_expressions.proofs.Shorter.{inspect, test, accept_shorter, expect_shorter, expression_shorter}

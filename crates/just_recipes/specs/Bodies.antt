@@ -3,7 +3,7 @@ use Rattle.std.specs.Prelude.{ℕ, suc, ◌≡◌, ◌≢◌, ◌⊎◌, List, [
 use Rattle.just_text.specs.Tokens.{Word}
 use Rattle.just_text.specs.declared.token_kind.TokenKind.TheVariants.{Comment, Dedent, Eof, Eol, Indent, InterpolationEnd, InterpolationStart, Text}
 use Rattle.just_tree.specs.Lines.{Piece, text, interpolation}
-use Rattle.just_tree.specs.Shape.{Shape}
+use Rattle.just_expression_tree.specs.Shape.{Shape}
 use Rattle.just_expressions.specs.Words.{is_kind, Begins, Mark, Lacks}
 use Rattle.just_expressions.specs.Literals.{Expansion}
 use Rattle.just_expressions.specs.Grammar.{Derives}

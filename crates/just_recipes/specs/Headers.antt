@@ -6,7 +6,7 @@ use Rattle.just_text.specs.declared.token_kind.TokenKind.TheVariants.{AmpersandA
 use Rattle.just_tree.specs.declared.recipe.ParameterKind.{ParameterKind}
 use Rattle.just_tree.specs.declared.recipe.ParameterKind.TheVariants.{Plus, Singular, Star}
 use Rattle.just_tree.specs.Recipes.{ParameterShape, ArgumentShape, DependencyShape, RecipeShape}
-use Rattle.just_tree.specs.Shape.{Shape}
+use Rattle.just_expression_tree.specs.Shape.{Shape}
 use Rattle.just_expressions.specs.Words.{Begins, Mark, Lacks}
 use Rattle.just_expressions.specs.Literals.{Expansion}
 use Rattle.just_recipes.specs.Bodies.{IsExpression, IsPrimary, IsEol, IsBody}

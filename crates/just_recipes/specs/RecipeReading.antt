@@ -10,7 +10,7 @@ use Rattle.just_tree.specs.declared.recipe.ParameterKind.{ParameterKind}
 use Rattle.just_tree.specs.declared.recipe.ParameterKind.TheVariants.{Plus, Singular, Star}
 use Rattle.just_tree.specs.Lines.{Piece, text, interpolation}
 use Rattle.just_tree.specs.Recipes.{is_variadic, ParameterShape, ArgumentShape, DependencyShape, RecipeShape}
-use Rattle.just_tree.specs.Shape.{Shape}
+use Rattle.just_expression_tree.specs.Shape.{Shape}
 use Rattle.just_expressions.specs.Literals.{Expansion}
 use Rattle.just_expressions.specs.Reading.{◌>>=◌, on, Read, Stop, unexpected, refused, first, accept, expect, is_next, expression_at}
 use Rattle.just_recipes.specs.Bodies.{behind_blank, without_blank_end, blank_end}

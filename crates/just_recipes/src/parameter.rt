@@ -2,7 +2,7 @@
 ghost use Rattle.std.specs.Prelude.{◌≡◌, ℕ, suc, IfOk, IfSome, List, OnOk, Some, [], ◌∷◌, option_map, length};
 ghost use Rattle.just_text.specs.Tokens.{lexeme, word_of};
 ghost use Rattle.just_tree.specs.Recipes.{parameter_shapes};
-ghost use Rattle.just_tree.specs.Shape.{shape_of};
+ghost use Rattle.just_expression_tree.specs.Shape.{shape_of};
 ghost use Rattle.just_recipes.specs.Numbering.{AreBindingsUsed, AreNumbered, GivesUnless, IsNumbered};
 ghost use Rattle.just_expressions.specs.Literals.{IsCooked};
 ghost use Rattle.just_recipes.specs.Cooked.{AreParametersCooked, IsParameterCooked};
@@ -12,9 +12,10 @@ ghost use Rattle.just_expressions.specs.Reading.{Gives, ahead};
 ghost use Rattle.just_recipes.specs.RecipeReading.{default_at, kind_at, last_at, marked_at, named_at, parameter_ahead, parameter_at, parameters_at};
 
 use crate::numbering::next_binding;
+use just_expression_tree::Expression;
 use just_expressions::{Cursor, Fault};
 use just_text::{CompileErrorKind, Expander, Name, Numerator, Text, Token, TokenKind};
-use just_tree::{Expression, Parameter, ParameterKind};
+use just_tree::{Parameter, ParameterKind};
 use std::alloc::Global;
 use std::collections::BTreeSet;
 

@@ -84,6 +84,3 @@ pub fn drive<'src, E: Expander, H: RunHost + Drop, O: Out>(
     let ast = read_root(alloc, &words, sources, roots, expander, &config.version)?;
     run_file(alloc, config, &ast, &words, host)
 }
-
-#[cfg(test)]
-mod tests;

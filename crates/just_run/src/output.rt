@@ -165,6 +165,3 @@ impl<W: Write + Drop> Out for Device<W> {
         self.failures
     }
 }
-
-#[cfg(test)]
-mod tests;

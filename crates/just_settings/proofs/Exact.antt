@@ -3,7 +3,7 @@ use Rattle.std.proofs.Common.{◌≡◌, ℕ, List, map, Ok, Option, Some, None,
 use Rattle.just_text.specs.Tokens.{Word}
 use Rattle.just_text.specs.declared.token_kind.TokenKind.TheVariants.{ColonEquals, Identifier}
 use Rattle.just_tree.specs.declared.ast.ItemKind.TheVariants.{Set}
-use Rattle.just_tree.specs.Settings.{ValueShape, SetShape}
+use Rattle.just_attribute_tree.specs.Settings.{ValueShape, SetShape}
 use Rattle.just_expressions.specs.Words.{Begins, Mark, Lacks}
 use Rattle.just_expressions.specs.Literals.{Expansion}
 use Rattle.just_expressions.specs.Laws.{Exactly}

@@ -3,8 +3,8 @@ use Rattle.std.proofs.Common.{◌≡◌, ℕ, zero, suc, ◌<◌, List, [], ◌�
 use Rattle.std.proofs.lemmas.List.{length-map}
 use Rattle.just_text.specs.Tokens.{Word}
 use Rattle.just_text.specs.declared.token_kind.TokenKind.TheVariants.{BracketL, BracketR, ColonEquals, Comma}
-use Rattle.just_tree.specs.Settings.{InterpreterShape}
-use Rattle.just_tree.specs.Shape.{Shape}
+use Rattle.just_attribute_tree.specs.Settings.{InterpreterShape}
+use Rattle.just_expression_tree.specs.Shape.{Shape}
 use Rattle.just_expressions.specs.Words.{Mark}
 use Rattle.just_expressions.specs.Literals.{Expansion}
 use Rattle.just_expressions.specs.Laws.{Exactly}

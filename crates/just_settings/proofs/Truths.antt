@@ -2,7 +2,7 @@
 use Rattle.std.proofs.Common.{◌≡◌, ℕ, Bool, true, false, List, map, Ok, refl, inl, inr, ◌⊎◌}
 use Rattle.just_text.specs.Tokens.{Word}
 use Rattle.just_text.specs.declared.token_kind.TokenKind.TheVariants.{ColonEquals, Identifier}
-use Rattle.just_tree.specs.Settings.{truth_text}
+use Rattle.just_attribute_tree.specs.Settings.{truth_text}
 use Rattle.just_expressions.specs.Words.{Begins, Mark, Lacks}
 use Rattle.just_expressions.specs.Reading.{accept, expect, is_keyword}
 use Rattle.just_expressions.proofs.Taken.{bind_ok, inspect, test, turned, text_other, same_front, accept_mark, accept_none, expect_is, taken, marked, lacks_accept, keyword_is, keyword_begins, lacks_keyword}

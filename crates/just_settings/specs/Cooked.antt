@@ -1,8 +1,8 @@
 -- The cooked texts of settings.
-use Rattle.just_tree.specs.declared.expression.Expression.{Expression}
-use Rattle.just_tree.specs.declared.setting.Interpreter.{Interpreter}
-use Rattle.just_tree.specs.declared.setting.Setting.{Setting}
-use Rattle.just_tree.specs.declared.setting.Setting.TheVariants.{DotenvCommand, DotenvFilename, DotenvPath, Indentation, MinimumVersion, ScriptInterpreter, Shell, Tempdir, WindowsShell, WorkingDirectory}
+use Rattle.just_expression_tree.specs.declared.expression.Expression.{Expression}
+use Rattle.just_attribute_tree.specs.declared.setting.Interpreter.{Interpreter}
+use Rattle.just_attribute_tree.specs.declared.setting.Setting.{Setting}
+use Rattle.just_attribute_tree.specs.declared.setting.Setting.TheVariants.{DotenvCommand, DotenvFilename, DotenvPath, Indentation, MinimumVersion, ScriptInterpreter, Shell, Tempdir, WindowsShell, WorkingDirectory}
 use Rattle.just_expressions.specs.Literals.{Expansion, IsCooked, AreCooked}
 use Rattle.just_items.specs.Cooked.{IsCookedString}
 

@@ -2,7 +2,7 @@
 use Rattle.std.specs.Prelude.{◌≡◌, List, map, Ok}
 use Rattle.just_text.specs.Tokens.{Word, word_of}
 use Rattle.just_tree.specs.declared.ast.ItemKind.TheVariants.{Set}
-use Rattle.just_tree.specs.Settings.{SetShape}
+use Rattle.just_attribute_tree.specs.Settings.{SetShape}
 use Rattle.just_expressions.specs.Literals.{Expansion}
 use Rattle.just_items.specs.Reading.{kind_at}
 use Rattle.semver.specs.declared.Version.{Version as SemanticVersion}

@@ -5,8 +5,8 @@ use Rattle.just_text.specs.declared.compile_error.CompileErrorKind.{CompileError
 use Rattle.just_text.specs.declared.compile_error.CompileErrorKind.TheVariants as kinds
 use Rattle.just_text.specs.declared.token_kind.TokenKind.TheVariants.{BracketL, BracketR, ColonEquals, Comma, Identifier, StringToken}
 use Rattle.just_strings.specs.Cooking.{cooked}
-use Rattle.just_tree.specs.Settings.{ValueShape, truth, expression, interpreter, string, SetShape, InterpreterShape}
-use Rattle.just_tree.specs.Shape.{Shape}
+use Rattle.just_attribute_tree.specs.Settings.{ValueShape, truth, expression, interpreter, string, SetShape, InterpreterShape}
+use Rattle.just_expression_tree.specs.Shape.{Shape}
 use Rattle.just_expressions.specs.Literals.{Expansion}
 use Rattle.just_expressions.specs.Reading.{◌>>=◌, on, Read, unexpected, refused, first, accept, expect, is_keyword, expression_at}
 use Rattle.just_recipes.specs.RecipeReading.{eol_at}

@@ -3,8 +3,8 @@ use Rattle.std.specs.Prelude.{ℕ, ◌≡◌, ◌⊎◌, true, false, List, [], 
 use Rattle.just_text.specs.Tokens.{Word}
 use Rattle.just_text.specs.declared.token_kind.TokenKind.TheVariants.{BracketL, BracketR, ColonEquals, Comma, Identifier, StringToken}
 use Rattle.just_strings.specs.Cooking.{cooked}
-use Rattle.just_tree.specs.Settings.{ValueShape, truth, expression, interpreter, string, SetShape, truth_text}
-use Rattle.just_tree.specs.Shape.{Shape}
+use Rattle.just_attribute_tree.specs.Settings.{ValueShape, truth, expression, interpreter, string, SetShape, truth_text}
+use Rattle.just_expression_tree.specs.Shape.{Shape}
 use Rattle.just_expressions.specs.Words.{Begins, Mark, Lacks}
 use Rattle.just_expressions.specs.Literals.{Expansion}
 use Rattle.just_recipes.specs.Bodies.{IsExpression, IsEol}

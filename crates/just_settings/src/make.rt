@@ -1,13 +1,14 @@
 //! Settings by their names.
 ghost use Rattle.std.specs.Prelude.{◌≡◌, Some};
-ghost use Rattle.just_tree.specs.Settings.{expression, interpreter, interpreter_shape, truth, value_shape};
-ghost use Rattle.just_tree.specs.Shape.{shape_of};
+ghost use Rattle.just_attribute_tree.specs.Settings.{expression, interpreter, interpreter_shape, truth, value_shape};
+ghost use Rattle.just_expression_tree.specs.Shape.{shape_of};
 ghost use Rattle.just_expressions.specs.Literals.{Expansion, IsCooked};
 ghost use Rattle.just_settings.specs.Cooked.{IsCookedInterpreter, IsCookedSetting};
 ghost use Rattle.just_settings.specs.Names.{form_named, setting_name};
 ghost use Rattle.just_settings.specs.declared.form.Form.TheVariants as forms;
 
-use just_tree::{Expression, Interpreter, Setting};
+use just_attribute_tree::{Interpreter, Setting};
+use just_expression_tree::Expression;
 
 /// The setting of that name, whose value is a truth value.
 pub(crate) fn truth_setting<'src>(name: &str, value: bool) -> Setting<'src>

@@ -2,8 +2,8 @@
 ghost use Rattle.std.specs.Prelude.{[], ◌≡◌, ◌≢◌, IfOk, Some, length, map, suc};
 ghost use Rattle.just_text.specs.Tokens.{lexeme, word_of};
 ghost use Rattle.just_text.specs.declared.compile_error.CompileErrorKind.TheVariants as kinds;
-ghost use Rattle.just_tree.specs.Settings.{interpreter_shape, set_shape, value_shape};
-ghost use Rattle.just_tree.specs.Shape.{shape_of, written};
+ghost use Rattle.just_attribute_tree.specs.Settings.{interpreter_shape, set_shape, value_shape};
+ghost use Rattle.just_expression_tree.specs.Shape.{shape_of, written};
 ghost use Rattle.just_expressions.specs.declared.fault.Fault.TheVariants.{OutOfMemory, Refused};
 ghost use Rattle.just_expressions.specs.Literals.{AreCooked, Expansion, IsCooked};
 ghost use Rattle.just_expressions.specs.Reading.{Gives, ahead};
@@ -18,12 +18,13 @@ ghost use Rattle.just_settings.specs.Versions.{is_above};
 
 use crate::form::{Form, form_named};
 use crate::make::{interpreter_setting, truth_setting, value_setting};
+use just_attribute_tree::{Interpreter, Set, Setting};
 use just_attributes::Indentation;
+use just_expression_tree::Expression;
 use just_expressions::{Cursor, Fault};
 use just_recipes::ended;
 use just_strings::StringLiteral;
 use just_text::{CompileError, CompileErrorKind, Expander, Name, Text, Token, TokenKind, both};
-use just_tree::{Expression, Interpreter, Set, Setting};
 use semver::Version;
 use std::alloc::{AllocError, Global};
 use std::cmp::Ordering;

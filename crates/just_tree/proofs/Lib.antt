@@ -1,4 +1,3 @@
-pub mod Printed
 pub mod Marks
-pub mod TextsInRow
+pub mod RowText
 pub mod Filed

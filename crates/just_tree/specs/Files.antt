@@ -10,11 +10,11 @@ use Rattle.just_tree.specs.declared.ast.UnstableFeature.{UnstableFeature}
 use Rattle.just_tree.specs.declared.ast.UnstableFeature.TheVariants.{CachedRecipes, DefinedFunctions, Lists}
 use Rattle.just_tree.specs.declared.ast.ListFeature.{ListFeature}
 use Rattle.just_tree.specs.declared.ast.ListFeature.TheVariants.{Comparison, Concatenation, ConditionalWithoutElse, Literal, Not, StarredArgument}
-use Rattle.just_tree.specs.Attributes.{AttributeShape, attribute_shapes, attributes_text}
+use Rattle.just_attribute_tree.specs.Attributes.{AttributeShape, attribute_shapes, attributes_text}
 use Rattle.just_tree.specs.Items.{AliasShape, alias_shape, alias_text, AssignmentShape, assignment_shape, assignment_text, FunctionShape, function_shape, function_text, ImportShape, import_shape, import_text, ModuleShape, module_shape, module_text, unexport_shape, unexport_text}
 use Rattle.just_tree.specs.Lines.{ends_in_return, last_piece}
 use Rattle.just_tree.specs.Recipes.{RecipeShape, recipe_shape, recipe_text}
-use Rattle.just_tree.specs.Settings.{SetShape, set_shape, set_text}
+use Rattle.just_attribute_tree.specs.Settings.{SetShape, set_shape, set_text}
 
 abbrev pub kind_text : ItemKind → List ℕ
 kind_text AliasKind = codes "alias"

@@ -5,15 +5,15 @@ use Rattle.std.specs.Option.{option_map}
 use Rattle.just_text.specs.Tokens.{lexeme}
 use Rattle.just_text.specs.Names.{path_text}
 use Rattle.just_text.specs.declared.name.Name.{Name}
-use Rattle.just_tree.specs.declared.expression.Expression.{Expression}
+use Rattle.just_expression_tree.specs.declared.expression.Expression.{Expression}
 use Rattle.just_tree.specs.declared.item.Alias.{Alias}
 use Rattle.just_tree.specs.declared.item.Binding.{Binding}
 use Rattle.just_tree.specs.declared.item.FunctionDefinition.{FunctionDefinition}
 use Rattle.just_tree.specs.declared.item.Import.{Import}
 use Rattle.just_tree.specs.declared.item.Module.{Module}
 use Rattle.just_tree.specs.declared.item.Unexport.{Unexport}
-use Rattle.just_tree.specs.Shape.{Shape, shape_of, written}
-use Rattle.just_tree.specs.Printing.{text_of}
+use Rattle.just_expression_tree.specs.Shape.{Shape, shape_of, written}
+use Rattle.just_expression_tree.specs.Printing.{text_of}
 
 -- an alias: its name and the path of its target
 pub record AliasShape : Type 0 where
@@ -22,6 +22,10 @@ pub record AliasShape : Type 0 where
 
 abbrev pub alias_shape : Alias (List Name) → AliasShape
 alias_shape a = record { name = lexeme a.name.token; target = path_text a.target }
+
+-- an alias whose recipe is known: the recipe's own name stands for its path
+abbrev pub recipe_alias_shape : Alias Name → AliasShape
+recipe_alias_shape a = record { name = lexeme a.name.token; target = lexeme a.target.token }
 
 abbrev pub alias_text : AliasShape → List ℕ
 alias_text a = codes "alias " ++ a.name ++ codes " := " ++ a.target

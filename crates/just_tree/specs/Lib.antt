@@ -1,9 +1,4 @@
-pub mod Operators
-pub mod Shape
-pub mod Printing
 pub mod Lines
 pub mod Recipes
 pub mod Items
-pub mod Settings
-pub mod Attributes
 pub mod Files

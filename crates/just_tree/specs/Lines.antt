@@ -7,8 +7,8 @@ use Rattle.just_tree.specs.declared.line.Fragment.{Fragment}
 use Rattle.just_tree.specs.declared.line.Fragment.TheVariants.{Interpolation, Text}
 use Rattle.just_tree.specs.declared.line.Line.{Line}
 use Rattle.just_tree.specs.declared.line.Sigils.{Sigils}
-use Rattle.just_tree.specs.Shape.{Shape, shape_of}
-use Rattle.just_tree.specs.Printing.{text_of}
+use Rattle.just_expression_tree.specs.Shape.{Shape, shape_of}
+use Rattle.just_expression_tree.specs.Printing.{text_of}
 
 -- a part of a line
 pub data Piece : Type 0 where

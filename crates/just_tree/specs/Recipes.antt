@@ -11,8 +11,8 @@ use Rattle.just_tree.specs.declared.recipe.Parameter.{Parameter}
 use Rattle.just_tree.specs.declared.recipe.DependencyArgument.{DependencyArgument}
 use Rattle.just_tree.specs.declared.recipe.UnresolvedDependency.{UnresolvedDependency}
 use Rattle.just_tree.specs.declared.recipe.Recipe.{Recipe}
-use Rattle.just_tree.specs.Shape.{Shape, shape_of}
-use Rattle.just_tree.specs.Printing.{text_of}
+use Rattle.just_expression_tree.specs.Shape.{Shape, shape_of}
+use Rattle.just_expression_tree.specs.Printing.{text_of}
 use Rattle.just_tree.specs.Lines.{Piece, pieces_of, line_text}
 
 -- a parameter takes all values that remain

@@ -2,15 +2,13 @@
 ghost use Rattle.std.specs.Prelude.{◌≡◌, ◌++◌, Some, codes};
 ghost use Rattle.std.specs.Fmt.{WritesOnOk};
 ghost use Rattle.std.specs.List.{list_any};
-ghost use Rattle.just_tree.specs.Attributes.{attribute_shapes};
+ghost use Rattle.just_attribute_tree.specs.Attributes.{attribute_shapes};
 ghost use Rattle.just_tree.specs.Files as spec;
 
-use crate::attribute::Attribute;
 use crate::item::{Alias, Assignment, FunctionDefinition, Import, Module, Unexport};
 use crate::line::Line;
 use crate::recipe::{Recipe, UnresolvedDependency};
-use crate::rows::Attributes;
-use crate::setting::Set;
+use just_attribute_tree::{Attribute, Attributes, Set};
 use just_text::Namepath;
 use std::fmt;
 

@@ -2,9 +2,9 @@
 ghost use Rattle.std.specs.Prelude.{◌≡◌, Some};
 ghost use Rattle.just_tree.specs.Items as spec;
 
-use crate::attribute::Attribute;
-use crate::expression::Expression;
 use crate::rows::Names;
+use just_attribute_tree::Attribute;
+use just_expression_tree::Expression;
 use just_strings::StringLiteral;
 use just_text::{Name, Namepath, Number};
 use std::fmt;
@@ -25,6 +25,19 @@ impl<'src> fmt::Display for Alias<'src, Namepath<'src>> {
         let name = self.name;
         let target = &self.target;
         write!(f, "alias {name} := {target}")
+    }
+}
+
+/// An alias whose target is a recipe's own name.
+pub type RecipeAlias<'src> = Alias<'src, Name<'src>>;
+
+impl<'src> fmt::Display for Alias<'src, Name<'src>> {
+    ghost output = { λ alias. Some (spec.alias_text (spec.recipe_alias_shape alias)) };
+
+    fn fmt<W: fmt::Write>(&self, f: &mut fmt::Formatter<W>) -> fmt::Result {
+        let name = self.name;
+        let recipe = self.target;
+        write!(f, "alias {name} := {recipe}")
     }
 }
 

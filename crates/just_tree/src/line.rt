@@ -3,7 +3,7 @@ ghost use Rattle.std.specs.Prelude.{◌≡◌, ◌-◌, length, slice_get, optio
 ghost use Rattle.just_tree.specs.Lines as spec;
 ghost use Rattle.just_tree.specs.Lines.{piece_of, piece_text, pieces_of, line_text, first_piece, last_piece, sigils_of, next_sigils, no_sigils, read_sigils, is_comment, is_continuation};
 
-use crate::expression::Expression;
+use just_expression_tree::Expression;
 use just_text::Token;
 use std::fmt;
 
@@ -146,7 +146,7 @@ impl Line<'_> {
 impl fmt::Display for Line<'_> {
     ghost output = { λ line. Some (line_text (pieces_of line)) };
 
-    #[tactic(auto, using(crate::proofs::TextsInRow::texts_next))]
+    #[tactic(auto, using(crate::proofs::RowText::texts_next))]
     fn fmt<W: fmt::Write>(&self, f: &mut fmt::Formatter<W>) -> fmt::Result {
         for fragment in &self.fragments {
             write!(f, "{fragment}")?;

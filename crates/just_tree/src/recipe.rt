@@ -3,10 +3,10 @@ ghost use Rattle.std.specs.Prelude.{◌≡◌, Some, codes};
 ghost use Rattle.std.specs.Fmt.{WritesOnOk};
 ghost use Rattle.just_tree.specs.Recipes as spec;
 
-use crate::attribute::Attribute;
-use crate::expression::Expression;
 use crate::line::Line;
 use crate::rows::{Arguments, Body, Dependencies, Parameters, Subsequents};
+use just_attribute_tree::Attribute;
+use just_expression_tree::Expression;
 use just_text::{Name, Namepath, Number, Text};
 use std::fmt;
 

@@ -1,14 +1,11 @@
-//! Lists as they are printed.
+//! Lists of parts of recipes as they are printed.
 ghost use Rattle.std.specs.Prelude.{Some};
 ghost use Rattle.just_tree.specs.Items as items;
 ghost use Rattle.just_tree.specs.Recipes as spec;
 
-use crate::attribute::Attribute;
-use crate::expression::Expression;
 use crate::item::FunctionParameter;
 use crate::line::Line;
 use crate::recipe::{DependencyArgument, Parameter, UnresolvedDependency};
-use just_strings::StringLiteral;
 use std::fmt;
 
 /// Parameters, each behind a space.
@@ -18,7 +15,7 @@ pub struct Parameters<'a, 'src>(pub &'a [Parameter<'src>]);
 impl fmt::Display for Parameters<'_, '_> {
     ghost output = { λ row. Some (spec.parameters_text (spec.parameter_shapes row.0.now)) };
 
-    #[tactic(auto, using(crate::proofs::TextsInRow::texts_next))]
+    #[tactic(auto, using(crate::proofs::RowText::texts_next))]
     fn fmt<W: fmt::Write>(&self, f: &mut fmt::Formatter<W>) -> fmt::Result {
         for parameter in self.0 {
             write!(f, " {parameter}")?;
@@ -34,7 +31,7 @@ pub struct Arguments<'a, 'src>(pub &'a [DependencyArgument<'src>]);
 impl fmt::Display for Arguments<'_, '_> {
     ghost output = { λ row. Some (spec.arguments_text (spec.argument_shapes row.0.now)) };
 
-    #[tactic(auto, using(crate::proofs::TextsInRow::texts_next))]
+    #[tactic(auto, using(crate::proofs::RowText::texts_next))]
     fn fmt<W: fmt::Write>(&self, f: &mut fmt::Formatter<W>) -> fmt::Result {
         for argument in self.0 {
             write!(f, " {argument}")?;
@@ -50,7 +47,7 @@ pub struct Dependencies<'a, 'src>(pub &'a [UnresolvedDependency<'src>]);
 impl fmt::Display for Dependencies<'_, '_> {
     ghost output = { λ row. Some (spec.dependencies_text (spec.dependency_shapes row.0.now)) };
 
-    #[tactic(auto, using(crate::proofs::TextsInRow::texts_next))]
+    #[tactic(auto, using(crate::proofs::RowText::texts_next))]
     fn fmt<W: fmt::Write>(&self, f: &mut fmt::Formatter<W>) -> fmt::Result {
         for dependency in self.0 {
             write!(f, " {dependency}")?;
@@ -107,7 +104,7 @@ pub struct Body<'a, 'src> {
 impl fmt::Display for Body<'_, '_> {
     ghost output = { λ body. Some (spec.body_text body.indentation.now (spec.body_shape body.lines.now)) };
 
-    #[tactic(auto, using(crate::proofs::TextsInRow::texts_next))]
+    #[tactic(auto, using(crate::proofs::RowText::texts_next))]
     fn fmt<W: fmt::Write>(&self, f: &mut fmt::Formatter<W>) -> fmt::Result {
         let indentation = self.indentation;
         for line in self.lines {
@@ -125,7 +122,7 @@ pub struct Names<'a, 'src>(pub &'a [FunctionParameter<'src>]);
 impl fmt::Display for Names<'_, '_> {
     ghost output = { λ row. Some (items.names_text (items.names_of row.0.now)) };
 
-    #[tactic(auto, using(crate::proofs::TextsInRow::texts_next))]
+    #[tactic(auto, using(crate::proofs::RowText::texts_next))]
     fn fmt<W: fmt::Write>(&self, f: &mut fmt::Formatter<W>) -> fmt::Result {
         let parameters = self.0;
         let Some((first, others)) = parameters.split_first() else {
@@ -136,63 +133,6 @@ impl fmt::Display for Names<'_, '_> {
         for parameter in others {
             let name = parameter.name();
             write!(f, ", {name}")?;
-        }
-        Ok(())
-    }
-}
-
-/// Expressions, each behind a comma and a space.
-#[derive(Clone, Copy)]
-pub struct Elements<'a, 'src>(pub &'a [Expression<'src>]);
-
-impl fmt::Display for Elements<'_, '_> {
-    ghost use Rattle.std.specs.Prelude.{map};
-    ghost use Rattle.just_tree.specs.Shape.{shape_of};
-    ghost use Rattle.just_tree.specs.Settings.{elements_text};
-
-    ghost output = { λ row. Some (elements_text (map shape_of row.0.now)) };
-
-    #[tactic(auto, using(crate::proofs::TextsInRow::texts_next))]
-    fn fmt<W: fmt::Write>(&self, f: &mut fmt::Formatter<W>) -> fmt::Result {
-        for expression in self.0 {
-            write!(f, ", {expression}")?;
-        }
-        Ok(())
-    }
-}
-
-/// Strings, each behind a comma and a space.
-#[derive(Clone, Copy)]
-pub struct Strings<'a, 'src>(pub &'a [StringLiteral<'src>]);
-
-impl fmt::Display for Strings<'_, '_> {
-    ghost use Rattle.just_tree.specs.Attributes.{strings_text, strings_of};
-
-    ghost output = { λ row. Some (strings_text (strings_of row.0.now)) };
-
-    #[tactic(auto, using(crate::proofs::TextsInRow::texts_next))]
-    fn fmt<W: fmt::Write>(&self, f: &mut fmt::Formatter<W>) -> fmt::Result {
-        for string in self.0 {
-            let text = string.token.lexeme();
-            write!(f, ", {text}")?;
-        }
-        Ok(())
-    }
-}
-
-/// Attributes, one a line.
-#[derive(Clone, Copy)]
-pub struct Attributes<'a, 'src>(pub &'a [Attribute<'src>]);
-
-impl fmt::Display for Attributes<'_, '_> {
-    ghost use Rattle.just_tree.specs.Attributes.{attributes_text, attribute_shapes};
-
-    ghost output = { λ row. Some (attributes_text (attribute_shapes row.0.now)) };
-
-    #[tactic(auto, using(crate::proofs::TextsInRow::texts_next))]
-    fn fmt<W: fmt::Write>(&self, f: &mut fmt::Formatter<W>) -> fmt::Result {
-        for attribute in self.0 {
-            write!(f, "[{attribute}]\n")?;
         }
         Ok(())
     }

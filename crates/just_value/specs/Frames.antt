@@ -6,7 +6,7 @@ use Rattle.std.specs.Ordering.{nat_cmp}
 use Rattle.just_text.specs.declared.name.Name.{Name}
 use Rattle.just_text.specs.declared.token_kind.TokenKind.{TokenKind}
 use Rattle.just_text.specs.declared.token_kind.TokenKind.TheVariants.{Identifier}
-use Rattle.just_tree.specs.Attributes.{attribute_shape, attribute_text}
+use Rattle.just_attribute_tree.specs.Attributes.{attribute_shape, attribute_text}
 use Rattle.just_tree.specs.declared.item.Binding.{Binding}
 
 -- a name where it is written, without where it lies in memory

@@ -4,8 +4,8 @@ ghost use Rattle.std.specs.Fmt.{WritesOnOk};
 ghost use Rattle.just_value.specs.Faults as spec;
 
 use crate::value::Value;
+use just_expression_tree::{ConditionalOperator, ListOperator};
 use just_text::{Name, Text, Token};
-use just_tree::{ConditionalOperator, ListOperator};
 use std::alloc::{AllocError, AllocFailed};
 use std::fmt;
 

@@ -9,12 +9,12 @@ ghost use Rattle.std.specs.Vec.Iter.{into_iter_items};
 ghost use Rattle.just_value.specs.Values.{joined, applied};
 ghost use Rattle.just_value.specs.declared.fault.ValueFault.TheVariants.{OutOfMemory, Const};
 ghost use Rattle.just_value.specs.declared.fault.ConstEvalError.TheVariants.{ListOperation};
-ghost use Rattle.just_tree.specs.Operators.{list_separator};
+ghost use Rattle.just_expression_tree.specs.Operators.{list_separator};
 
 use crate::combine::combine;
 use crate::fault::{ConstEvalError, ValueFault};
+use just_expression_tree::ListOperator;
 use just_text::Token;
-use just_tree::ListOperator;
 use std::alloc::{AllocError, AllocFailed, Global};
 use std::cmp::Ordering;
 use std::marker::Model;

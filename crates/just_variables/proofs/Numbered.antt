@@ -5,9 +5,9 @@ use Rattle.std.proofs.lemmas.List.{map-append}
 use Rattle.just_text.specs.declared.name.Name.{Name}
 use Rattle.just_text.specs.declared.token.Token.{Token}
 use Rattle.just_strings.specs.declared.string_literal.StringLiteral.{StringLiteral}
-use Rattle.just_tree.specs.declared.operator.ConditionalOperator.{ConditionalOperator}
-use Rattle.just_tree.specs.declared.expression.Expression.{Expression, the_lemmas}
-use Rattle.just_tree.specs.declared.expression.Expression as e
+use Rattle.just_expression_tree.specs.declared.operator.ConditionalOperator.{ConditionalOperator}
+use Rattle.just_expression_tree.specs.declared.expression.Expression.{Expression, the_lemmas}
+use Rattle.just_expression_tree.specs.declared.expression.Expression as e
 use Rattle.just_variables.specs.Resolving.{IsNumbered, IsNumberedIfThere, AreNumbered, AreHolesNumbered}
 use Rattle.just_variables.proofs.Rows.{numbers_of_row, numbers_of_holes}
 

@@ -6,9 +6,9 @@ use Rattle.std.specs.Option.{option_or}
 use Rattle.just_text.specs.Tokens.{lexeme}
 use Rattle.just_text.specs.declared.token.Token.{Token}
 use Rattle.just_strings.specs.declared.string_literal.StringLiteral.{StringLiteral}
-use Rattle.just_tree.specs.declared.expression.Expression.{Expression, fold-Expression}
-use Rattle.just_tree.specs.declared.expression.Expression.TheOpen.{Expression-F}
-use Rattle.just_tree.specs.Shape.{shape_of}
+use Rattle.just_expression_tree.specs.declared.expression.Expression.{Expression, fold-Expression}
+use Rattle.just_expression_tree.specs.declared.expression.Expression.TheOpen.{Expression-F}
+use Rattle.just_expression_tree.specs.Shape.{shape_of}
 use Rattle.just_variables.specs.declared.context.ExpressionContext.{ExpressionContext}
 use Rattle.just_variables.specs.Contexts.{number_in}
 

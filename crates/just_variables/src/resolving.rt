@@ -3,9 +3,9 @@ ghost use Rattle.std.specs.Prelude.{◌≡◌};
 ghost use Rattle.just_variables.specs.Resolving as spec;
 
 use crate::context::ExpressionContext;
+use just_expression_tree::Expression;
 use just_strings::StringLiteral;
 use just_text::{Name, Number, Token, TokenKind};
-use just_tree::Expression;
 use std::mem;
 
 /// Where the numbers of names stand.

@@ -2,9 +2,14 @@
 //! variables and attributes, and the parser.
 #![tactic(auto)]
 
-pub use just_attributes::{
-    AttributeItem, AttributeSet, Indentation, Keyed, PrintedArguments, file_indentation,
+pub use just_attribute_tree::{
+    Attribute, AttributeArguments, AttributeKind, Interpreter, Set, Setting,
 };
+pub use just_attributes::{
+    AttributeItem, AttributeSet, Indentation, InvalidIndentation, Keyed, PrintedArguments,
+    file_indentation,
+};
+pub use just_expression_tree::{ConditionalOperator, Expression, ListOperator};
 pub use just_grammar::Parser;
 pub use just_lexer::Lexer;
 pub use just_strings::{StringKind, StringLiteral, unindent};
@@ -13,9 +18,8 @@ pub use just_text::{
     Namepath, Number, Numerator, Os, Sequence, Text, Ticked, Token, TokenKind,
 };
 pub use just_tree::{
-    Alias, Assignment, Ast, Attribute, AttributeKind, Binding, ConditionalOperator,
-    DependencyArgument, Expression, Fragment, FunctionDefinition, FunctionParameter, Import,
-    Interpreter, Item, ItemKind, Line, ListFeature, ListOperator, Module, Parameter, ParameterKind,
-    Recipe, Set, Setting, Sigils, Unexport, UnresolvedDependency, UnstableFeature,
+    Alias, Assignment, Ast, Binding, DependencyArgument, Fragment, FunctionDefinition,
+    FunctionParameter, Import, Item, ItemKind, Line, ListFeature, Module, Parameter, ParameterKind,
+    Recipe, RecipeAlias, Sigils, Unexport, UnresolvedDependency, UnstableFeature,
 };
 pub use just_variables::{ExpressionContext, resolve_variables};

@@ -1,9 +1,9 @@
 //! Expressions read from small token lists.
 
 use crate::tokens::spaced_tokens;
+use just_expression_tree::Expression;
 use just_expressions::{Cursor, Fault};
 use just_text::{ExpandFault, Expander, Text, TokenKind};
-use just_tree::Expression;
 use std::alloc::{AllocError, Global};
 use std::test::Fail;
 

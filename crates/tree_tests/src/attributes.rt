@@ -1,10 +1,12 @@
 //! Sets of attributes, and what stands beside them.
 
 use crate::tokens::{name, token};
-use just_attributes::{AttributeItem, AttributeSet, Indentation, Keyed, kind_from_name};
+use just_attribute_tree::{Attribute, AttributeArguments, AttributeKind, kind_from_name};
+use just_attributes::{AttributeItem, AttributeSet, Indentation, Keyed};
+use just_expression_tree::Expression;
 use just_strings::{StringDelimiter, StringKind, StringLiteral, StringPrefix};
 use just_text::{Name, Os, Text, TokenKind};
-use just_tree::{Attribute, AttributeKind, ItemKind};
+use just_tree::ItemKind;
 use std::alloc::{AllocError, Global};
 use std::test::Fail;
 
@@ -134,8 +136,79 @@ fn knows_names(rt: HostRuntime) -> Result<(), Fail> {
     Ok(())
 }
 
+/// The attribute with that name and these arguments as it is printed, or its refusal.
+fn made<'src>(
+    alloc: Global,
+    text: &'src str,
+    arguments: AttributeArguments<'src>,
+) -> Result<String, AllocError> {
+    match Attribute::new(alloc, name(text), arguments) {
+        Ok(attribute) => attribute.to_string(alloc),
+        Err(error) => error.kind.to_string(alloc),
+    }
+}
+
+/// Strings as arguments: the first, and so many more like it.
+fn strings<'src>(
+    alloc: Global,
+    src: &'src str,
+    more: usize,
+) -> Result<AttributeArguments<'src>, AllocError> {
+    let mut others = Vec::new(alloc);
+    for _ in 0..more {
+        others.push(string(alloc, src, "s")?)?;
+    }
+    let first = string(alloc, src, "s")?;
+    Ok(AttributeArguments::Strings { first, others })
+}
+
+fn variable(alloc: Global, src: &str) -> AttributeArguments<'_> {
+    AttributeArguments::Expressions {
+        first: Expression::Variable {
+            name: name(src),
+            number: None,
+        },
+        others: Vec::new(alloc),
+        token: token(src, TokenKind::Identifier),
+    }
+}
+
+#[test]
+fn makes_attributes_of_strings(rt: HostRuntime) -> Result<(), Fail> {
+    let alloc = rt.alloc();
+    for (text, more, want) in [
+        ("group", 0, "group('s')"),
+        ("metadata", 1, "metadata('s', 's')"),
+        ("group", 1, "attribute argument count: `group`, `2`"),
+        ("linux", 0, "attribute argument count: `linux`, `1`"),
+        ("script", 0, "unexpected token: `string`"),
+        ("nope", 0, "unknown attribute: `nope`"),
+    ] {
+        let made = made(alloc, text, strings(alloc, "'s'", more)?)?;
+        assert_eq!(rt; made.as_str(), want);
+    }
+    Ok(())
+}
+
+#[test]
+fn makes_attributes_of_expressions(rt: HostRuntime) -> Result<(), Fail> {
+    let alloc = rt.alloc();
+    for (text, want) in [
+        ("confirm", "confirm(x)"),
+        ("script", "script(x)"),
+        ("env", "attribute argument count: `env`, `1`"),
+        ("group", "unexpected token: `identifier`"),
+    ] {
+        let made = made(alloc, text, variable(alloc, "x"))?;
+        assert_eq!(rt; made.as_str(), want);
+    }
+    Ok(())
+}
+
 #[test]
 fn reads_indentations(rt: HostRuntime) -> Result<(), Fail> {
+    assert!(rt; "\t".parse::<Indentation>().is_ok());
+    assert!(rt; "\t ".parse::<Indentation>().is_err());
     assert!(rt; Indentation::from_text("\t").is_some());
     assert!(rt; Indentation::from_text(" \t").is_none());
     assert_eq!(rt; Indentation::default().as_str(), "    ");

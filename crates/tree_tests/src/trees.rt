@@ -1,10 +1,9 @@
 //! Printed texts of small trees.
 
 use crate::tokens::{name, token};
+use just_expression_tree::{ConditionalOperator, Expression};
 use just_text::{Namepath, TokenKind};
-use just_tree::{
-    ConditionalOperator, DependencyArgument, Expression, Fragment, Line, UnresolvedDependency,
-};
+use just_tree::{DependencyArgument, Fragment, Line, RecipeAlias, UnresolvedDependency};
 use std::alloc::{AllocError, Global};
 use std::test::Fail;
 
@@ -115,6 +114,17 @@ fn prints_a_dependency(rt: HostRuntime) -> Result<(), Fail> {
     };
     let text = dependency.to_string(alloc)?;
     assert_eq!(rt; text.as_str(), "(b *x)");
+    Ok(())
+}
+
+#[test]
+fn prints_an_alias_of_a_recipe(rt: HostRuntime) -> Result<(), Fail> {
+    let alias: RecipeAlias = RecipeAlias {
+        attributes: Vec::new(rt.alloc()),
+        name: name("b"),
+        target: name("build"),
+    };
+    assert_eq!(rt; alias.to_string(rt.alloc())?.as_str(), "alias b := build");
     Ok(())
 }
 

@@ -1,8 +1,9 @@
 //! Numbers of names, and of the variables of small trees.
 
 use crate::tokens::name;
+use just_expression_tree::Expression;
 use just_text::{Number, Numerator};
-use just_tree::{Expression, Parameter, ParameterKind};
+use just_tree::{Parameter, ParameterKind};
 use just_variables::{ExpressionContext, resolve_variables};
 use std::alloc::{AllocError, Global};
 use std::test::Fail;

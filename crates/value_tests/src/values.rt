@@ -1,8 +1,8 @@
 //! Values by the texts that they give.
 
 use crate::tokens::token;
+use just_expression_tree::ListOperator;
 use just_text::TokenKind;
-use just_tree::ListOperator;
 use just_value::Value;
 use std::alloc::{AllocError, Global};
 use std::test::Fail;

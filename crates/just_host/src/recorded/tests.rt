@@ -6,6 +6,7 @@ ghost use Rattle.just_host.specs.Steps.{idle, then, questions-join};
 ghost use Rattle.just_host.specs.declared.entry.Entry.TheVariants.{Asked, Line, Script, Confirm, Show, Dotenv};
 
 use super::*;
+use just_text::both;
 use std::test::Fail;
 
 /// Answers questions, and counts what it is asked.
@@ -141,36 +142,55 @@ struct Asking {
     request: DotenvRequest,
 }
 
+fn command_job(alloc: Global) -> Result<CommandJob, AllocError> {
+    let command = Text::from_text(alloc, "make")?;
+    Ok(CommandJob {
+        shell: Sequence::new(alloc),
+        command,
+        positional: Sequence::new(alloc),
+        pairs: Sequence::new(alloc),
+        removed: Sequence::new(alloc),
+        folder: None,
+        quiet: true,
+    })
+}
+
+fn script_job(alloc: Global) -> Result<ScriptJob, AllocError> {
+    let folder = Text::from_text(alloc, "/")?;
+    Ok(ScriptJob {
+        interpreter: Sequence::new(alloc),
+        lines: Sequence::new(alloc),
+        positional: Sequence::new(alloc),
+        extension: None,
+        pairs: Sequence::new(alloc),
+        removed: Sequence::new(alloc),
+        folder: Some(folder),
+    })
+}
+
+fn dotenv_request(alloc: Global) -> Result<DotenvRequest, AllocError> {
+    let folder = Text::from_text(alloc, "/")?;
+    Ok(DotenvRequest {
+        folder,
+        load: true,
+        filenames: Sequence::new(alloc),
+        paths: Sequence::new(alloc),
+        command: Sequence::new(alloc),
+        overriding: false,
+        required: false,
+    })
+}
+
 fn one_of_each(alloc: Global) -> Result<Asking, AllocError> {
+    let question = Question::Environment(Text::from_text(alloc, "HOME")?);
+    let asked = both(question, command_job(alloc))?;
+    let put = both(asked, script_job(alloc))?;
+    let (((question, line), script), request) = both(put, dotenv_request(alloc))?;
     Ok(Asking {
-        question: Question::Environment(Text::from_text(alloc, "HOME")?),
-        line: CommandJob {
-            shell: Sequence::new(alloc),
-            command: Text::from_text(alloc, "make")?,
-            positional: Sequence::new(alloc),
-            pairs: Sequence::new(alloc),
-            removed: Sequence::new(alloc),
-            folder: None,
-            quiet: true,
-        },
-        script: ScriptJob {
-            interpreter: Sequence::new(alloc),
-            lines: Sequence::new(alloc),
-            positional: Sequence::new(alloc),
-            extension: None,
-            pairs: Sequence::new(alloc),
-            removed: Sequence::new(alloc),
-            folder: Some(Text::from_text(alloc, "/")?),
-        },
-        request: DotenvRequest {
-            folder: Text::from_text(alloc, "/")?,
-            load: true,
-            filenames: Sequence::new(alloc),
-            paths: Sequence::new(alloc),
-            command: Sequence::new(alloc),
-            overriding: false,
-            required: false,
-        },
+        question,
+        line,
+        script,
+        request,
     })
 }
 
@@ -225,31 +245,57 @@ fn plan_deep<G: RunHost + Drop>(
     if exhausted { None } else { answers }
 }
 
+fn is_text(answer: &Answer, text: &str) -> bool {
+    match answer {
+        Answer::Text(found) => found.as_str() == text,
+        _ => false,
+    }
+}
+
+/// Whether the entries are those of each, in order, with these answers.
+fn are_entries(entries: &[Entry], asking: &Asking, answers: &Answers) -> bool {
+    match entries {
+        [
+            Entry::Asked(question, asked),
+            Entry::Line(line, line_status),
+            Entry::Script(script, script_status),
+            Entry::Confirm(prompt, confirmation),
+            Entry::Show(text),
+            Entry::Dotenv(request, pairs),
+        ] => {
+            *question == asking.question
+                && *asked == answers.asked
+                && *line == asking.line
+                && *line_status == answers.line
+                && *script == asking.script
+                && *script_status == answers.script
+                && prompt.is_empty()
+                && *confirmation == answers.confirm
+                && text.is_empty()
+                && *request == asking.request
+                && *pairs == answers.dotenv
+        }
+        _ => false,
+    }
+}
+
+/// Whether one of each is answered, and kept with its answer.
+fn is_kept(host: &mut Recorded<Counting>, asking: &Asking) -> bool {
+    let answers = ask_all(host, asking);
+    !host.exhausted()
+        && is_text(&answers.asked, "HOME")
+        && answers.line == Status::Code(3)
+        && answers.script == Status::Signal(9)
+        && answers.confirm == Confirmation::No
+        && are_entries(host.entries(), asking, &answers)
+}
+
 #[test]
 fn everything_is_kept_in_order(rt: HostRuntime) -> Result<(), Fail> {
     let alloc = rt.alloc();
     let asking = one_of_each(alloc)?;
     let mut host = Recorded::new(alloc, Counting::new(alloc));
-    let answers = ask_all(&mut host, &asking);
-    assert!(rt; !host.exhausted());
-    assert!(rt; answers.asked == Answer::Text(Text::from_text(alloc, "HOME")?));
-    assert_eq!(rt; answers.line, Status::Code(3));
-    assert_eq!(rt; answers.script, Status::Signal(9));
-    assert_eq!(rt; answers.confirm, Confirmation::No);
-    let entries = host.entries();
-    assert_eq!(rt; entries.len(), 6);
-    let Asking {
-        question,
-        line,
-        script,
-        request,
-    } = asking;
-    assert!(rt; entries[0] == Entry::Asked(question, answers.asked));
-    assert!(rt; entries[1] == Entry::Line(line, Status::Code(3)));
-    assert!(rt; entries[2] == Entry::Script(script, Status::Signal(9)));
-    assert!(rt; entries[3] == Entry::Confirm(Text::from_text(alloc, "")?, Confirmation::No));
-    assert!(rt; entries[4] == Entry::Show(Text::from_text(alloc, "")?));
-    assert!(rt; entries[5] == Entry::Dotenv(request, answers.dotenv));
+    assert!(rt; is_kept(&mut host, &asking));
     let counted = host.into_host();
     assert_eq!(rt; counted.asked, 2);
     assert_eq!(rt; counted.commands, 2);

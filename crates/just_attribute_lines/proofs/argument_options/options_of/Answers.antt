@@ -1,7 +1,7 @@
 -- The options are told where they may stand together.
 use Rattle.std.proofs.Common.{◌∙◌, sym, map}
-use Rattle.just_tree.specs.Attributes.{options_shape}
-use Rattle.just_tree.specs.Shape.{written}
+use Rattle.just_attribute_tree.specs.Attributes.{options_shape}
+use Rattle.just_expression_tree.specs.Shape.{written}
 use Rattle.just_attribute_lines.specs.Held.{given_shape}
 use Rattle.just_attribute_lines.proofs.Adding.{whole_so, not_whole_so}
 use Rattle.just_attribute_lines.proofs.argument_options.options_of.Goals as goal

@@ -2,8 +2,8 @@
 use Rattle.std.proofs.Common.{◌≡◌, length, map}
 use Rattle.std.specs.List.{All}
 use Rattle.std.specs.Vec.Iter.{into_iter_items, into_iter_len}
-use Rattle.just_tree.specs.Attributes.{options_shape}
-use Rattle.just_tree.specs.Shape.{written}
+use Rattle.just_attribute_tree.specs.Attributes.{options_shape}
+use Rattle.just_expression_tree.specs.Shape.{written}
 use Rattle.just_expressions.specs.Literals.{Expansion}
 use Rattle.just_expressions.specs.Strings.{IsCookedString}
 use Rattle.just_attribute_lines.specs.Cooked.{AreCookedOptions}

@@ -1,6 +1,6 @@
 -- An option that may be added is added, and another is not.
 use Rattle.std.proofs.Common.{◌∙◌, sym}
-use Rattle.just_tree.specs.Attributes.{options_shape}
+use Rattle.just_attribute_tree.specs.Attributes.{options_shape}
 use Rattle.just_attribute_lines.specs.Held.{option_shape}
 use Rattle.just_attribute_lines.proofs.Adding.{may_so, may_not_so}
 use Rattle.just_attribute_lines.proofs.argument_options.with_option.Goals as goal

@@ -3,7 +3,7 @@ use Rattle.std.proofs.Common.{◌≡◌, ◌-◌, ◌++◌, ◌∷◌, [], Ok, t
 use Rattle.std.proofs.lemmas.Result.{err_from_is_err_and}
 use Rattle.just_text.specs.Tokens.{word_of}
 use Rattle.just_text.specs.declared.token_kind.TokenKind.TheVariants.{ParenR}
-use Rattle.just_tree.specs.Shape.{shape_of}
+use Rattle.just_expression_tree.specs.Shape.{shape_of}
 use Rattle.just_expressions.specs.Reading.{ahead}
 use Rattle.just_attribute_lines.specs.Reading.{whole_at, more_at}
 use Rattle.just_attribute_lines.proofs.Fewer.{more_shorter, whole_shorter}

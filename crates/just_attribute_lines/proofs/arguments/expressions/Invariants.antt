@@ -1,6 +1,6 @@
 -- The expressions that were read, and those that are still to be read.
 use Rattle.std.proofs.Common.{◌≡◌, ℕ, ◌<◌, length}
-use Rattle.just_tree.specs.Shape.{shape_of}
+use Rattle.just_expression_tree.specs.Shape.{shape_of}
 use Rattle.just_expressions.specs.Literals.{AreCooked}
 use Rattle.just_text.specs.Tokens.{word_of}
 use Rattle.just_text.specs.declared.token_kind.TokenKind.TheVariants.{ParenR}

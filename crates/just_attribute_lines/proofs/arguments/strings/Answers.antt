@@ -3,7 +3,7 @@ use Rattle.std.proofs.Common.{◌≡◌, ◌-◌, ◌++◌, ◌∷◌, [], Ok, t
 use Rattle.std.proofs.lemmas.Result.{err_from_is_err_and}
 use Rattle.just_text.specs.Tokens.{word_of}
 use Rattle.just_text.specs.declared.token_kind.TokenKind.TheVariants.{ParenR}
-use Rattle.just_tree.specs.Shape.{written}
+use Rattle.just_expression_tree.specs.Shape.{written}
 use Rattle.just_expressions.specs.Strings.{IsCookedString}
 use Rattle.just_expressions.specs.Reading.{ahead}
 use Rattle.just_attribute_lines.specs.Reading.{text_at, more_at}

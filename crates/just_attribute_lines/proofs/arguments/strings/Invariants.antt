@@ -1,7 +1,7 @@
 -- The strings that were read, and those that are still to be read.
 use Rattle.std.proofs.Common.{◌≡◌, ℕ, ◌<◌, length}
 use Rattle.std.specs.List.{All}
-use Rattle.just_tree.specs.Shape.{written}
+use Rattle.just_expression_tree.specs.Shape.{written}
 use Rattle.just_expressions.specs.Strings.{IsCookedString}
 use Rattle.just_text.specs.Tokens.{word_of}
 use Rattle.just_text.specs.declared.token_kind.TokenKind.TheVariants.{ParenR}

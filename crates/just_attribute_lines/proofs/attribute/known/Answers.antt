@@ -4,7 +4,7 @@ use Rattle.std.specs.Prelude.{IfOk, IfSome}
 use Rattle.std.proofs.lemmas.Result.{err_from_is_err_and}
 use Rattle.just_expressions.proofs.Together.{both_given, second_refused}
 use Rattle.just_text.specs.Tokens.{word_of}
-use Rattle.just_tree.specs.Attributes.{AttributeShape}
+use Rattle.just_attribute_tree.specs.Attributes.{AttributeShape}
 use Rattle.just_expressions.specs.Reading.{ahead}
 use Rattle.just_attribute_lines.specs.Arguments.{made}
 use Rattle.just_attribute_lines.specs.Held.{GivesOptions, IsCookedArguments, arguments_shape}

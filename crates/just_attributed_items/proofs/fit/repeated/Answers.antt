@@ -1,6 +1,6 @@
 -- Each turn looks at the first of those that are left.
 use Rattle.std.proofs.Common.{◌∙◌, sym, ap}
-use Rattle.just_tree.specs.Attributes.{AttributeShape}
+use Rattle.just_attribute_tree.specs.Attributes.{AttributeShape}
 use Rattle.std.proofs.Common.{Option}
 use Rattle.std.specs.Option.{option_map}
 use Rattle.just_attributed_items.proofs.Repeated.{kind_text, stands_again, stands_once}

@@ -2,7 +2,7 @@
 use Rattle.std.proofs.Common.{◌≡◌, refl, subst}
 use Rattle.std.specs.Prelude.{IfOk}
 use Rattle.std.proofs.lemmas.Result.{err_from_is_err_and}
-use Rattle.just_tree.specs.Attributes.{attribute_shapes}
+use Rattle.just_attribute_tree.specs.Attributes.{attribute_shapes}
 use Rattle.just_expressions.proofs.Together.{both_given}
 use Rattle.just_attribute_lines.specs.Seen.{read_shapes}
 use Rattle.just_attributed_items.specs.Fitting.{known}

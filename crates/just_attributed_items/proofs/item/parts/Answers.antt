@@ -1,7 +1,7 @@
 -- What was read stays beside what is read behind it.
 use Rattle.std.proofs.Common.{List, Option, Ok, ◌∙◌, ap, subst}
 use Rattle.std.specs.Prelude.{IfOk}
-use Rattle.just_tree.specs.Attributes.{AttributeShape}
+use Rattle.just_attribute_tree.specs.Attributes.{AttributeShape}
 use Rattle.just_expressions.specs.Reading.{ahead}
 use Rattle.just_expressions.proofs.Together.{both_given}
 use Rattle.just_attributed_items.specs.Held.{IsItemNumbered}

@@ -1,7 +1,7 @@
 -- Each turn takes an attribute.
 use Rattle.std.proofs.Common.{◌≡◌, ◌+◌, suc, List, ◌∷◌, ◌++◌, length, ap, subst, arith}
 use Rattle.std.specs.Vec.Iter.{into_iter_items, into_iter_len}
-use Rattle.just_tree.specs.Attributes.{attribute_shapes}
+use Rattle.just_attribute_tree.specs.Attributes.{attribute_shapes}
 use Rattle.just_expressions.specs.Literals.{Expansion}
 use Rattle.just_attribute_lines.specs.declared.attribute.AttributeRead.{AttributeRead}
 use Rattle.just_attribute_lines.specs.Seen.{AreWholeReads, IsWholeRead, read_shapes}

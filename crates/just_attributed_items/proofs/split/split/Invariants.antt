@@ -1,7 +1,7 @@
 -- The attributes that were taken, and those that are still to be taken.
 use Rattle.std.proofs.Common.{◌≡◌, ◌++◌, length}
 use Rattle.std.specs.Vec.Iter.{into_iter_items, into_iter_len}
-use Rattle.just_tree.specs.Attributes.{attribute_shapes}
+use Rattle.just_attribute_tree.specs.Attributes.{attribute_shapes}
 use Rattle.just_expressions.specs.Literals.{Expansion}
 use Rattle.just_attribute_lines.specs.Seen.{AreWholeReads, read_shapes}
 use Rattle.just_attributed_items.specs.Fitting.{known}

@@ -1,6 +1,6 @@
 use Rattle.std.proofs.Common.{◌≡◌, List, map, sym, ap, ◌∙◌, map-id}
 use Rattle.just_text.specs.Tokens.{Word, word_of}
-use Rattle.just_tree.specs.Shape.{Shape}
+use Rattle.just_expression_tree.specs.Shape.{Shape}
 use Rattle.just_expressions.proofs.Taken.{ok_is}
 use Rattle.just_expressions.proofs.Found.{found}
 use Rattle.just_expressions.proofs.Again.{again}

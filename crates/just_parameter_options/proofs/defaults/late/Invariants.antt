@@ -1,6 +1,6 @@
 -- What is told of the parameters that are left is what is told of all.
 use Rattle.std.proofs.Common.{◌≡◌, List, drop}
-use Rattle.just_tree.specs.Attributes.{OptionsShape}
+use Rattle.just_attribute_tree.specs.Attributes.{OptionsShape}
 use Rattle.just_tree.specs.Recipes.{parameter_shapes}
 use Rattle.just_expressions.specs.Literals.{Expansion}
 use Rattle.just_parameter_options.specs.Names.{AreOptions}

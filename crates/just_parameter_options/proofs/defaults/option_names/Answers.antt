@@ -1,7 +1,7 @@
 -- Each turn adds the name of a parameter that is an option.
 use Rattle.std.proofs.Common.{◌≡◌, ◌∙◌, ◌∷◌, ◌+◌, true, false, sym, map, drop}
-use Rattle.just_tree.specs.Attributes.{options_shape}
-use Rattle.just_tree.specs.Shape.{written}
+use Rattle.just_attribute_tree.specs.Attributes.{options_shape}
+use Rattle.just_expression_tree.specs.Shape.{written}
 use Rattle.just_attribute_lines.specs.Cooked.{AreCookedOptions}
 use Rattle.just_attribute_lines.specs.Options.{text}
 use Rattle.just_attribute_lines.proofs.Adding.{text_is}

@@ -1,7 +1,7 @@
 -- Each turn adds a name, if the `arg` says one.
 use Rattle.std.proofs.Common.{◌≡◌, ◌∙◌, ◌∷◌, true, false, sym, ap, map, drop, ◌+◌}
 use Rattle.std.specs.Option.{option_copied}
-use Rattle.just_tree.specs.Attributes.{options_shape}
+use Rattle.just_attribute_tree.specs.Attributes.{options_shape}
 use Rattle.just_attribute_lines.specs.Cooked.{AreCookedOptions}
 use Rattle.just_parameter_options.specs.Names.{is_new, name_of, with_name}
 use Rattle.just_parameter_options.proofs.Lists.{next_left, of_next}

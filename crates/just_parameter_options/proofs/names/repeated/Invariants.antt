@@ -1,7 +1,7 @@
 -- Whether the names that are left are new is whether all are.
 use Rattle.std.proofs.Common.{◌≡◌, ℕ, List, [], drop, map}
 use Rattle.std.specs.List.{All}
-use Rattle.just_tree.specs.Attributes.{options_shape}
+use Rattle.just_attribute_tree.specs.Attributes.{options_shape}
 use Rattle.just_expressions.specs.Literals.{Expansion}
 use Rattle.just_attribute_lines.specs.Cooked.{AreCookedOptions}
 use Rattle.just_recipes.specs.RecipeSeen.{HasNames}

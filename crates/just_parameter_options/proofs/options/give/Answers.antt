@@ -1,8 +1,8 @@
 -- Each field of the parameter says what the `arg` means.
 use Rattle.std.proofs.Common.{◌∙◌, refl, ap}
 use Rattle.std.specs.Option.{option_map}
-use Rattle.just_tree.specs.Attributes.{options_shape}
-use Rattle.just_tree.specs.Shape.{shape_of}
+use Rattle.just_attribute_tree.specs.Attributes.{options_shape}
+use Rattle.just_expression_tree.specs.Shape.{shape_of}
 use Rattle.just_attribute_lines.specs.Options.{is_count, is_short}
 use Rattle.just_parameter_options.specs.Options.{meant, number_of}
 use Rattle.just_parameter_options.proofs.Given.{all_given, named, read, whole}

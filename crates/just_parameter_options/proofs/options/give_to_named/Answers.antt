@@ -1,7 +1,7 @@
 -- The parameter at the place of the name is given the options.
 use Rattle.std.proofs.Common.{◌≡◌, ◌∙◌, ◌<◌, length, Some, None, sym, arith}
 use Rattle.std.proofs.lemmas.List.Elements.{All-set}
-use Rattle.just_tree.specs.Attributes.{options_shape}
+use Rattle.just_attribute_tree.specs.Attributes.{options_shape}
 use Rattle.just_attribute_lines.proofs.Adding.{text_is}
 use Rattle.just_parameter_options.specs.Options.{IsValueCooked}
 use Rattle.just_parameter_options.specs.Places.{place_in}

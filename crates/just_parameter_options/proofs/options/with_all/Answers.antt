@@ -2,8 +2,8 @@
 use Rattle.std.proofs.Common.{◌≡◌, ◌∙◌, ◌++◌, ◌∷◌, [], List, map, true, refl, sym, ap, subst, get_or}
 use Rattle.std.specs.List.{All}
 use Rattle.std.proofs.lemmas.List.{append-nil, map-append}
-use Rattle.just_tree.specs.declared.attribute.ArgumentOptions.{ArgumentOptions}
-use Rattle.just_tree.specs.Attributes.{options_shape}
+use Rattle.just_attribute_tree.specs.declared.attribute.ArgumentOptions.{ArgumentOptions}
+use Rattle.just_attribute_tree.specs.Attributes.{options_shape}
 use Rattle.just_tree.specs.Recipes.{parameter_shapes}
 use Rattle.just_attribute_lines.specs.Cooked.{AreCookedOptions}
 use Rattle.just_parameter_options.specs.Places.{HasPlaces}

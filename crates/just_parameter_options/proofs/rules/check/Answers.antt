@@ -1,7 +1,7 @@
 -- A rule is broken where all before it are kept.
 use Rattle.std.proofs.Common.{map}
 use Rattle.std.proofs.lemmas.Result.{err_from_is_err_and}
-use Rattle.just_tree.specs.Attributes.{options_shape}
+use Rattle.just_attribute_tree.specs.Attributes.{options_shape}
 use Rattle.just_tree.specs.Recipes.{parameter_shapes}
 use Rattle.just_parameter_options.proofs.Faults.{at_default, at_long, at_parameter, at_short}
 use Rattle.just_parameter_options.proofs.rules.check.Goals as goal

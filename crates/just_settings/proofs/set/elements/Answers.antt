@@ -3,7 +3,7 @@ use Rattle.std.proofs.Common.{◌≡◌, ◌-◌, ◌++◌, ◌∷◌, [], None,
 use Rattle.std.proofs.lemmas.Result.{err_from_is_err_and}
 use Rattle.just_text.specs.Tokens.{word_of}
 use Rattle.just_text.specs.declared.token_kind.TokenKind.TheVariants.{BracketR, Comma}
-use Rattle.just_tree.specs.Shape.{shape_of}
+use Rattle.just_expression_tree.specs.Shape.{shape_of}
 use Rattle.just_expressions.specs.Reading.{ahead, accept, expect, expression_at, Fails}
 use Rattle.just_settings.proofs.Elements.{no_element, no_close, is_last, goes_on, at_end, element_shorter, one_more_cooked, taken}
 use Rattle.just_settings.proofs.set.elements.Goals as goal

@@ -5,8 +5,8 @@ use Rattle.just_text.specs.Tokens.{word_of, lexeme}
 use Rattle.just_text.specs.declared.token_kind.TokenKind.TheVariants.{Comma}
 use Rattle.just_strings.specs.Kinds.{kind_of}
 use Rattle.just_strings.specs.Parts.{cooked_part}
-use Rattle.just_tree.specs.declared.expression.Expression.{Expression}
-use Rattle.just_tree.specs.Shape.{Shape, shape_of, written}
+use Rattle.just_expression_tree.specs.declared.expression.Expression.{Expression}
+use Rattle.just_expression_tree.specs.Shape.{Shape, shape_of, written}
 use Rattle.just_expressions.specs.Literals.{is_open}
 use Rattle.just_expressions.specs.Reading.{ahead, accept, expect, operator_at, prefix_at, part_at, operand_at, expression_at, Fails}
 use Rattle.just_expressions.specs.Operators.{right_rank}

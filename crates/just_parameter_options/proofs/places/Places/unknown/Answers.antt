@@ -1,8 +1,8 @@
 -- An `arg` names a parameter where its name has a place.
 use Rattle.std.proofs.Common.{◌≡◌, ◌∙◌, ◌∷◌, ◌+◌, true, false, ap, map, drop}
 use Rattle.std.specs.Prelude.{is_some, not}
-use Rattle.just_tree.specs.Attributes.{options_shape}
-use Rattle.just_tree.specs.Shape.{written}
+use Rattle.just_attribute_tree.specs.Attributes.{options_shape}
+use Rattle.just_expression_tree.specs.Shape.{written}
 use Rattle.just_attribute_lines.specs.Cooked.{AreCookedOptions}
 use Rattle.just_attribute_lines.specs.Options.{text}
 use Rattle.just_attribute_lines.proofs.Adding.{text_is}

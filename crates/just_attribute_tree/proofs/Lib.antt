@@ -1,0 +1,2 @@
+pub mod TextsInRow
+pub mod KindFound

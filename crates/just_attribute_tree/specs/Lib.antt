@@ -1,0 +1,5 @@
+pub mod Settings
+pub mod Attributes
+pub mod Forms
+pub mod Kinds
+pub mod Given

@@ -1,0 +1,64 @@
+//! Lists as they are printed.
+ghost use Rattle.std.specs.Prelude.{Some};
+
+use crate::attribute::Attribute;
+use just_expression_tree::Expression;
+use just_strings::StringLiteral;
+use std::fmt;
+
+/// Expressions, each behind a comma and a space.
+#[derive(Clone, Copy)]
+pub struct Elements<'a, 'src>(pub &'a [Expression<'src>]);
+
+impl fmt::Display for Elements<'_, '_> {
+    ghost use Rattle.std.specs.Prelude.{map};
+    ghost use Rattle.just_expression_tree.specs.Shape.{shape_of};
+    ghost use Rattle.just_attribute_tree.specs.Settings.{elements_text};
+
+    ghost output = { λ row. Some (elements_text (map shape_of row.0.now)) };
+
+    #[tactic(auto, using(crate::proofs::TextsInRow::texts_next))]
+    fn fmt<W: fmt::Write>(&self, f: &mut fmt::Formatter<W>) -> fmt::Result {
+        for expression in self.0 {
+            write!(f, ", {expression}")?;
+        }
+        Ok(())
+    }
+}
+
+/// Strings, each behind a comma and a space.
+#[derive(Clone, Copy)]
+pub struct Strings<'a, 'src>(pub &'a [StringLiteral<'src>]);
+
+impl fmt::Display for Strings<'_, '_> {
+    ghost use Rattle.just_attribute_tree.specs.Attributes.{strings_text, strings_of};
+
+    ghost output = { λ row. Some (strings_text (strings_of row.0.now)) };
+
+    #[tactic(auto, using(crate::proofs::TextsInRow::texts_next))]
+    fn fmt<W: fmt::Write>(&self, f: &mut fmt::Formatter<W>) -> fmt::Result {
+        for string in self.0 {
+            let text = string.token.lexeme();
+            write!(f, ", {text}")?;
+        }
+        Ok(())
+    }
+}
+
+/// Attributes, one a line.
+#[derive(Clone, Copy)]
+pub struct Attributes<'a, 'src>(pub &'a [Attribute<'src>]);
+
+impl fmt::Display for Attributes<'_, '_> {
+    ghost use Rattle.just_attribute_tree.specs.Attributes.{attributes_text, attribute_shapes};
+
+    ghost output = { λ row. Some (attributes_text (attribute_shapes row.0.now)) };
+
+    #[tactic(auto, using(crate::proofs::TextsInRow::texts_next))]
+    fn fmt<W: fmt::Write>(&self, f: &mut fmt::Formatter<W>) -> fmt::Result {
+        for attribute in self.0 {
+            write!(f, "[{attribute}]\n")?;
+        }
+        Ok(())
+    }
+}

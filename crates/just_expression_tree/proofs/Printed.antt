@@ -1,0 +1,67 @@
+-- The texts of expressions whose last part may be absent, and of rows from a place on.
+use Rattle.std.proofs.Common.{◌≡◌, ℕ, ◌+◌, ◌<◌, ◌≤◌, List, [], ◌∷◌, ◌++◌, length, get_or, drop, Option, Some, None, codes, refl, ap, rules, append_assoc, append-nil, add-one, drop-cons}
+use Rattle.std.proofs.lemmas.List.{drop_all}
+use Rattle.std.specs.Global.{Box}
+use Rattle.just_text.specs.declared.name.Name.{Name}
+use Rattle.just_strings.specs.declared.string_literal.StringLiteral.{StringLiteral}
+use Rattle.just_expression_tree.specs.declared.expression.Expression.{Expression, Assert, Conditional, the_lemmas}
+use Rattle.just_expression_tree.specs.Shape.{shape_of, shapes_of, holes_of, inner_shape, written, assertion, assertion_alone, choice, choice_alone}
+use Rattle.just_expression_tree.specs.Printing.{text_of, text_of_all, text_of_message, text_of_other, text_of_others, text_of_holes, behind_else, braced}
+
+-- a call of `assert` is its condition and the rest
+pub printed_assert : (c : Box Expression) (m : Option (Box Expression)) (name : Name)
+    → text_of (shape_of (Assert c m name)) ≡ codes "assert(" ++ text_of (shape_of c.value) ++ text_of_message (inner_shape m)
+unfolding text_of
+printed_assert c None name =
+    let e : shape_of (Assert c None name) ≡ assertion_alone (shape_of c.value) = search (rules, the_lemmas) in
+    rw e
+printed_assert c (Some m) name =
+    let e : shape_of (Assert c (Some m) name) ≡ assertion (shape_of c.value) (shape_of m.value) = search (rules, the_lemmas) in
+    rw e (simp append_assoc)
+
+-- a conditional is its condition, what it gives, and the rest
+pub printed_conditional : (c t : Box Expression) (o : Option (Box Expression))
+    → text_of (shape_of (Conditional c t o)) ≡ codes "if " ++ text_of (shape_of c.value) ++ codes " " ++ braced (text_of (shape_of t.value)) ++ text_of_other (inner_shape o)
+unfolding text_of
+printed_conditional c t None =
+    let e : shape_of (Conditional c t None) ≡ choice_alone (shape_of c.value) (shape_of t.value) = search (rules, the_lemmas) in
+    rw (e, append-nil)
+printed_conditional c t (Some o) =
+    let e : shape_of (Conditional c t (Some o)) ≡ choice (shape_of c.value) (shape_of t.value) (shape_of o.value) = search (rules, the_lemmas) in
+    rw e (append_assoc (codes "if " ++ text_of (shape_of c.value) ++ codes " " ++ braced (text_of (shape_of t.value))) (codes " else ") (behind_else (shape_of o.value) (text_of (shape_of o.value))))
+
+-- what is written of a row goes on by one element
+pub others_next : (xs : List Expression) (i : ℕ) (x : Expression) (done all : List ℕ) → i < length xs → x ≡ get_or xs i x
+    → done ++ text_of_others (shapes_of (drop i xs)) ≡ all
+    → (done ++ (codes ", " ++ (text_of (shape_of x) ++ []))) ++ text_of_others (shapes_of (drop (i + 1) xs)) ≡ all
+unfolding text_of
+others_next xs i x done all lt is more =
+    let step : drop i xs ≡ x ∷ drop (i + 1) xs = rw (add-one, drop-cons xs i x lt, ← is) refl in
+    let told = rw step at more in
+    simp (append_assoc, append-nil) told
+
+-- at its end the whole row is written
+pub row_end : (all : List Expression) (first : Expression) (others : List Expression) (i : ℕ) (done : List ℕ) → all ≡ first ∷ others → length others ≤ i
+    → done ++ text_of_others (shapes_of (drop i others)) ≡ text_of_others (shapes_of others) → text_of (shape_of first) ++ done ≡ text_of_all (shapes_of all)
+unfolding text_of
+row_end all first others i done whole le more =
+    let told = rw (drop_all i others le) at more in
+    rw whole (ap (λ text. text_of (shape_of first) ++ text) (rw append-nil at told))
+
+-- what is written of interpolations goes on by one
+pub holes_next : (xs : List (Expression × StringLiteral)) (i : ℕ) (x : Expression × StringLiteral) (part done all : List ℕ) → i < length xs → x ≡ get_or xs i x
+    → part ≡ written x.1 → done ++ text_of_holes (holes_of (drop i xs)) ≡ all
+    → (done ++ ([] ++ (text_of (shape_of x.0) ++ part))) ++ text_of_holes (holes_of (drop (i + 1) xs)) ≡ all
+unfolding text_of
+holes_next xs i x part done all lt is same more =
+    let step : drop i xs ≡ x ∷ drop (i + 1) xs = rw (add-one, drop-cons xs i x lt, ← is) refl in
+    let told = rw step at more in
+    rw same (simp append_assoc (simp append_assoc at told))
+
+-- at their end all are written
+pub holes_end : (xs : List (Expression × StringLiteral)) (i : ℕ) (start done all : List ℕ) → length xs ≤ i
+    → done ++ text_of_holes (holes_of (drop i xs)) ≡ all → start ++ done ≡ start ++ all
+unfolding text_of
+holes_end xs i start done all le more =
+    let told = rw (drop_all i xs le) at more in
+    ap (λ text. start ++ text) (rw append-nil at told)

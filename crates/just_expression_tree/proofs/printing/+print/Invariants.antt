@@ -1,0 +1,44 @@
+-- What the loops have written so far, and what falls from call to call.
+use Rattle.std.proofs.Common.{◌≡◌, ℕ, ◌+◌, ◌*◌, max, List, ◌++◌, drop}
+use Rattle.std.specs.Fmt.{HasWritten, IsPlainFormatter}
+use Rattle.just_expression_tree.specs.Printing.{text_of_others, text_of_holes}
+use Rattle.just_expression_tree.specs.Shape.{shapes_of, holes_of}
+use Rattle.just_expression_tree.specs.declared.expression.Expression.{size-Expression}
+use Rattle.just_expression_tree.proofs.printing.+print.Given as goal
+
+abbrev pub invariant-print_all-loop-other : goal.invariant-print_all-loop-other
+invariant-print_all-loop-other g l =
+    IsPlainFormatter l.initial.f → (done : List ℕ) × HasWritten g.W.Write.write_str_gives l.initial.f done l.f
+    × (done ++ text_of_others (shapes_of (drop l.other-index l.others)) ≡ text_of_others (shapes_of l.others))
+
+abbrev pub invariant-print_holes-loop-expression : goal.invariant-print_holes-loop-expression
+invariant-print_holes-loop-expression g l =
+    IsPlainFormatter l.initial.f → (done : List ℕ) × HasWritten g.W.Write.write_str_gives l.initial.f done l.f
+    × (done ++ text_of_holes (holes_of (drop l.expression-index l.holes)) ≡ text_of_holes (holes_of l.holes))
+
+abbrev pub decreases-print : goal.decreases-print
+decreases-print g l = 6 * goal.size-print g l
+
+abbrev pub decreases-print_sides : goal.decreases-print_sides
+decreases-print_sides g l = 6 * max (size-Expression l.lhs.now) (size-Expression l.rhs.now) + 1
+
+abbrev pub decreases-print_call : goal.decreases-print_call
+decreases-print_call g l = 6 * goal.size-print_call g l + 4
+
+abbrev pub decreases-print_between : goal.decreases-print_between
+decreases-print_between g l = 6 * goal.size-print_between g l + 1
+
+abbrev pub decreases-print_message : goal.decreases-print_message
+decreases-print_message g l = 6 * goal.size-print_message g l + 2
+
+abbrev pub decreases-print_otherwise : goal.decreases-print_otherwise
+decreases-print_otherwise g l = 6 * goal.size-print_otherwise g l + 2
+
+abbrev pub decreases-print_row : goal.decreases-print_row
+decreases-print_row g l = 6 * goal.size-print_row g l + 3
+
+abbrev pub decreases-print_all : goal.decreases-print_all
+decreases-print_all g l = 6 * goal.size-print_all g l + 2
+
+abbrev pub decreases-print_holes : goal.decreases-print_holes
+decreases-print_holes g l = 6 * goal.size-print_holes g l + 2
