@@ -9,7 +9,7 @@ use just_strings::StringLiteral;
 use just_text::Token;
 
 /// Arguments of an attribute as they are written.
-#[derive(Debug, Drop)]
+#[derive(Drop)]
 pub enum AttributeArguments<'src> {
     Nothing,
     /// The name of a parameter, and its options.

@@ -100,7 +100,7 @@ impl fmt::Display for AttributeKind {
 }
 
 /// The name of a parameter's option behind two dashes.
-#[derive(Debug, Drop)]
+#[derive(Drop)]
 pub enum LongName<'src> {
     Absent,
     Named(StringLiteral<'src>),
@@ -149,7 +149,7 @@ impl fmt::Display for Assigned<'_, '_> {
 }
 
 /// A parameter's name, and the options that `arg` gives it.
-#[derive(Debug, Drop)]
+#[derive(Drop)]
 pub struct ArgumentOptions<'src> {
     pub flag: bool,
     pub help: Option<StringLiteral<'src>>,
@@ -217,7 +217,7 @@ impl fmt::Display for ArgumentOptions<'_> {
 }
 
 /// An attribute and its arguments.
-#[derive(Debug, Drop)]
+#[derive(Drop)]
 pub enum Attribute<'src> {
     Android,
     Arg(ArgumentOptions<'src>),

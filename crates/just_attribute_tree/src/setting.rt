@@ -10,7 +10,7 @@ use just_text::Name;
 use std::fmt;
 
 /// A command and its arguments; `T` is what stands for a text.
-#[derive(Debug, Drop)]
+#[derive(Drop)]
 pub struct Interpreter<T> {
     pub arguments: Vec<T>,
     pub command: T,
@@ -28,7 +28,7 @@ impl<'src> fmt::Display for Interpreter<Expression<'src>> {
 
 /// A setting and its value: a truth value, an expression, a list of one or more expressions, or a
 /// string.
-#[derive(Debug, Drop)]
+#[derive(Drop)]
 pub enum Setting<'src> {
     AllowDuplicateRecipes(bool),
     AllowDuplicateVariables(bool),
@@ -103,7 +103,7 @@ impl fmt::Display for Setting<'_> {
 }
 
 /// An item that gives a setting its value.
-#[derive(Debug, Drop)]
+#[derive(Drop)]
 pub struct Set<'src> {
     pub attributes: Vec<Attribute<'src>>,
     pub name: Name<'src>,

@@ -14,7 +14,7 @@ use std::alloc::{AllocError, Global};
 use std::cmp::Ordering;
 
 /// An attribute, its name where it is written, and its arguments as they are printed.
-#[derive(Debug, Drop)]
+#[derive(Drop)]
 pub struct AttributeItem<'src> {
     pub attribute: Attribute<'src>,
     pub name: Name<'src>,

@@ -18,7 +18,7 @@ use std::{slice, vec};
 
 /// The attributes of an item in their order: by name, then by printed arguments, then as they were
 /// given.
-#[derive(Debug, Drop)]
+#[derive(Drop)]
 pub struct AttributeSet<'src> {
     items: Vec<AttributeItem<'src>>,
     ghost in_order: { IsSorted item_cmp items.items },

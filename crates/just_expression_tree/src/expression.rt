@@ -8,7 +8,7 @@ use just_text::{Name, Number, Text, Token};
 use std::fmt;
 
 /// An expression as it is written.
-#[derive(Debug, Drop)]
+#[derive(Drop)]
 pub enum Expression<'src> {
     /// `lhs && rhs`
     And {

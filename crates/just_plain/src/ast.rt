@@ -4,13 +4,13 @@ ghost use Rattle.std.specs.Prelude.{◌≡◌};
 use just_text::{Name, Token};
 
 /// A justfile: its recipes in order.
-#[derive(Debug, Drop)]
+#[derive(Drop)]
 pub struct Ast<'src> {
     pub recipes: Vec<Recipe<'src>>,
 }
 
 /// A recipe. The body ends with its last line that isn't blank.
-#[derive(Debug, Drop)]
+#[derive(Drop)]
 pub struct Recipe<'src> {
     pub name: Name<'src>,
     pub dependencies: Vec<Name<'src>>,

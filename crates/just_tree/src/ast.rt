@@ -47,7 +47,7 @@ impl fmt::Display for ItemKind {
 }
 
 /// An item of a file.
-#[derive(Debug, Drop)]
+#[derive(Drop)]
 pub enum Item<'src> {
     Alias(Alias<'src, Namepath<'src>>),
     Assignment(Assignment<'src>),

@@ -11,7 +11,7 @@ use std::fmt;
 use std::marker::Model;
 
 /// Another name of a recipe; `T` is what stands for the recipe.
-#[derive(Debug, Drop)]
+#[derive(Drop)]
 pub struct Alias<'src, T> {
     pub attributes: Vec<Attribute<'src>>,
     pub name: Name<'src>,
@@ -42,7 +42,7 @@ impl<'src> fmt::Display for Alias<'src, Name<'src>> {
 }
 
 /// A name and what it stands for.
-#[derive(Debug, Drop)]
+#[derive(Drop)]
 pub struct Binding<'src, V> {
     pub attributes: Vec<Attribute<'src>>,
     /// Whether it is evaluated even where nothing reads it.
@@ -75,7 +75,7 @@ impl<'src> fmt::Display for Binding<'src, Expression<'src>> {
 }
 
 /// A parameter of a function. Contracts see it as its name and its number.
-#[derive(Debug, Drop)]
+#[derive(Drop)]
 pub struct FunctionParameter<'src> {
     name: Name<'src>,
     number: Number,
@@ -111,7 +111,7 @@ impl<'src> FunctionParameter<'src> {
 }
 
 /// A function that the file defines.
-#[derive(Debug, Drop)]
+#[derive(Drop)]
 pub struct FunctionDefinition<'src> {
     pub body: Expression<'src>,
     pub name: Name<'src>,
@@ -130,7 +130,7 @@ impl fmt::Display for FunctionDefinition<'_> {
 }
 
 /// The file whose items stand here too.
-#[derive(Debug, Drop)]
+#[derive(Drop)]
 pub struct Import<'src> {
     /// `?`: the file may be missing.
     pub optional: bool,
@@ -148,7 +148,7 @@ impl fmt::Display for Import<'_> {
 }
 
 /// A submodule, and its file where one is named.
-#[derive(Debug, Drop)]
+#[derive(Drop)]
 pub struct Module<'src> {
     pub attributes: Vec<Attribute<'src>>,
     pub name: Name<'src>,
@@ -174,7 +174,7 @@ impl fmt::Display for Module<'_> {
 }
 
 /// A name that is not exported.
-#[derive(Debug, Drop)]
+#[derive(Drop)]
 pub struct Unexport<'src> {
     pub name: Name<'src>,
 }

@@ -8,7 +8,7 @@ use just_text::Token;
 use std::fmt;
 
 /// A part of a body line.
-#[derive(Debug, Drop)]
+#[derive(Drop)]
 pub enum Fragment<'src> {
     /// `{{ expression }}`
     Interpolation { expression: Expression<'src> },
@@ -27,7 +27,7 @@ impl fmt::Display for Fragment<'_> {
 }
 
 /// A line of a body, without its indentation; a blank line has no fragments.
-#[derive(Debug, Drop)]
+#[derive(Drop)]
 pub struct Line<'src> {
     pub fragments: Vec<Fragment<'src>>,
 }

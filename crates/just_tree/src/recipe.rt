@@ -44,7 +44,7 @@ impl ParameterKind {
 }
 
 /// A parameter of a recipe, with the options that attributes give it.
-#[derive(Debug, Drop)]
+#[derive(Drop)]
 pub struct Parameter<'src> {
     pub default: Option<Expression<'src>>,
     /// Whether it is exported to the environment.
@@ -84,7 +84,7 @@ impl fmt::Display for Parameter<'_> {
 }
 
 /// An argument of a dependency.
-#[derive(Debug, Drop)]
+#[derive(Drop)]
 pub struct DependencyArgument<'src> {
     pub expression: Expression<'src>,
     /// `*`: the dependency runs once for each element.
@@ -102,7 +102,7 @@ impl fmt::Display for DependencyArgument<'_> {
 }
 
 /// A dependency as it is written.
-#[derive(Debug, Drop)]
+#[derive(Drop)]
 pub struct UnresolvedDependency<'src> {
     pub arguments: Vec<DependencyArgument<'src>>,
     pub recipe: Namepath<'src>,
@@ -122,7 +122,7 @@ impl fmt::Display for UnresolvedDependency<'_> {
 }
 
 /// A recipe; `D` is what stands for a dependency.
-#[derive(Debug, Drop)]
+#[derive(Drop)]
 pub struct Recipe<'src, D> {
     pub attributes: Vec<Attribute<'src>>,
     pub body: Vec<Line<'src>>,

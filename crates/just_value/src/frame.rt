@@ -12,7 +12,7 @@ use std::collections::btree_map::Values;
 use std::marker::Model;
 
 /// Bindings, at most one of each number.
-#[derive(Debug, Drop)]
+#[derive(Drop)]
 pub struct Frame<'src> {
     bindings: BTreeMap<Number, Binding<'src, Value>>,
 }

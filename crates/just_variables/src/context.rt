@@ -9,7 +9,7 @@ use std::alloc::{AllocError, Global};
 use std::collections::BTreeMap;
 
 /// Names, each with the number of what it stands for.
-#[derive(Debug, Drop)]
+#[derive(Drop)]
 pub struct ExpressionContext<'src> {
     numbers: BTreeMap<&'src str, Number>,
 }

@@ -1,7 +1,6 @@
 //! What the lexer makes of small texts.
 
-use just_lexer::Lexer;
-use just_text::{Token, TokenKind};
+use justfile_syntax::{Lexer, Token, TokenKind};
 use std::alloc::AllocError;
 use std::test::Fail;
 

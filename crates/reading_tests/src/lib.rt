@@ -1,5 +1,4 @@
-//! Tests of the lexer and of the parsers of expressions, attributes, recipes, items,
-//! settings and files.
+//! Tests of the lexer and of the parser, by small texts and whole files.
 #![tactic(auto)]
 
 #[cfg(test)]
@@ -15,6 +14,6 @@ mod lexer;
 #[cfg(test)]
 mod recipes;
 #[cfg(test)]
-mod settings;
+mod told;
 #[cfg(test)]
-mod tokens;
+mod trees;
