@@ -26,7 +26,12 @@ fn reads_brackets_and_strings(rt: HostRuntime) -> Result<(), Fail> {
         ("x := []", "x := []\n"),
         ("x := [a, 'b',]", "x := [a, 'b']\n"),
         ("x := ( a )", "x := (a)\n"),
+        ("x := [a, / b]", "x := [a, / b]\n"),
         ("x := if a { b }", "x := if a { b }\n"),
+        (
+            "x := if y == f(a, b) { !v } else if w { z }",
+            "x := if y == f(a, b) { !v } else if w { z }\n",
+        ),
         (
             "x := if a { b } else if c =~ d { e } else { g }",
             "x := if a { b } else if c =~ d { e } else { g }\n",

@@ -10,6 +10,7 @@ fn reads_headers(rt: HostRuntime) -> Result<(), Fail> {
         ("@a b $c +d:", "@a b $c +d:\n"),
         ("a *b: c::d (e) && g", "a *b: c::d e && g\n"),
         ("a: (b 'x' / 'y')\nb v:\n", "a: (b 'x' / 'y')\nb v:\n"),
+        ("a: (b *x) (c 'd' *e)", "a: (b *x) (c 'd' *e)\n"),
         ("a b=('c' + d): (e b)", "a b=('c' + d): (e b)\n"),
     ];
     tell(&rt, rt.alloc(), rows.as_slice())

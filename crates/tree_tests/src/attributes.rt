@@ -8,6 +8,7 @@ use just_strings::{StringDelimiter, StringKind, StringLiteral, StringPrefix};
 use just_text::{Name, Os, Text, TokenKind};
 use just_tree::ItemKind;
 use std::alloc::{AllocError, Global};
+use std::fmt;
 use std::test::Fail;
 
 /// A string in single quotes, and what it stands for.
@@ -60,16 +61,55 @@ fn set(alloc: Global) -> Result<AttributeSet<'static>, AllocError> {
     AttributeSet::from_items(items)
 }
 
+/// The attributes in brackets, in order.
+fn printed(alloc: Global, attributes: &AttributeSet<'_>) -> Result<String, Fail> {
+    let mut text = String::new(alloc);
+    for item in attributes {
+        let attribute = &item.attribute;
+        write!(text, "[{attribute}]")?;
+    }
+    Ok(text)
+}
+
+/// The groups, in order.
+fn groups(alloc: Global, attributes: &AttributeSet<'_>) -> Result<String, AllocError> {
+    let mut text = String::new(alloc);
+    for group in attributes.groups(alloc)? {
+        text.push_str(group)?;
+    }
+    Ok(text)
+}
+
+/// Whether what is there is found, and else nothing.
+fn are_found(attributes: &AttributeSet<'_>) -> bool {
+    attributes.private()
+        && attributes.name(AttributeKind::Linux).is_some()
+        && attributes.get(AttributeKind::Doc).is_none()
+}
+
+/// Whether they enable what they stand at under Linux alone.
+fn enable_under_linux(attributes: &AttributeSet<'_>) -> bool {
+    attributes.is_enabled(Os::Linux) && !attributes.is_enabled(Os::Macos)
+}
+
+/// Whether an item of that kind may carry them.
+fn may_stand_at(alloc: Global, attributes: &AttributeSet<'_>, kind: ItemKind) -> bool {
+    attributes
+        .ensure_valid_attributes(alloc, kind, name("a"))
+        .is_ok()
+}
+
 #[test]
 fn puts_attributes_in_order(rt: HostRuntime) -> Result<(), Fail> {
     let alloc = rt.alloc();
     let attributes = set(alloc)?;
-    let mut text = String::new(alloc);
-    for item in &attributes {
-        let attribute = &item.attribute;
-        write!(text, "[{attribute}]")?;
-    }
-    assert_eq!(rt; text.as_str(), "[group('a')][group('b')][linux][private]");
+    let printed = printed(alloc, &attributes)?;
+    let groups = groups(alloc, &attributes)?;
+    assert_eq!(rt;
+        printed.as_str(),
+        "[group('a')][group('b')][linux][private]"
+    );
+    assert_eq!(rt; groups.as_str(), "ab");
     Ok(())
 }
 
@@ -82,49 +122,13 @@ fn compares_sets(rt: HostRuntime) -> Result<(), Fail> {
 }
 
 #[test]
-fn gives_groups_in_order(rt: HostRuntime) -> Result<(), Fail> {
+fn tells_what_attributes_say(rt: HostRuntime) -> Result<(), Fail> {
     let alloc = rt.alloc();
     let attributes = set(alloc)?;
-    let mut text = String::new(alloc);
-    for group in attributes.groups(alloc)? {
-        text.push_str(group)?;
-    }
-    assert_eq!(rt; text.as_str(), "ab");
-    Ok(())
-}
-
-#[test]
-fn finds_attributes(rt: HostRuntime) -> Result<(), Fail> {
-    let attributes = set(rt.alloc())?;
-    assert!(rt; attributes.private());
-    assert!(rt; attributes.name(AttributeKind::Linux).is_some());
-    assert!(rt; attributes.get(AttributeKind::Doc).is_none());
-    Ok(())
-}
-
-#[test]
-fn is_enabled_under_its_system(rt: HostRuntime) -> Result<(), Fail> {
-    let attributes = set(rt.alloc())?;
-    assert!(rt; attributes.is_enabled(Os::Linux));
-    assert!(rt; !attributes.is_enabled(Os::Macos));
-    Ok(())
-}
-
-#[test]
-fn refuses_attributes_of_other_items(rt: HostRuntime) -> Result<(), Fail> {
-    let alloc = rt.alloc();
-    let attributes = set(alloc)?;
-    let refused = attributes.ensure_valid_attributes(alloc, ItemKind::Alias, name("a"));
-    assert!(rt; refused.is_err());
-    Ok(())
-}
-
-#[test]
-fn accepts_attributes_of_recipes(rt: HostRuntime) -> Result<(), Fail> {
-    let alloc = rt.alloc();
-    let attributes = set(alloc)?;
-    let accepted = attributes.ensure_valid_attributes(alloc, ItemKind::Recipe, name("a"));
-    assert!(rt; accepted.is_ok());
+    assert!(rt; are_found(&attributes));
+    assert!(rt; enable_under_linux(&attributes));
+    assert!(rt; may_stand_at(alloc, &attributes, ItemKind::Recipe));
+    assert!(rt; !may_stand_at(alloc, &attributes, ItemKind::Alias));
     Ok(())
 }
 
@@ -136,6 +140,11 @@ fn knows_names(rt: HostRuntime) -> Result<(), Fail> {
     Ok(())
 }
 
+/// A value as it is printed.
+fn text_of<T: fmt::Display + Drop>(alloc: Global, value: T) -> Result<String, AllocError> {
+    value.to_string(alloc)
+}
+
 /// The attribute with that name and these arguments as it is printed, or its refusal.
 fn made<'src>(
     alloc: Global,
@@ -143,8 +152,8 @@ fn made<'src>(
     arguments: AttributeArguments<'src>,
 ) -> Result<String, AllocError> {
     match Attribute::new(alloc, name(text), arguments) {
-        Ok(attribute) => attribute.to_string(alloc),
-        Err(error) => error.kind.to_string(alloc),
+        Ok(attribute) => text_of(alloc, attribute),
+        Err(error) => text_of(alloc, error.kind),
     }
 }
 

@@ -15,72 +15,66 @@ fn told(alloc: Global, answer: Result<String, ValueFault<'static>>) -> Result<St
     }
 }
 
+/// The name, the stem, the extension, the parent or all but the extension of a path.
+fn part(alloc: Global, which: &str, path: &str) -> Result<String, AllocError> {
+    match which {
+        "name" => told(alloc, file_name(alloc, path)),
+        "stem" => told(alloc, file_stem(alloc, path)),
+        "extension" => told(alloc, extension(alloc, path)),
+        "parent" => told(alloc, parent_directory(alloc, path)),
+        _ => told(alloc, without_extension(alloc, path)),
+    }
+}
+
 #[test]
 fn names_are_told(rt: HostRuntime) -> Result<(), Fail> {
-    let alloc = rt.alloc();
-    assert_eq!(rt;
-        told(alloc, file_name(alloc, "a/b.tar.gz"))?.as_str(),
-        "b.tar.gz"
-    );
-    assert_eq!(rt;
-        told(alloc, file_stem(alloc, "a/b.tar.gz"))?.as_str(),
-        "b.tar"
-    );
-    assert_eq!(rt; told(alloc, extension(alloc, "a/b.tar.gz"))?.as_str(), "gz");
-    assert_eq!(rt; told(alloc, file_name(alloc, "a/."))?.as_str(), "a");
-    assert_eq!(rt;
-        told(alloc, file_name(alloc, "a/.."))?.as_str(),
-        "could not extract file name from `a/..`"
-    );
-    assert_eq!(rt; told(alloc, extension(alloc, "a."))?.as_str(), "");
-    assert_eq!(rt;
-        told(alloc, extension(alloc, ".bashrc"))?.as_str(),
-        "could not extract extension from `.bashrc`"
-    );
-    assert_eq!(rt; told(alloc, file_stem(alloc, "..."))?.as_str(), "..");
-    assert_eq!(rt; told(alloc, extension(alloc, "..."))?.as_str(), "");
-    assert_eq!(rt;
-        told(alloc, file_stem(alloc, "/"))?.as_str(),
-        "could not extract file stem from `/`"
-    );
+    for (which, path, want) in [
+        ("name", "a/b.tar.gz", "b.tar.gz"),
+        ("stem", "a/b.tar.gz", "b.tar"),
+        ("extension", "a/b.tar.gz", "gz"),
+        ("name", "a/.", "a"),
+        ("name", "a/..", "could not extract file name from `a/..`"),
+        ("extension", "a.", ""),
+        (
+            "extension",
+            ".bashrc",
+            "could not extract extension from `.bashrc`",
+        ),
+        ("stem", "...", ".."),
+        ("extension", "...", ""),
+        ("stem", "/", "could not extract file stem from `/`"),
+    ] {
+        assert_eq!(rt; part(rt.alloc(), which, path)?.as_str(), want);
+    }
     Ok(())
 }
 
 #[test]
 fn parents_are_told(rt: HostRuntime) -> Result<(), Fail> {
-    let alloc = rt.alloc();
-    assert_eq!(rt; told(alloc, parent_directory(alloc, "a"))?.as_str(), ".");
-    assert_eq!(rt; told(alloc, parent_directory(alloc, "a//b"))?.as_str(), "a");
-    assert_eq!(rt; told(alloc, parent_directory(alloc, "//a"))?.as_str(), "/");
-    assert_eq!(rt;
-        told(alloc, parent_directory(alloc, "/"))?.as_str(),
-        "could not extract parent directory from `/`"
-    );
-    assert_eq!(rt;
-        told(alloc, parent_directory(alloc, ""))?.as_str(),
-        "could not extract parent directory from ``"
-    );
+    for (which, path, want) in [
+        ("parent", "a", "."),
+        ("parent", "a//b", "a"),
+        ("parent", "//a", "/"),
+        ("parent", "/", "could not extract parent directory from `/`"),
+        ("parent", "", "could not extract parent directory from ``"),
+        ("rest", "a/b.c", "a/b"),
+        ("rest", "/", "could not extract parent from `/`"),
+        ("rest", "a/..", "could not extract file stem from `a/..`"),
+    ] {
+        assert_eq!(rt; part(rt.alloc(), which, path)?.as_str(), want);
+    }
     Ok(())
 }
 
 #[test]
 fn paths_are_joined(rt: HostRuntime) -> Result<(), Fail> {
-    let alloc = rt.alloc();
-    assert_eq!(rt; join(alloc, "a", "/b")?.as_str(), "/b");
-    assert_eq!(rt; join(alloc, "a/", "b")?.as_str(), "a/b");
-    assert_eq!(rt; join(alloc, "", "b")?.as_str(), "b");
-    assert_eq!(rt; join(alloc, "a", "")?.as_str(), "a/");
-    assert_eq!(rt;
-        told(alloc, without_extension(alloc, "a/b.c"))?.as_str(),
-        "a/b"
-    );
-    assert_eq!(rt;
-        told(alloc, without_extension(alloc, "/"))?.as_str(),
-        "could not extract parent from `/`"
-    );
-    assert_eq!(rt;
-        told(alloc, without_extension(alloc, "a/.."))?.as_str(),
-        "could not extract file stem from `a/..`"
-    );
+    for (left, right, want) in [
+        ("a", "/b", "/b"),
+        ("a/", "b", "a/b"),
+        ("", "b", "b"),
+        ("a", "", "a/"),
+    ] {
+        assert_eq!(rt; join(rt.alloc(), left, right)?.as_str(), want);
+    }
     Ok(())
 }

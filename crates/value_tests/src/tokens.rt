@@ -1,6 +1,7 @@
 //! Tokens of whole texts.
 
 use just_text::{Token, TokenKind};
+use std::alloc::{AllocError, Global};
 
 /// The token of a whole text.
 pub(crate) fn token(src: &str, kind: TokenKind) -> Token<'_> {
@@ -13,4 +14,14 @@ pub(crate) fn token(src: &str, kind: TokenKind) -> Token<'_> {
         path: "justfile",
         src,
     }
+}
+
+/// Texts that each end with a semicolon.
+pub(crate) fn texts(alloc: Global, listed: &str) -> Result<Vec<String>, AllocError> {
+    let mut texts = Vec::new(alloc);
+    for text in listed.split(';') {
+        texts.push(String::from_str(alloc, text)?)?;
+    }
+    let _behind = texts.pop();
+    Ok(texts)
 }

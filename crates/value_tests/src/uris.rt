@@ -5,14 +5,11 @@ use std::test::Fail;
 
 #[test]
 fn texts_are_escaped(rt: HostRuntime) -> Result<(), Fail> {
-    let alloc = rt.alloc();
-    assert_eq!(rt;
-        encode_uri_component(alloc, "a b/é")?.as_str(),
-        "a%20b%2F%C3%A9"
-    );
-    assert_eq!(rt;
-        encode_uri_component(alloc, "Az09-_.!~*'()%+")?.as_str(),
-        "Az09-_.!~*'()%25%2B"
-    );
+    for (text, want) in [
+        ("a b/é", "a%20b%2F%C3%A9"),
+        ("Az09-_.!~*'()%+", "Az09-_.!~*'()%25%2B"),
+    ] {
+        assert_eq!(rt; encode_uri_component(rt.alloc(), text)?.as_str(), want);
+    }
     Ok(())
 }

@@ -1,26 +1,22 @@
 //! Values by the texts that they give.
 
-use crate::tokens::token;
+use crate::tokens::{texts, token};
 use just_expression_tree::ListOperator;
 use just_text::TokenKind;
 use just_value::Value;
 use std::alloc::{AllocError, Global};
 use std::test::Fail;
 
-fn value(alloc: Global, texts: &[&str]) -> Result<Value, AllocError> {
-    let mut elements = Vec::new(alloc);
-    for text in texts {
-        elements.push(String::from_str(alloc, text)?)?;
-    }
-    Ok(Value::from(elements))
+fn value(alloc: Global, listed: &str) -> Result<Value, AllocError> {
+    Ok(Value::from(texts(alloc, listed)?))
 }
 
 /// What the operator gives of the two lists, as it is printed; a refusal by its text.
 fn applied(
     alloc: Global,
-    left: &[&str],
+    left: &str,
     operator: ListOperator,
-    right: &[&str],
+    right: &str,
 ) -> Result<String, AllocError> {
     let left = value(alloc, left)?;
     let right = value(alloc, right)?;
@@ -32,14 +28,15 @@ fn applied(
 
 #[test]
 fn elements_are_joined(rt: HostRuntime) -> Result<(), Fail> {
-    let alloc = rt.alloc();
-    assert_eq!(rt; value(alloc, &[])?.join(alloc)?.as_str(), "");
-    assert_eq!(rt; value(alloc, &[""])?.join(alloc)?.as_str(), "");
-    assert_eq!(rt;
-        value(alloc, &["foo bar", "baz"])?.join(alloc)?.as_str(),
-        "foo bar baz"
-    );
-    assert_eq!(rt; value(alloc, &["", ""])?.join(alloc)?.as_str(), " ");
+    for (listed, want) in [
+        ("", ""),
+        (";", ""),
+        ("foo bar;baz;", "foo bar baz"),
+        (";;", " "),
+    ] {
+        let joined = value(rt.alloc(), listed)?.join(rt.alloc())?;
+        assert_eq!(rt; joined.as_str(), want);
+    }
     Ok(())
 }
 
@@ -48,70 +45,60 @@ fn a_value_with_an_element_is_truthy(rt: HostRuntime) -> Result<(), Fail> {
     let alloc = rt.alloc();
     assert!(rt; !Value::new(alloc).is_truthy());
     assert!(rt; Value::from_text(alloc, "")?.is_truthy());
-    assert!(rt; Value::from_bool(alloc, true)? == value(alloc, &["true"])?);
+    assert!(rt; Value::from_bool(alloc, true)? == value(alloc, "true;")?);
     assert!(rt; Value::from_bool(alloc, false)?.is_empty());
     Ok(())
 }
 
 #[test]
 fn values_are_printed(rt: HostRuntime) -> Result<(), Fail> {
-    let alloc = rt.alloc();
-    let none = value(alloc, &[])?;
-    let one = value(alloc, &["foo"])?;
-    let two = value(alloc, &["foo", "bar"])?;
-    let escaped = value(alloc, &["\\", "\n", "\t\r\"é"])?;
-    assert_eq!(rt; format!(in alloc; "{none}")?.as_str(), "[]");
-    assert_eq!(rt; format!(in alloc; "{one}")?.as_str(), "\"foo\"");
-    assert_eq!(rt; format!(in alloc; "{two}")?.as_str(), "[\"foo\", \"bar\"]");
-    assert_eq!(rt;
-        format!(in alloc; "{escaped}")?.as_str(),
-        "[\"\\\\\", \"\\n\", \"\\t\\r\\\"é\"]"
-    );
+    for (listed, want) in [
+        ("", "[]"),
+        ("foo;", "\"foo\""),
+        ("foo;bar;", "[\"foo\", \"bar\"]"),
+        ("\\;\n;\t\r\"é;", "[\"\\\\\", \"\\n\", \"\\t\\r\\\"é\"]"),
+    ] {
+        let printed = value(rt.alloc(), listed)?.to_string(rt.alloc())?;
+        assert_eq!(rt; printed.as_str(), want);
+    }
     Ok(())
 }
 
 #[test]
 fn operators_go_pairwise(rt: HostRuntime) -> Result<(), Fail> {
-    let alloc = rt.alloc();
-    let concatenate = ListOperator::Concatenate;
-    let join = ListOperator::Join;
-    assert_eq!(rt;
-        applied(alloc, &["a", "b"], concatenate, &["c", "d"])?.as_str(),
-        "[\"ac\", \"bd\"]"
-    );
-    assert_eq!(rt;
-        applied(alloc, &["a", "b"], join, &["c", "d"])?.as_str(),
-        "[\"a/c\", \"b/d\"]"
-    );
-    assert_eq!(rt;
-        applied(alloc, &["a", "b"], join, &["c"])?.as_str(),
-        "[\"a/c\", \"b/c\"]"
-    );
-    assert_eq!(rt;
-        applied(alloc, &["a"], concatenate, &["b", "c"])?.as_str(),
-        "[\"ab\", \"ac\"]"
-    );
-    assert_eq!(rt; applied(alloc, &[], join, &[])?.as_str(), "[]");
-    assert_eq!(rt;
-        applied(alloc, &["a"], concatenate, &[])?.as_str(),
-        "operator `+` cannot be applied to empty lists"
-    );
-    assert_eq!(rt;
-        applied(alloc, &["a", "b"], join, &["c", "d", "e"])?.as_str(),
-        "operator `/` cannot be applied to lists of different lengths: [\"a\", \"b\"] / [\"c\", \"d\", \"e\"]"
-    );
+    for (left, right, want) in [
+        ("a;b;", "c;d;", "[\"ac\", \"bd\"]"),
+        ("a;", "b;c;", "[\"ab\", \"ac\"]"),
+        ("a;", "", "operator `+` cannot be applied to empty lists"),
+    ] {
+        let told = applied(rt.alloc(), left, ListOperator::Concatenate, right)?;
+        assert_eq!(rt; told.as_str(), want);
+    }
+    for (left, right, want) in [
+        ("a;b;", "c;d;", "[\"a/c\", \"b/d\"]"),
+        ("a;b;", "c;", "[\"a/c\", \"b/c\"]"),
+        ("", "", "[]"),
+        (
+            "a;b;",
+            "c;d;e;",
+            "operator `/` cannot be applied to lists of different lengths: [\"a\", \"b\"] / [\"c\", \"d\", \"e\"]",
+        ),
+    ] {
+        let told = applied(rt.alloc(), left, ListOperator::Join, right)?;
+        assert_eq!(rt; told.as_str(), want);
+    }
     Ok(())
 }
 
 #[test]
 fn elements_are_kept_in_order(rt: HostRuntime) -> Result<(), Fail> {
     let alloc = rt.alloc();
-    let mut letters = value(alloc, &["a"])?;
+    let mut letters = value(alloc, "a;")?;
     letters.push(String::from_str(alloc, "b")?)?;
     let copy = letters.clone()?;
     assert!(rt; copy == letters);
     assert_eq!(rt; letters.len(), 2);
-    assert!(rt; value(alloc, &["a"])? < letters);
+    assert!(rt; value(alloc, "a;")? < letters);
     let mut copies = Vec::new(alloc);
     for text in &letters {
         copies.push(text.clone()?)?;

@@ -1,107 +1,64 @@
 //! Words by what they are for.
 
-use just_text::{Sequence, Text};
-use just_value::{Override, Positional};
-use std::alloc::{AllocError, Global};
+use crate::tokens::texts;
+use just_value::Positional;
+use std::alloc::Global;
 use std::test::Fail;
 
-fn texts(alloc: Global, texts: &[&str]) -> Result<Sequence<Text>, AllocError> {
-    let mut copies = Vec::new(alloc);
-    for text in texts {
-        copies.push(Text::from_text(alloc, text)?)?;
+/// Overrides in brackets, the search directory in angles, arguments in parentheses.
+fn told(alloc: Global, words: &str) -> Result<String, Fail> {
+    let words = texts(alloc, words)?;
+    let positional = Positional::from_values(alloc, words.as_slice())?;
+    let mut text = String::new(alloc);
+    for pair in positional.overrides.as_slice() {
+        let name = &pair.name;
+        let value = &pair.value;
+        write!(text, "[{name}={value}]")?;
     }
-    Ok(Sequence::from_vec(copies))
-}
-
-fn overrides(alloc: Global, pairs: &[(&str, &str)]) -> Result<Sequence<Override>, AllocError> {
-    let mut copies = Vec::new(alloc);
-    for (name, value) in pairs {
-        copies.push(Override {
-            name: Text::from_text(alloc, name)?,
-            value: Text::from_text(alloc, value)?,
-        })?;
+    if let Some(directory) = &positional.search_directory {
+        write!(text, "<{directory}>")?;
     }
-    Ok(Sequence::from_vec(copies))
-}
-
-fn split_words(alloc: Global, words: &[&str]) -> Result<Positional, AllocError> {
-    let mut values = Vec::new(alloc);
-    for word in words {
-        values.push(String::from_str(alloc, word)?)?;
+    for argument in positional.arguments.as_slice() {
+        write!(text, "({argument})")?;
     }
-    Positional::from_values(alloc, values.as_slice())
-}
-
-/// Whether the words are split so.
-fn are_split(
-    alloc: Global,
-    words: &[&str],
-    pairs: &[(&str, &str)],
-    directory: Option<&str>,
-    arguments: &[&str],
-) -> Result<bool, AllocError> {
-    let expected = Positional {
-        arguments: texts(alloc, arguments)?,
-        overrides: overrides(alloc, pairs)?,
-        search_directory: match directory {
-            None => None,
-            Some(directory) => Some(Text::from_text(alloc, directory)?),
-        },
-    };
-    Ok(split_words(alloc, words)? == expected)
+    Ok(text)
 }
 
 #[test]
 fn overrides_come_first(rt: HostRuntime) -> Result<(), Fail> {
-    let alloc = rt.alloc();
-    let pairs = [("foo", "bar"), ("bar", "foo")];
-    assert!(rt;
-        are_split(
-            alloc,
-            &["foo=bar", "bar=foo", ".", "garnor"],
-            &pairs,
-            Some("."),
-            &["garnor"]
-        )?
-    );
-    assert!(rt;
-        are_split(
-            alloc,
-            &["foo=bar", "/", "garnor"],
-            &[("foo", "bar")],
-            Some("/"),
-            &["garnor"]
-        )?
-    );
-    assert!(rt; are_split(alloc, &["=x"], &[("", "x")], None, &[])?);
-    assert!(rt; are_split(alloc, &["a/b=c"], &[("a/b", "c")], None, &[])?);
-    assert!(rt; are_split(alloc, &["a=b=c"], &[("a", "b=c")], None, &[])?);
+    for (words, want) in [
+        ("foo=bar;bar=foo;.;garnor;", "[foo=bar][bar=foo]<.>(garnor)"),
+        ("foo=bar;/;garnor;", "[foo=bar]</>(garnor)"),
+        ("=x;", "[=x]"),
+        ("a/b=c;", "[a/b=c]"),
+        ("a=b=c;", "[a=b=c]"),
+    ] {
+        assert_eq!(rt; told(rt.alloc(), words)?.as_str(), want);
+    }
     Ok(())
 }
 
 #[test]
 fn a_search_directory_is_told(rt: HostRuntime) -> Result<(), Fail> {
-    let alloc = rt.alloc();
-    assert!(rt; are_split(alloc, &["the-dir/", "baz"], &[], Some("the-dir/"), &["baz"])?);
-    assert!(rt; are_split(alloc, &["..", "a=b"], &[], Some(".."), &["a=b"])?);
-    assert!(rt; are_split(alloc, &["x/y"], &[], Some("x/"), &["y"])?);
-    assert!(rt; are_split(alloc, &["x/y/z", "."], &[], Some("x/y/"), &["z", "."])?);
+    for (words, want) in [
+        ("the-dir/;baz;", "<the-dir/>(baz)"),
+        ("..;a=b;", "<..>(a=b)"),
+        ("x/y;", "<x/>(y)"),
+        ("x/y/z;.;", "<x/y/>(z)(.)"),
+    ] {
+        assert_eq!(rt; told(rt.alloc(), words)?.as_str(), want);
+    }
     Ok(())
 }
 
 #[test]
 fn all_words_behind_an_argument_are_arguments(rt: HostRuntime) -> Result<(), Fail> {
-    let alloc = rt.alloc();
-    assert!(rt;
-        are_split(
-            alloc,
-            &["baz", "foo=bar", "bar/"],
-            &[],
-            None,
-            &["baz", "foo=bar", "bar/"]
-        )?
-    );
-    assert!(rt; are_split(alloc, &["", "a=b"], &[], None, &["", "a=b"])?);
-    assert!(rt; are_split(alloc, &[], &[], None, &[])?);
+    for (words, want) in [
+        ("baz;foo=bar;bar/;", "(baz)(foo=bar)(bar/)"),
+        (";a=b;", "()(a=b)"),
+        ("", ""),
+    ] {
+        assert_eq!(rt; told(rt.alloc(), words)?.as_str(), want);
+    }
     Ok(())
 }
