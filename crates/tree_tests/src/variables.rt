@@ -65,23 +65,6 @@ fn finds_a_parameter(rt: HostRuntime) -> Result<(), Fail> {
     Ok(())
 }
 
-#[test]
-fn resolves_by_the_context_and_then_by_the_bindings(rt: HostRuntime) -> Result<(), Fail> {
-    let alloc = rt.alloc();
-    let [a, b, c] = numbers();
-    let context = ExpressionContext::from_names(alloc, &[(name("x"), a)])?;
-    let bindings = ExpressionContext::from_names(alloc, &[(name("x"), b), (name("y"), c)])?;
-    let mut x = variable("x");
-    resolve_variables(&mut x, &context, &bindings);
-    assert_eq!(rt; number_of(&x), Some(a));
-    let mut y = variable("y");
-    resolve_variables(&mut y, &context, &bindings);
-    assert_eq!(rt; number_of(&y), Some(c));
-    resolve_variables(&mut y, &context, &ExpressionContext::new(alloc));
-    assert_eq!(rt; number_of(&y), None);
-    Ok(())
-}
-
 /// `f(x)`
 fn call(alloc: Global) -> Result<Expression<'static>, AllocError> {
     let mut arguments = Vec::new(alloc);

@@ -79,28 +79,6 @@ fn the_root_binds_the_constants(rt: HostRuntime) -> Result<(), Fail> {
 }
 
 #[test]
-fn the_innermost_binding_is_found(rt: HostRuntime) -> Result<(), Fail> {
-    let alloc = rt.alloc();
-    let [first, second, third] = numbers()?;
-    let root = Scope::root(alloc)?;
-    let mut outer = root.child(alloc)?;
-    outer.bind(binding(alloc, first, "outer")?)?;
-    outer.bind(binding(alloc, second, "kept")?)?;
-    let mut inner = outer.child(alloc)?;
-    inner.bind(binding(alloc, first, "inner")?)?;
-    assert_eq!(rt; text_of(alloc, &inner, first)?.as_str(), "inner");
-    assert_eq!(rt; text_of(alloc, &inner, second)?.as_str(), "kept");
-    assert_eq!(rt; text_of(alloc, &inner, third)?.as_str(), "-");
-    assert_eq!(rt; text_of(alloc, &outer, first)?.as_str(), "outer");
-    assert_eq!(rt;
-        text_of(alloc, &inner, Numerator::new(CONSTANT_COUNT).constant(3))?.as_str(),
-        "/"
-    );
-    assert_eq!(rt; inner.outer().len(), 2);
-    Ok(())
-}
-
-#[test]
 fn bindings_come_by_number(rt: HostRuntime) -> Result<(), Fail> {
     let alloc = rt.alloc();
     let [first, second, third] = numbers()?;
