@@ -2,6 +2,7 @@
 
 use crate::told::{tell, told};
 use justfile_syntax::Numerator;
+use std::alloc::{AllocError, Global};
 use std::test::Fail;
 
 #[test]
@@ -61,25 +62,25 @@ fn refuses(rt: HostRuntime) -> Result<(), Fail> {
     tell(&rt, rt.alloc(), rows.as_slice())
 }
 
-#[test]
-fn reads_256_levels(rt: HostRuntime) -> Result<(), Fail> {
-    let mut src = String::new(rt.alloc());
+/// An assignment of a variable behind so many exclamation marks.
+fn negated(alloc: Global, times: usize) -> Result<String, AllocError> {
+    let mut src = String::new(alloc);
     src.push_str("x := ")?;
-    for _ in 0..255 {
+    for _ in 0..times {
         src.push_str("!")?;
     }
-    let mut numerator = Numerator::new(29);
-    let refused = told(
-        rt.alloc(),
-        &mut numerator,
-        format!(in rt.alloc(); "{src}!a")?.as_str(),
-    )?;
-    assert_eq!(rt; refused.as_str(), "parsing recursion depth exceeded");
-    let taken = told(
-        rt.alloc(),
-        &mut numerator,
-        format!(in rt.alloc(); "{src}a")?.as_str(),
-    )?;
-    assert!(rt; taken.ends_with("!!a\n"));
+    src.push_str("a")?;
+    Ok(src)
+}
+
+#[test]
+fn reads_256_levels(rt: HostRuntime) -> Result<(), Fail> {
+    for (times, want) in [(255usize, true), (256, false)] {
+        let src = negated(rt.alloc(), times)?;
+        let mut numerator = Numerator::new(29);
+        let told = told(rt.alloc(), &mut numerator, src.as_str())?;
+        assert!(rt; told.ends_with("!!a\n") == want);
+        assert!(rt; told.starts_with("parsing recursion depth exceeded") != want);
+    }
     Ok(())
 }

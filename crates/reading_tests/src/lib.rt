@@ -15,5 +15,3 @@ mod lexer;
 mod recipes;
 #[cfg(test)]
 mod told;
-#[cfg(test)]
-mod trees;
