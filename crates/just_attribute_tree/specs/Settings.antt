@@ -1,10 +1,8 @@
 -- Settings: what they say, and how they are printed.
 use Rattle.std.specs.Prelude.{ℕ, Bool, true, false, List, ◌++◌, map, codes}
 use Rattle.std.specs.List.{flat_map}
-use Rattle.just_text.specs.Tokens.{lexeme}
 use Rattle.just_expression_tree.specs.declared.expression.Expression.{Expression}
 use Rattle.just_attribute_tree.specs.declared.setting.Interpreter.{Interpreter}
-use Rattle.just_attribute_tree.specs.declared.setting.Set.{Set}
 use Rattle.just_attribute_tree.specs.declared.setting.Setting.{Setting}
 use Rattle.just_attribute_tree.specs.declared.setting.Setting.TheVariants.{AllowDuplicateRecipes, AllowDuplicateVariables, DefaultList, DefaultScript, DotenvCommand, DotenvFilename, DotenvLoad, DotenvOverride, DotenvPath, DotenvRequired, Export, Fallback, Guards, IgnoreComments, Indentation, Lazy, Lists, MinimumVersion, NoCd, NoExitMessage, PositionalArguments, Quiet, ScriptInterpreter, Shell, Tempdir, Unstable, WindowsPowershell, WindowsShell, WorkingDirectory}
 use Rattle.just_expression_tree.specs.Shape.{Shape, shape_of, written}
@@ -81,9 +79,6 @@ value_text (string s) = s
 pub record SetShape : Type 0 where
   pub name : List ℕ
   pub value : ValueShape
-
-abbrev pub set_shape : Set → SetShape
-set_shape s = record { name = lexeme s.name.token; value = value_shape s.value }
 
 abbrev pub set_text : SetShape → List ℕ
 set_text s = codes "set " ++ s.name ++ codes " := " ++ value_text s.value

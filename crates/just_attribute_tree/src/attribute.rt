@@ -256,6 +256,7 @@ pub enum Attribute<'src> {
 }
 
 impl Attribute<'_> {
+    /// Which attribute it is, whatever its arguments.
     pub fn kind(&self) -> AttributeKind
         ensures { result ≡ spec.kind_of (spec.attribute_shape self.now) }
     {

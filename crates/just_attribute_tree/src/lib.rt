@@ -14,5 +14,5 @@ pub use arguments::AttributeArguments;
 pub use attribute::{ArgumentOptions, Attribute, AttributeKind, LongName};
 pub use kinds::kind_from_name;
 pub use make::{with_expressions, with_strings, without_arguments};
-pub use rows::{Attributes, Elements, Strings};
-pub use setting::{Interpreter, Set, Setting};
+pub use rows::{Elements, Strings};
+pub use setting::{Interpreter, Setting};

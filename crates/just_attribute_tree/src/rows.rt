@@ -1,7 +1,6 @@
 //! Lists as they are printed.
 ghost use Rattle.std.specs.Prelude.{Some};
 
-use crate::attribute::Attribute;
 use just_expression_tree::Expression;
 use just_strings::StringLiteral;
 use std::fmt;
@@ -40,24 +39,6 @@ impl fmt::Display for Strings<'_, '_> {
         for string in self.0 {
             let text = string.token.lexeme();
             write!(f, ", {text}")?;
-        }
-        Ok(())
-    }
-}
-
-/// Attributes, one a line.
-#[derive(Clone, Copy)]
-pub struct Attributes<'a, 'src>(pub &'a [Attribute<'src>]);
-
-impl fmt::Display for Attributes<'_, '_> {
-    ghost use Rattle.just_attribute_tree.specs.Attributes.{attributes_text, attribute_shapes};
-
-    ghost output = { λ row. Some (attributes_text (attribute_shapes row.0.now)) };
-
-    #[tactic(auto, using(crate::proofs::TextsInRow::texts_next))]
-    fn fmt<W: fmt::Write>(&self, f: &mut fmt::Formatter<W>) -> fmt::Result {
-        for attribute in self.0 {
-            write!(f, "[{attribute}]\n")?;
         }
         Ok(())
     }

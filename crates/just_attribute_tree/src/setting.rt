@@ -2,11 +2,9 @@
 ghost use Rattle.std.specs.Prelude.{Some};
 ghost use Rattle.just_attribute_tree.specs.Settings as spec;
 
-use crate::attribute::Attribute;
 use crate::rows::Elements;
 use just_expression_tree::Expression;
 use just_strings::StringLiteral;
-use just_text::Name;
 use std::fmt;
 
 /// A command and its arguments; `T` is what stands for a text.
@@ -99,23 +97,5 @@ impl fmt::Display for Setting<'_> {
             Setting::WindowsShell(value) => write!(f, "{value}"),
             Setting::WorkingDirectory(value) => write!(f, "{value}"),
         }
-    }
-}
-
-/// An item that gives a setting its value.
-#[derive(Drop)]
-pub struct Set<'src> {
-    pub attributes: Vec<Attribute<'src>>,
-    pub name: Name<'src>,
-    pub value: Setting<'src>,
-}
-
-impl fmt::Display for Set<'_> {
-    ghost output = { λ item. Some (spec.set_text (spec.set_shape item)) };
-
-    fn fmt<W: fmt::Write>(&self, f: &mut fmt::Formatter<W>) -> fmt::Result {
-        let name = self.name;
-        let value = &self.value;
-        write!(f, "set {name} := {value}")
     }
 }

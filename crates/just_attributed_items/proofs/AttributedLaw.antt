@@ -2,8 +2,9 @@
 use Rattle.std.proofs.Common.{◌≡◌, ℕ, true, List, map, Result, Ok, Err, Option, Some, None, refl, sym, ap, subst, ◌∙◌, inl, inr}
 use Rattle.just_text.specs.Tokens.{Word}
 use Rattle.just_text.specs.declared.compile_error.CompileErrorKind.{CompileErrorKind}
-use Rattle.just_tree.specs.declared.ast.ItemKind.{ItemKind}
+use Rattle.just_attributes.specs.declared.item_kind.ItemKind.{ItemKind}
 use Rattle.just_attribute_tree.specs.Attributes.{AttributeShape}
+use Rattle.just_attributes.specs.Order.{in_order}
 use Rattle.just_tree.specs.Files.{ItemShape}
 use Rattle.just_expressions.specs.Literals.{Expansion}
 use Rattle.just_expressions.specs.Reading.{Stop}
@@ -52,7 +53,7 @@ module _ {T : Type 0} (word : T → Word) (expansion : Expansion) (current : Ver
       ]
 
   joined_found : (ts : List T) (a : List (Option AttributeShape) × List T) (i : (ItemShape × ℕ) × List T) → attributes_at word expansion ts ≡ Ok a → bare_behind word expansion current a.0 (kind_at word a.1) a.1 ≡ Ok i
-      → fault_in expansion a.0 i.0.0 ≡ None → IsAttributed expansion current (with_attributes (known a.0) i.0.0) i.0.1 (map word ts) (map word i.1)
+      → fault_in expansion a.0 i.0.0 ≡ None → IsAttributed expansion current (with_attributes (in_order (known a.0)) i.0.0) i.0.1 (map word ts) (map word i.1)
   joined_found ts a i h g sound =
       let f = free expansion a.0 i.0.0 sound in
       let b = behind_found a.0 (kind_at word a.1) a.1 i g in

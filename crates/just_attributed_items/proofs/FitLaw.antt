@@ -2,10 +2,10 @@
 use Rattle.std.proofs.Common.{◌≡◌, true, List, [], ◌∷◌, map, Option, Some, None, refl, ap, inl, inr}
 use Rattle.std.specs.List.{list_all}
 use Rattle.std.specs.Option.{option_map}
-use Rattle.just_tree.specs.declared.ast.ItemKind.{ItemKind}
+use Rattle.just_attributes.specs.declared.item_kind.ItemKind.{ItemKind}
 use Rattle.just_attribute_tree.specs.Attributes.{AttributeShape}
 use Rattle.just_tree.specs.Files.{ItemShape, kind_of as item_kind_of}
-use Rattle.just_attributes.specs.Files.{or_next}
+use Rattle.just_tree.specs.FileIndentation.{or_next}
 use Rattle.just_expressions.specs.Literals.{Expansion}
 use Rattle.just_expressions.proofs.Taken.{test}
 use Rattle.just_attributed_items.specs.Fitting.{Fit, may_stand, misfit, repeated, invalid, duplicate, name_of, fault_before, fault_in, is_one, known}

@@ -7,10 +7,10 @@ use Rattle.just_text.specs.Tokens.{word_of}
 use Rattle.just_text.specs.declared.compile_error.CompileErrorKind.{CompileErrorKind}
 use Rattle.just_text.specs.declared.compile_error.CompileErrorKind.TheVariants as kinds
 use Rattle.just_text.specs.declared.token.Token.{Token}
-use Rattle.just_tree.specs.declared.ast.ItemKind.{ItemKind}
+use Rattle.just_attributes.specs.declared.item_kind.ItemKind.{ItemKind}
 use Rattle.just_attribute_tree.specs.Attributes.{AttributeShape}
 use Rattle.just_tree.specs.Files.{ItemShape, item_shape, kind_of}
-use Rattle.just_attributes.specs.Files.{or_next}
+use Rattle.just_tree.specs.FileIndentation.{or_next}
 use Rattle.just_expressions.specs.declared.fault.Fault.{Fault}
 use Rattle.just_expressions.specs.declared.fault.Fault.TheVariants as faults
 use Rattle.just_expressions.specs.Literals.{Expansion}

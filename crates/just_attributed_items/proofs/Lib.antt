@@ -4,7 +4,8 @@ pub mod Fits
 pub mod Named
 pub mod Options
 pub mod Others
-pub mod Private
+pub mod Ordered
+pub mod Reordered
 pub mod Repeated
 pub mod Taken
 pub mod WholeArguments

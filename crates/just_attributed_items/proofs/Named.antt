@@ -6,7 +6,7 @@ use Rattle.std.specs.List.{list_all, list_any}
 use Rattle.std.specs.Option.{option_map}
 use Rattle.std.proofs.lemmas.Slice.Eq.{bytes_eq-Decides}
 use Rattle.just_text.specs.declared.compile_error.CompileErrorKind.TheVariants as kinds
-use Rattle.just_tree.specs.declared.ast.ItemKind.{ItemKind}
+use Rattle.just_attributes.specs.declared.item_kind.ItemKind.{ItemKind}
 use Rattle.just_parameter_options.specs.Rules.{arg_keyword}
 use Rattle.just_attribute_tree.specs.Attributes.{AttributeShape, kind_name, kind_of}
 use Rattle.just_attribute_lines.specs.declared.attribute.AttributeRead.{AttributeRead}

@@ -13,7 +13,7 @@ use Rattle.just_recipes.specs.Numbering.{numbers_of}
 use Rattle.just_parameter_options.specs.Options.{bare, bare_all}
 
 -- what holds of what is seen of each holds of each as it is seen
-unmapped : {X Y : Type 0} (P : Y → Type 0) (f : X → Y) (xs : List X) → All P (map f xs) → All (λ x. P (f x)) xs
+pub unmapped : {X Y : Type 0} (P : Y → Type 0) (f : X → Y) (xs : List X) → All P (map f xs) → All (λ x. P (f x)) xs
 unmapped P f [] all k d h = absurd (omega arith)
 unmapped P f (x ∷ xs) all zero d h = all 0 (f d) (omega arith)
 unmapped P f (x ∷ xs) all (suc k) d h = unmapped P f xs (λ j e l. all (suc j) e (omega arith)) k d (omega arith)

@@ -7,9 +7,9 @@ use Rattle.std.specs.List.{cons_option, list_any}
 use Rattle.std.specs.Option.{option_map}
 use Rattle.just_text.specs.declared.compile_error.CompileErrorKind.{CompileErrorKind}
 use Rattle.just_text.specs.declared.compile_error.CompileErrorKind.TheVariants as kinds
-use Rattle.just_tree.specs.declared.ast.ItemKind.{ItemKind}
+use Rattle.just_attributes.specs.declared.item_kind.ItemKind.{ItemKind}
 use Rattle.just_attribute_tree.specs.Attributes.{AttributeShape, is_repeatable, kind_name, kind_of}
-use Rattle.just_attributes.specs.Files.{or_next}
+use Rattle.just_tree.specs.FileIndentation.{or_next}
 use Rattle.just_attribute_lines.specs.declared.attribute.AttributeRead.{AttributeRead}
 use Rattle.just_attribute_lines.specs.Seen.{read_shape, read_shapes}
 use Rattle.just_attributed_items.specs.Fitting.{duplicate, invalid, is_like, is_misfit, known, misfit, repeated}

@@ -1,8 +1,8 @@
 -- Items of all kinds without their attributes: their grammar, and how they are read.
 use Rattle.std.specs.Prelude.{ℕ, ◌≡◌, List, [], Ok}
 use Rattle.just_text.specs.Tokens.{Word}
-use Rattle.just_tree.specs.declared.ast.ItemKind.{ItemKind}
-use Rattle.just_tree.specs.declared.ast.ItemKind.TheVariants.{Recipe, Set}
+use Rattle.just_attributes.specs.declared.item_kind.ItemKind.{ItemKind}
+use Rattle.just_attributes.specs.declared.item_kind.ItemKind.TheVariants.{Recipe, Set}
 use Rattle.just_tree.specs.Files.{ItemShape, recipe_item, set_item}
 use Rattle.just_expressions.specs.Literals.{Expansion}
 use Rattle.just_expressions.specs.Reading.{◌>>=◌, Read}

@@ -4,11 +4,11 @@ use Rattle.std.specs.List.{list_all, list_any}
 use Rattle.std.specs.Option.{option_map}
 use Rattle.just_text.specs.declared.compile_error.CompileErrorKind.{CompileErrorKind}
 use Rattle.just_text.specs.declared.compile_error.CompileErrorKind.TheVariants as kinds
-use Rattle.just_tree.specs.declared.ast.ItemKind.{ItemKind}
-use Rattle.just_tree.specs.declared.ast.ItemKind.TheVariants as items
+use Rattle.just_attributes.specs.declared.item_kind.ItemKind.{ItemKind}
+use Rattle.just_attributes.specs.declared.item_kind.ItemKind.TheVariants as items
 use Rattle.just_attribute_tree.specs.Attributes.{AttributeShape, OptionsShape, kind_of, kind_name, is_repeatable}
 use Rattle.just_tree.specs.Files.{ItemShape, alias_item, assignment_item, module_item, recipe_item, set_item, kind_of as item_kind_of}
-use Rattle.just_attributes.specs.Files.{or_next}
+use Rattle.just_tree.specs.FileIndentation.{or_next}
 use Rattle.just_attributes.specs.Sets.{may_carry}
 use Rattle.just_attribute_lines.specs.Seen.{options_in}
 use Rattle.just_expressions.specs.Literals.{Expansion}

@@ -1,17 +1,16 @@
 -- What items hold when their attributes are read.
 use Rattle.std.specs.Prelude.{◌≡◌, ◌||◌, Bool, false, List, []}
-use Rattle.std.specs.List.{All, list_any}
+use Rattle.std.specs.List.{All}
 use Rattle.just_text.specs.Numbers.{Numbers}
 use Rattle.just_text.specs.Tokens.{lexeme}
 use Rattle.just_tree.specs.declared.ast.Item.{Item}
 use Rattle.just_tree.specs.declared.ast.Item.TheVariants.{Alias, Assignment, Module, Recipe, Set}
-use Rattle.just_attribute_tree.specs.declared.attribute.Attribute.{Attribute}
+use Rattle.just_attributes.specs.declared.attribute_item.AttributeItem.{AttributeItem}
 use Rattle.just_expression_tree.specs.declared.expression.Expression.{Expression}
 use Rattle.just_tree.specs.declared.item.Binding.{Binding}
 use Rattle.just_tree.specs.declared.recipe.Recipe.{Recipe as RecipeTree}
 use Rattle.just_tree.specs.declared.recipe.UnresolvedDependency.{UnresolvedDependency}
-use Rattle.just_attribute_tree.specs.Attributes.{attribute_shapes, kind_of}
-use Rattle.just_attributes.specs.Sets.{is_private_kind}
+use Rattle.just_attributes.specs.Sets.{items_of, shapes_in, is_private as are_private}
 use Rattle.just_attribute_lines.specs.Cooked.{IsCookedAttribute}
 use Rattle.just_expressions.specs.Literals.{Expansion}
 use Rattle.just_recipes.specs.Cooked.{IsRecipeCooked}
@@ -29,19 +28,15 @@ abbrev pub IsItemNumbered : Numbers → Numbers → Item → Type 0
 IsItemNumbered old new (Recipe r) = IsRecipeNumbered old new r
 IsItemNumbered old new other = AreNext old new (binding_numbers other)
 
--- whether one of the attributes is `private`
-abbrev pub are_private : List Attribute → Bool
-are_private as' = list_any (λ a. is_private_kind (kind_of a)) (attribute_shapes as')
-
 -- an assignment of the file that is read, which is private by its name or by an attribute
 pub record IsOwnAssignment (a : Binding Expression) : Type 0 where
   pub file_depth : a.file_depth ≡ 0
   pub prelude : a.prelude ≡ false
-  pub private : a.private ≡ (is_private (lexeme a.name.token) || are_private a.attributes.items)
+  pub private : a.private ≡ (is_private (lexeme a.name.token) || are_private (items_of a.attributes))
 
 -- the parameters of a recipe have the options that its `arg`s give them
 abbrev pub HasOptions : Expansion → RecipeTree UnresolvedDependency → Type 0
-HasOptions expansion r = HaveOptions expansion (options_among (attribute_shapes r.attributes.items)) r.parameters.items
+HasOptions expansion r = HaveOptions expansion (options_among (shapes_in r.attributes)) r.parameters.items
 
 -- what the attributes, the name and the place of an item make of it: a setting is the one that its name tells
 abbrev pub IsOwnItem : Expansion → Item → Type 0
@@ -51,16 +46,16 @@ IsOwnItem expansion (Set s) = setting_name s.value ≡ lexeme s.name.token
 IsOwnItem expansion other = Unit {0}
 
 -- the attributes before an item
-abbrev pub attributes_of : Item → List Attribute
-attributes_of (Alias a) = a.attributes.items
-attributes_of (Assignment a) = a.attributes.items
-attributes_of (Module m) = m.attributes.items
-attributes_of (Recipe r) = r.attributes.items
-attributes_of (Set s) = s.attributes.items
+abbrev pub attributes_of : Item → List AttributeItem
+attributes_of (Alias a) = items_of a.attributes
+attributes_of (Assignment a) = items_of a.attributes
+attributes_of (Module m) = items_of m.attributes
+attributes_of (Recipe r) = items_of r.attributes
+attributes_of (Set s) = items_of s.attributes
 attributes_of other = []
 
-abbrev pub AreAttributesCooked : Expansion → List Attribute → Type 0
-AreAttributesCooked expansion as' = All (IsCookedAttribute expansion) as'
+abbrev pub AreAttributesCooked : Expansion → List AttributeItem → Type 0
+AreAttributesCooked expansion items = All (λ item. IsCookedAttribute expansion item.attribute) items
 
 -- the expressions and strings of an item behind its attributes hold what their strings stand for
 abbrev pub IsInsideCooked : Expansion → Item → Type 0

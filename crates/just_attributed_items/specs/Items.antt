@@ -2,6 +2,7 @@
 use Rattle.std.specs.Prelude.{ℕ, ◌≡◌, List}
 use Rattle.just_text.specs.Tokens.{Word}
 use Rattle.just_attribute_tree.specs.Attributes.{AttributeShape}
+use Rattle.just_attributes.specs.Order.{in_order}
 use Rattle.just_tree.specs.Files.{ItemShape}
 use Rattle.just_expressions.specs.Literals.{Expansion}
 use Rattle.just_attribute_lines.specs.Lines.{AreAttributes}
@@ -9,7 +10,7 @@ use Rattle.just_attributed_items.specs.Bare.{IsBare}
 use Rattle.just_attributed_items.specs.Fitting.{Fit, with_attributes}
 use Rattle.semver.specs.declared.Version.{Version}
 
--- Up to rest there is the item behind its attributes; so many blank lines behind the body of a recipe belong to the file.
+-- Up to rest there is the item behind its attributes, which it has in their order; so many blank lines behind the body of a recipe belong to the file.
 pub record IsAttributed (expansion : Expansion) (current : Version) (i : ItemShape) (blanks : ℕ) (words rest : List Word) : Type 0 where
   pub attributes : List AttributeShape
   pub bare : ItemShape
@@ -17,4 +18,4 @@ pub record IsAttributed (expansion : Expansion) (current : Version) (i : ItemSha
   pub lines : AreAttributes expansion attributes words behind
   pub item : IsBare expansion current bare blanks behind rest
   pub fit : Fit expansion attributes bare
-  pub whole : i ≡ with_attributes attributes bare
+  pub whole : i ≡ with_attributes (in_order attributes) bare

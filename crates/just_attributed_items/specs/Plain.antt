@@ -1,11 +1,12 @@
 -- What items are before their attributes are read.
 use Rattle.std.specs.Prelude.{◌≡◌, true, []}
 use Rattle.just_text.specs.Tokens.{lexeme}
+use Rattle.just_attributes.specs.Sets.{items_of}
 use Rattle.just_tree.specs.declared.ast.Item.{Item}
 use Rattle.just_tree.specs.declared.ast.Item.TheVariants.{Recipe, Set}
 use Rattle.just_tree.specs.declared.recipe.Recipe.{Recipe as RecipeTree}
 use Rattle.just_tree.specs.declared.recipe.UnresolvedDependency.{UnresolvedDependency}
-use Rattle.just_attribute_tree.specs.declared.setting.Set.{Set as SetTree}
+use Rattle.just_tree.specs.declared.set.Set.{Set as SetTree}
 use Rattle.just_tree.specs.Recipes.{parameter_shapes}
 use Rattle.just_expressions.specs.Literals.{Expansion}
 use Rattle.just_recipes.specs.Cooked.{IsRecipeCooked}
@@ -23,7 +24,7 @@ pub record IsBareRecipe (r : RecipeTree UnresolvedDependency) : Type 0 where
 
 -- the setting has no attributes, and is the one that its name tells
 pub record IsBareSet (s : SetTree) : Type 0 where
-  pub attributes : s.attributes.items ≡ []
+  pub attributes : items_of s.attributes ≡ []
   pub name : setting_name s.value ≡ lexeme s.name.token
 
 -- the item has no attributes, and what they make of an item is not made yet

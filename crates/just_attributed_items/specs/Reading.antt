@@ -2,7 +2,8 @@
 use Rattle.std.specs.Prelude.{ℕ, List, Option, Result, Ok, Err, if◌then◌else◌}
 use Rattle.just_text.specs.Tokens.{Word}
 use Rattle.just_attribute_tree.specs.Attributes.{AttributeShape}
-use Rattle.just_tree.specs.declared.ast.ItemKind.{ItemKind}
+use Rattle.just_attributes.specs.declared.item_kind.ItemKind.{ItemKind}
+use Rattle.just_attributes.specs.Order.{in_order}
 use Rattle.just_tree.specs.Files.{ItemShape}
 use Rattle.just_expressions.specs.Literals.{Expansion}
 use Rattle.just_expressions.specs.Reading.{◌>>=◌, Read, unexpected, first}
@@ -19,9 +20,9 @@ pub record Parts : Type 0 where
   pub item : ItemShape
   pub blanks : ℕ
 
--- the item behind its attributes
+-- the item behind its attributes, which it has in their order
 abbrev pub joined : Parts → ItemShape
-joined p = with_attributes (known p.attributes) p.item
+joined p = with_attributes (in_order (known p.attributes)) p.item
 
 module _ {T : Type 0} (word : T → Word) (expansion : Expansion) (current : Version) where
   -- an item of that kind behind these attributes, without them

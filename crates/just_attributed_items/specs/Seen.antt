@@ -1,7 +1,11 @@
 -- What the parser of items with attributes holds as the grammar sees it.
 use Rattle.std.specs.Prelude.{ℕ, ◌≡◌, List, map, Option, Some}
 use Rattle.std.specs.List.{All}
-use Rattle.just_attribute_tree.specs.Attributes.{AttributeShape, attribute_shapes, options_shape}
+use Rattle.just_attribute_tree.specs.Attributes.{AttributeShape, options_shape}
+use Rattle.just_attribute_tree.specs.declared.attribute.Attribute.{Attribute}
+use Rattle.just_attributes.specs.declared.attribute_item.AttributeItem.{AttributeItem}
+use Rattle.just_attributes.specs.Order.{in_order, item_shape as attribute_item_shape}
+use Rattle.just_attributes.specs.Sets.{items_of, shapes_in}
 use Rattle.just_tree.specs.Files.{ItemShape, item_shape}
 use Rattle.just_expressions.specs.Literals.{Expansion}
 use Rattle.just_attribute_lines.specs.Cooked.{AreCookedOptions}
@@ -10,9 +14,14 @@ use Rattle.just_parameter_options.specs.Whole.{AreWholeOptions}
 use Rattle.just_attributed_items.specs.declared.bare.ItemRead.{ItemRead}
 use Rattle.just_attributed_items.specs.declared.item.PartsRead.{PartsRead}
 use Rattle.just_attributed_items.specs.declared.split.KnownAttributes.{KnownAttributes}
+use Rattle.just_attributed_items.specs.declared.split.OrderedAttributes.{OrderedAttributes}
 use Rattle.just_attributed_items.specs.Fitting.{options_among}
 use Rattle.just_attributed_items.specs.Held.{AreAttributesCooked}
 use Rattle.just_attributed_items.specs.Reading.{Parts}
+
+-- the attribute itself, without where its name is written
+abbrev pub attribute_in : AttributeItem → Attribute
+attribute_in item = item.attribute
 
 -- an item and its blank lines
 abbrev pub read_of : ItemRead → ItemShape × ℕ
@@ -24,9 +33,16 @@ parts_of p = record { attributes = read_shapes p.attributes.items; item = item_s
 
 -- the options are those of the `arg`s among the attributes, and all hold what their strings stand for
 pub record AreWholeKnown (expansion : Expansion) (s : KnownAttributes) : Type 0 where
-  pub again : map options_shape s.options.items ≡ options_among (attribute_shapes s.attributes.items)
-  pub cooked : AreAttributesCooked expansion s.attributes.items
+  pub again : map options_shape s.options.items ≡ options_among (map attribute_item_shape s.items.items)
+  pub cooked : AreAttributesCooked expansion s.items.items
   pub cooked_options : All (AreCookedOptions expansion) s.options.items
+
+-- the same of attributes in their order, and of options as they are written
+pub record AreWholeOrdered (expansion : Expansion) (written : List AttributeShape) (s : OrderedAttributes) : Type 0 where
+  pub again : map options_shape s.options.items ≡ options_among written
+  pub cooked : AreAttributesCooked expansion (items_of s.attributes)
+  pub cooked_options : All (AreCookedOptions expansion) s.options.items
+  pub order : shapes_in s.attributes ≡ in_order written
 
 -- the texts of each `arg` among the attributes are of the form that it asks for
 abbrev pub AreWholeArguments : Expansion → List AttributeShape → Type 0

@@ -2,7 +2,7 @@
 ghost use Rattle.std.specs.Prelude.{◌≢◌, IfOk};
 ghost use Rattle.just_text.specs.Numbers.{Numbers};
 ghost use Rattle.just_text.specs.Tokens.{word_of};
-ghost use Rattle.just_tree.specs.declared.ast.ItemKind.TheVariants as kinds;
+ghost use Rattle.just_attributes.specs.declared.item_kind.ItemKind.TheVariants as kinds;
 ghost use Rattle.just_expressions.specs.Reading.{Gives, ahead};
 ghost use Rattle.just_recipes.specs.Numbering.{AreUsed, GivesUnless};
 ghost use Rattle.semver.specs.declared.Version.{Version as SemanticVersion};
@@ -11,13 +11,14 @@ ghost use Rattle.just_attributed_items.specs.Held.{IsItemNumbered};
 ghost use Rattle.just_attributed_items.specs.Plain.{IsBareCooked, IsBareTree};
 ghost use Rattle.just_attributed_items.specs.Seen.{read_of};
 
+use just_attributes::ItemKind;
 use just_expressions::{Cursor, Fault};
 use just_items::item::item;
 use just_recipes::recipe::recipe;
 use just_recipes::recipe_law::recipe_law;
 use just_settings::set::set;
 use just_text::{Expander, Numerator};
-use just_tree::{Item, ItemKind};
+use just_tree::Item;
 use semver::Version;
 use std::alloc::Global;
 

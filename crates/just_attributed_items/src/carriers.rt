@@ -4,7 +4,7 @@ ghost use Rattle.just_attribute_lines.specs.Seen.{read_shapes};
 ghost use Rattle.just_attributed_items.specs.Fitting as spec;
 
 use just_attribute_lines::AttributeRead;
-use just_tree::ItemKind;
+use just_attributes::ItemKind;
 
 /// Whether items of that kind may have attributes.
 fn takes_attributes(kind: ItemKind) -> bool

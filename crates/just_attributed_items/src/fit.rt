@@ -9,10 +9,10 @@ ghost use Rattle.just_attributed_items.specs.Fitting.{known, name_of, repeated};
 ghost use Rattle.just_attributed_items.specs.Refusals.{head_fault, is_misplaced, is_named, is_repeated, known_fault, may_repeat, name_in};
 
 use just_attribute_lines::AttributeRead;
-use just_attributes::may_carry;
+use just_attributes::{ItemKind, may_carry};
 use just_expressions::Fault;
 use just_text::{CompileErrorKind, Text};
-use just_tree::{Item, ItemKind};
+use just_tree::Item;
 use std::alloc::{AllocError, Global};
 
 /// The name of an item that may have attributes; empty for others.

@@ -20,7 +20,7 @@ ghost use Rattle.just_attributed_items.specs.Seen.{AreWholeArguments, AreWholeWh
 use crate::bare::{ItemRead, bare_item};
 use crate::carriers::may_stand;
 use crate::fit::{ensure_fit, item_name};
-use crate::split::split;
+use crate::split::ordered;
 use crate::trees::item_with;
 use just_attribute_lines::law::law;
 use just_attribute_lines::{AttributeRead, attributes};
@@ -98,7 +98,7 @@ fn joined<'src>(alloc: Global, parts: PartsRead<'src>) -> Result<ItemRead<'src>,
     ensures cooked { (expansion : Expansion) → AreWholeReads expansion parts.entry.attributes.items → IsBareTree parts.entry.read.item → IsBareCooked expansion parts.entry.read.item → IfOk result (λ r. IsItemCooked expansion r.item) }
 {
     let blank_lines = parts.read.blank_lines;
-    let known = split(alloc, parts.attributes);
+    let known = ordered(alloc, parts.attributes);
     let (item, known) = both(parts.read.item, known)?;
     let item = item_with(alloc, item, known)?;
     Ok(ItemRead { item, blank_lines })

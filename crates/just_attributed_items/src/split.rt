@@ -1,21 +1,32 @@
-//! Attributes, and beside them the options of those that are `arg`s.
-ghost use Rattle.std.specs.Prelude.{◌≡◌, ◌++◌, [], IfOk, OnOk};
+//! Attributes in their order, and beside them the options of those that are `arg`s.
+ghost use Rattle.std.specs.Prelude.{◌≡◌, ◌++◌, [], IfOk, OnOk, map};
 ghost use Rattle.std.specs.List.{cons_option};
-ghost use Rattle.just_attribute_tree.specs.Attributes.{attribute_shapes};
+ghost use Rattle.std.specs.Option.{option_map};
+ghost use Rattle.just_attributes.specs.Order.{in_order, item_shape};
+ghost use Rattle.just_attributes.specs.Sets.{shapes_in};
 ghost use Rattle.just_expressions.specs.Literals.{Expansion};
 ghost use Rattle.just_attribute_lines.specs.Seen.{AreWholeReads, read_shapes};
 ghost use Rattle.just_attributed_items.specs.Fitting.{known};
-ghost use Rattle.just_attributed_items.specs.Seen.{AreWholeKnown};
+ghost use Rattle.just_attributed_items.specs.Seen.{AreWholeKnown, AreWholeOrdered, attribute_in};
 
 use just_attribute_lines::AttributeRead;
 use just_attribute_tree::{ArgumentOptions, Attribute};
-use just_text::both;
+use just_attributes::{AttributeItem, AttributeSet};
+use just_text::{Name, both};
 use std::alloc::{AllocError, Global};
 
-/// The attributes before an item in their order, and the options of those that are `arg`s.
+/// The attributes before an item as they are written, and the options of those that are `arg`s.
 #[derive(Drop)]
 pub(crate) struct KnownAttributes<'src> {
-    pub(crate) attributes: Vec<Attribute<'src>>,
+    pub(crate) items: Vec<AttributeItem<'src>>,
+    pub(crate) options: Vec<ArgumentOptions<'src>>,
+}
+
+/// The attributes before an item in their order, and the options of those that are `arg`s as they
+/// are written.
+#[derive(Drop)]
+pub(crate) struct OrderedAttributes<'src> {
+    pub(crate) attributes: AttributeSet<'src>,
     pub(crate) options: Vec<ArgumentOptions<'src>>,
 }
 
@@ -47,39 +58,82 @@ fn push_both<A: Drop, O: Drop>(
     push_given(options, option)
 }
 
+/// The attribute with its name, if it is one.
+fn item<'src>(
+    alloc: Global,
+    attribute: Option<Attribute<'src>>,
+    name: Name<'src>,
+) -> Result<Option<AttributeItem<'src>>, AllocError>
+    ensures { IfOk result (λ item. option_map attribute_in item ≡ attribute.entry) }
+{
+    match attribute {
+        Some(attribute) => Ok(Some(AttributeItem::new(alloc, attribute, name)?)),
+        None => Ok(None),
+    }
+}
+
 /// Puts the attribute and its options behind the others.
-fn add<'src>(known: &mut KnownAttributes<'src>, read: AttributeRead<'src>) -> Result<(), AllocError>
-    ensures attributes { OnOk result (known.new.attributes.items ≡ known.old.attributes.items ++ cons_option read.entry.attribute []) }
+#[tactic(auto, using(crate::proofs::Ordered::seen_given))]
+fn add<'src>(
+    alloc: Global,
+    known: &mut KnownAttributes<'src>,
+    read: AttributeRead<'src>,
+) -> Result<(), AllocError>
+    ensures attributes { OnOk result (map attribute_in known.new.items.items ≡ map attribute_in known.old.items.items ++ cons_option read.entry.attribute []) }
     ensures options { OnOk result (known.new.options.items ≡ known.old.options.items ++ cons_option read.entry.options []) }
 {
     let AttributeRead {
         attribute,
+        name,
         options,
-        ..
     } = read;
-    push_both(
-        &mut known.attributes,
-        &mut known.options,
-        attribute,
-        options,
-    )
+    let item = item(alloc, attribute, name);
+    let (options, item) = both(options, item)?;
+    push_both(&mut known.items, &mut known.options, item, options)
 }
 
 /// The attributes that are known, and the options of those that are `arg`s. Refused only where
 /// memory is.
-pub(crate) fn split<'src>(
+fn split<'src>(
     alloc: Global,
     reads: Vec<AttributeRead<'src>>,
 ) -> Result<KnownAttributes<'src>, AllocError>
-    ensures shapes { IfOk result (λ s. attribute_shapes s.attributes.items ≡ known (read_shapes reads.entry.items)) }
+    ensures shapes { IfOk result (λ s. map item_shape s.items.items ≡ known (read_shapes reads.entry.items)) }
     ensures whole { (expansion : Expansion) → AreWholeReads expansion reads.entry.items → IfOk result (AreWholeKnown expansion) }
 {
     let mut known = KnownAttributes {
-        attributes: Vec::new(alloc),
+        items: Vec::new(alloc),
         options: Vec::new(alloc),
     };
     for read in reads {
-        add(&mut known, read)?;
+        add(alloc, &mut known, read)?;
     }
     Ok(known)
+}
+
+/// The attributes in their order.
+fn put_in_order<'src>(known: KnownAttributes<'src>) -> Result<OrderedAttributes<'src>, AllocError>
+    ensures shapes { IfOk result (λ s. shapes_in s.attributes ≡ in_order (map item_shape known.entry.items.items)) }
+    ensures whole { (expansion : Expansion) → AreWholeKnown expansion known.entry → IfOk result (AreWholeOrdered expansion (map item_shape known.entry.items.items)) }
+{
+    let KnownAttributes { items, options } = known;
+    let attributes = AttributeSet::from_items(items);
+    let (options, attributes) = both(options, attributes)?;
+    Ok(OrderedAttributes {
+        attributes,
+        options,
+    })
+}
+
+/// The attributes that are known, in their order, and the options of those that are `arg`s. Refused
+/// only where memory is.
+pub(crate) fn ordered<'src>(
+    alloc: Global,
+    reads: Vec<AttributeRead<'src>>,
+) -> Result<OrderedAttributes<'src>, AllocError>
+    ensures shapes { IfOk result (λ s. shapes_in s.attributes ≡ in_order (known (read_shapes reads.entry.items))) }
+    ensures whole { (expansion : Expansion) → AreWholeReads expansion reads.entry.items → IfOk result (AreWholeOrdered expansion (known (read_shapes reads.entry.items))) }
+{
+    let known = split(alloc, reads)?;
+    put_in_order(known)
 }

@@ -1,34 +1,32 @@
 //! Items with the attributes before them.
-ghost use Rattle.std.specs.Prelude.{◌≡◌, ◌||◌, IfOk};
-ghost use Rattle.std.specs.List.{list_any};
+ghost use Rattle.std.specs.Prelude.{◌≡◌, ◌||◌, IfOk, List};
 ghost use Rattle.just_text.specs.Numbers.{Numbers};
 ghost use Rattle.just_tree.specs.declared.ast.Item.TheVariants as items;
-ghost use Rattle.just_attribute_tree.specs.Attributes.{attribute_shape, attribute_shapes, kind_of};
+ghost use Rattle.just_attribute_tree.specs.Attributes.{AttributeShape};
 ghost use Rattle.just_tree.specs.Files.{item_shape};
 ghost use Rattle.just_tree.specs.Recipes.{recipe_shape};
-ghost use Rattle.just_attributes.specs.Sets.{is_private_kind};
+ghost use Rattle.just_attributes.specs.Sets.{items_of, shapes_in, is_private as are_private};
 ghost use Rattle.just_expressions.specs.Literals.{Expansion};
 ghost use Rattle.just_recipes.specs.Cooked.{IsRecipeCooked};
 ghost use Rattle.just_recipes.specs.Numbering.{IsRecipeNumbered};
 ghost use Rattle.just_parameter_options.specs.Options.{AreValuesCooked, GivesOrRefuses};
 ghost use Rattle.just_attributed_items.specs.Fitting.{argument_fault, with_attributes};
-ghost use Rattle.just_attributed_items.specs.Held.{HasOptions, IsItemCooked, IsItemNumbered, IsOwnItem, are_private};
+ghost use Rattle.just_attributed_items.specs.Held.{HasOptions, IsItemCooked, IsItemNumbered, IsOwnItem};
 ghost use Rattle.just_attributed_items.specs.Plain.{IsBareCooked, IsBareRecipe, IsBareTree};
-ghost use Rattle.just_attributed_items.specs.Seen.{AreWholeArguments, AreWholeKnown};
+ghost use Rattle.just_attributed_items.specs.Seen.{AreWholeArguments, AreWholeOrdered};
 
-use crate::split::KnownAttributes;
-use just_attribute_tree::{Attribute, Set};
-use just_attributes::is_private;
+use crate::split::OrderedAttributes;
+use just_attributes::AttributeSet;
 use just_expressions::Fault;
 use just_parameter_options::with_options;
 use just_text::Namepath;
-use just_tree::{Alias, Assignment, Binding, Item, Module, Recipe, UnresolvedDependency};
+use just_tree::{Alias, Assignment, Binding, Item, Module, Recipe, Set, UnresolvedDependency};
 use std::alloc::Global;
 
 /// The alias behind these attributes.
 fn alias_with<'src>(
     alias: Alias<'src, Namepath<'src>>,
-    attributes: Vec<Attribute<'src>>,
+    attributes: AttributeSet<'src>,
 ) -> Alias<'src, Namepath<'src>>
     ensures { result ≡ record alias.entry { attributes = attributes.entry } }
 {
@@ -39,32 +37,14 @@ fn alias_with<'src>(
     }
 }
 
-/// Whether one of the attributes is `private`.
-fn any_private(attributes: &[Attribute]) -> bool
-    ensures { result ≡ list_any (λ a. is_private_kind (kind_of (attribute_shape a))) attributes.now }
-{
-    attributes
-        .iter()
-        .any(|attribute| is_private(attribute.kind()))
-}
-
-/// The attributes, and whether one of them is `private`.
-#[tactic(auto, using(crate::proofs::Private::private_so))]
-fn with_privacy<'src>(attributes: Vec<Attribute<'src>>) -> (Vec<Attribute<'src>>, bool)
-    ensures { result ≡ (attributes.entry, are_private attributes.entry.items) }
-{
-    let private = any_private(&attributes);
-    (attributes, private)
-}
-
 /// The assignment behind these attributes, private if it was or if one of them says so.
 fn assignment_with<'src>(
     assignment: Assignment<'src>,
-    attributes: Vec<Attribute<'src>>,
+    attributes: AttributeSet<'src>,
 ) -> Assignment<'src>
-    ensures { result ≡ record assignment.entry { attributes = attributes.entry; private = assignment.entry.private || are_private attributes.entry.items } }
+    ensures { result ≡ record assignment.entry { attributes = attributes.entry; private = assignment.entry.private || are_private (items_of attributes.entry) } }
 {
-    let (attributes, private) = with_privacy(attributes);
+    let private = attributes.private();
     Binding {
         attributes,
         eager: assignment.eager,
@@ -79,7 +59,7 @@ fn assignment_with<'src>(
 }
 
 /// The submodule behind these attributes.
-fn module_with<'src>(submodule: Module<'src>, attributes: Vec<Attribute<'src>>) -> Module<'src>
+fn module_with<'src>(submodule: Module<'src>, attributes: AttributeSet<'src>) -> Module<'src>
     ensures { result ≡ record submodule.entry { attributes = attributes.entry } }
 {
     Module {
@@ -91,7 +71,7 @@ fn module_with<'src>(submodule: Module<'src>, attributes: Vec<Attribute<'src>>) 
 }
 
 /// The setting behind these attributes.
-fn set_with<'src>(set: Set<'src>, attributes: Vec<Attribute<'src>>) -> Set<'src>
+fn set_with<'src>(set: Set<'src>, attributes: AttributeSet<'src>) -> Set<'src>
     ensures { result ≡ record set.entry { attributes = attributes.entry } }
 {
     Set {
@@ -105,15 +85,15 @@ fn set_with<'src>(set: Set<'src>, attributes: Vec<Attribute<'src>>) -> Set<'src>
 fn recipe_with<'src>(
     alloc: Global,
     recipe: Recipe<'src, UnresolvedDependency<'src>>,
-    known: KnownAttributes<'src>,
+    known: OrderedAttributes<'src>,
 ) -> Result<Recipe<'src, UnresolvedDependency<'src>>, Fault<'src>>
-    ensures gives { (expansion : Expansion) → AreWholeKnown expansion known.entry → GivesOrRefuses result (argument_fault expansion (attribute_shapes known.entry.attributes.items) (item_shape (items.Recipe recipe.entry))) }
+    ensures gives { (expansion : Expansion) (written : List AttributeShape) → AreWholeOrdered expansion written known.entry → GivesOrRefuses result (argument_fault expansion written (item_shape (items.Recipe recipe.entry))) }
     ensures attributes { IfOk result (λ r. r.attributes ≡ known.entry.attributes) }
     ensures shape { IfOk result (λ r. recipe_shape r ≡ recipe_shape recipe.entry) }
     ensures numbers { (old new : Numbers) → IsRecipeNumbered old new recipe.entry → IfOk result (IsRecipeNumbered old new) }
-    ensures options { (expansion : Expansion) → AreWholeKnown expansion known.entry → AreWholeArguments expansion (attribute_shapes known.entry.attributes.items) → IsBareRecipe recipe.entry → IfOk result (HasOptions expansion) }
+    ensures options { (expansion : Expansion) (written : List AttributeShape) → AreWholeOrdered expansion written known.entry → AreWholeArguments expansion written → IsBareRecipe recipe.entry → IfOk result (HasOptions expansion) }
     ensures cooked { (expansion : Expansion) → IsRecipeCooked expansion recipe.entry → IfOk result (IsRecipeCooked expansion) }
-    ensures values { (expansion : Expansion) → AreWholeKnown expansion known.entry → IsBareRecipe recipe.entry → IfOk result (λ r. AreValuesCooked expansion r.parameters.items) }
+    ensures values { (expansion : Expansion) (written : List AttributeShape) → AreWholeOrdered expansion written known.entry → IsBareRecipe recipe.entry → IfOk result (λ r. AreValuesCooked expansion r.parameters.items) }
 {
     let name = recipe.name;
     let parameters = with_options(alloc, name.lexeme(), recipe.parameters, known.options)?;
@@ -133,13 +113,13 @@ fn recipe_with<'src>(
 fn recipe_item_with<'src>(
     alloc: Global,
     recipe: Recipe<'src, UnresolvedDependency<'src>>,
-    known: KnownAttributes<'src>,
+    known: OrderedAttributes<'src>,
 ) -> Result<Item<'src>, Fault<'src>>
-    ensures gives { (expansion : Expansion) → AreWholeKnown expansion known.entry → GivesOrRefuses result (argument_fault expansion (attribute_shapes known.entry.attributes.items) (item_shape (items.Recipe recipe.entry))) }
-    ensures shape { IfOk result (λ i. item_shape i ≡ with_attributes (attribute_shapes known.entry.attributes.items) (item_shape (items.Recipe recipe.entry))) }
+    ensures gives { (expansion : Expansion) (written : List AttributeShape) → AreWholeOrdered expansion written known.entry → GivesOrRefuses result (argument_fault expansion written (item_shape (items.Recipe recipe.entry))) }
+    ensures shape { IfOk result (λ i. item_shape i ≡ with_attributes (shapes_in known.entry.attributes) (item_shape (items.Recipe recipe.entry))) }
     ensures numbers { (old new : Numbers) → IsItemNumbered old new (items.Recipe recipe.entry) → IfOk result (IsItemNumbered old new) }
-    ensures own { (expansion : Expansion) → AreWholeKnown expansion known.entry → AreWholeArguments expansion (attribute_shapes known.entry.attributes.items) → IsBareTree (items.Recipe recipe.entry) → IfOk result (IsOwnItem expansion) }
-    ensures cooked { (expansion : Expansion) → AreWholeKnown expansion known.entry → IsBareTree (items.Recipe recipe.entry) → IsBareCooked expansion (items.Recipe recipe.entry) → IfOk result (IsItemCooked expansion) }
+    ensures own { (expansion : Expansion) (written : List AttributeShape) → AreWholeOrdered expansion written known.entry → AreWholeArguments expansion written → IsBareTree (items.Recipe recipe.entry) → IfOk result (IsOwnItem expansion) }
+    ensures cooked { (expansion : Expansion) (written : List AttributeShape) → AreWholeOrdered expansion written known.entry → IsBareTree (items.Recipe recipe.entry) → IsBareCooked expansion (items.Recipe recipe.entry) → IfOk result (IsItemCooked expansion) }
 {
     let recipe = recipe_with(alloc, recipe, known)?;
     Ok(Item::Recipe(recipe))
@@ -151,13 +131,13 @@ fn recipe_item_with<'src>(
 pub(crate) fn item_with<'src>(
     alloc: Global,
     item: Item<'src>,
-    known: KnownAttributes<'src>,
+    known: OrderedAttributes<'src>,
 ) -> Result<Item<'src>, Fault<'src>>
-    ensures gives { (expansion : Expansion) → AreWholeKnown expansion known.entry → GivesOrRefuses result (argument_fault expansion (attribute_shapes known.entry.attributes.items) (item_shape item.entry)) }
-    ensures shape { IfOk result (λ i. item_shape i ≡ with_attributes (attribute_shapes known.entry.attributes.items) (item_shape item.entry)) }
+    ensures gives { (expansion : Expansion) (written : List AttributeShape) → AreWholeOrdered expansion written known.entry → GivesOrRefuses result (argument_fault expansion written (item_shape item.entry)) }
+    ensures shape { IfOk result (λ i. item_shape i ≡ with_attributes (shapes_in known.entry.attributes) (item_shape item.entry)) }
     ensures numbers { (old new : Numbers) → IsItemNumbered old new item.entry → IfOk result (IsItemNumbered old new) }
-    ensures own { (expansion : Expansion) → AreWholeKnown expansion known.entry → AreWholeArguments expansion (attribute_shapes known.entry.attributes.items) → IsBareTree item.entry → IfOk result (IsOwnItem expansion) }
-    ensures cooked { (expansion : Expansion) → AreWholeKnown expansion known.entry → IsBareTree item.entry → IsBareCooked expansion item.entry → IfOk result (IsItemCooked expansion) }
+    ensures own { (expansion : Expansion) (written : List AttributeShape) → AreWholeOrdered expansion written known.entry → AreWholeArguments expansion written → IsBareTree item.entry → IfOk result (IsOwnItem expansion) }
+    ensures cooked { (expansion : Expansion) (written : List AttributeShape) → AreWholeOrdered expansion written known.entry → IsBareTree item.entry → IsBareCooked expansion item.entry → IfOk result (IsItemCooked expansion) }
 {
     match item {
         Item::Alias(alias) => Ok(Item::Alias(alias_with(alias, known.attributes))),

@@ -1,4 +1,4 @@
 pub mod Sorted
+pub mod TextsInRow
 pub mod InOrder
 pub mod Groups
-pub mod First

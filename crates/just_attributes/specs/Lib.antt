@@ -1,6 +1,6 @@
 pub mod Arguments
-pub mod Files
 pub mod Indentations
+pub mod Kinds
 pub mod Laws
 pub mod Order
 pub mod Sets

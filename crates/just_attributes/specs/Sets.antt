@@ -1,12 +1,12 @@
 -- What is asked of a set of attributes.
-use Rattle.std.specs.Prelude.{ℕ, Bool, true, false, not, ◌||◌, List, Option, Some, None, bytes_eq, find, filter_map, option_map}
+use Rattle.std.specs.Prelude.{ℕ, Bool, true, false, not, ◌||◌, List, Option, Some, None, bytes_eq, find, filter_map, map, option_map}
 use Rattle.std.specs.List.{list_any}
 use Rattle.just_text.specs.declared.compile_error.CompileErrorKind.{CompileErrorKind}
 use Rattle.just_text.specs.declared.compile_error.CompileErrorKind.TheVariants.{InvalidAttribute}
 use Rattle.just_text.specs.declared.os.Os.{Os}
 use Rattle.just_text.specs.declared.os.Os.TheVariants.{Android as AndroidOs, Dragonfly as DragonflyOs, Freebsd as FreebsdOs, Linux as LinuxOs, Macos as MacosOs, Netbsd as NetbsdOs, Openbsd as OpenbsdOs}
-use Rattle.just_tree.specs.declared.ast.ItemKind.{ItemKind}
-use Rattle.just_tree.specs.declared.ast.ItemKind.TheVariants.{Alias, Assignment, Module, Recipe, Set}
+use Rattle.just_attributes.specs.declared.item_kind.ItemKind.{ItemKind}
+use Rattle.just_attributes.specs.declared.item_kind.ItemKind.TheVariants.{Alias, Assignment, Module, Recipe, Set}
 use Rattle.just_attribute_tree.specs.declared.attribute.Attribute.{Attribute}
 use Rattle.just_attribute_tree.specs.declared.attribute.Attribute.TheVariants.{Group}
 use Rattle.just_attribute_tree.specs.declared.attribute.AttributeKind.{AttributeKind}
@@ -19,6 +19,10 @@ use Rattle.just_attributes.specs.Order.{name_text, item_shape}
 -- the items of a set in their order
 abbrev pub items_of : AttributeSet → List AttributeItem
 items_of set = set.items.items
+
+-- what the attributes of a set say, in their order
+abbrev pub shapes_in : AttributeSet → List AttributeShape
+shapes_in set = map item_shape (items_of set)
 
 -- an attribute has the name of this kind
 abbrev pub has_kind : AttributeKind → AttributeShape → Bool
@@ -63,20 +67,12 @@ kind_for MacosOs = Macos
 kind_for NetbsdOs = Netbsd
 kind_for OpenbsdOs = Openbsd
 
--- a test of what something is
-abbrev pub on_shape : {A : Type 0} → (A → AttributeShape) → (AttributeShape → Bool) → A → Bool
-on_shape shape test x = test (shape x)
-
 abbrev pub names_system : AttributeShape → Bool
 names_system attribute = is_system (kind_of attribute)
 
 -- enabled where no attribute names a system, one names the family, or one names this system
-abbrev pub enabled : {A : Type 0} → (A → AttributeShape) → Os → List A → Bool
-enabled shape os attributes =
-    not (list_any (on_shape shape names_system) attributes) || list_any (on_shape shape (has_kind Unix)) attributes || list_any (on_shape shape (has_kind (kind_for os))) attributes
-
 abbrev pub is_enabled : Os → List AttributeItem → Bool
-is_enabled = enabled item_shape
+is_enabled os items = not (list_any (λ item. names_system (item_shape item)) items) || list_any (is_of Unix) items || list_any (is_of (kind_for os)) items
 
 abbrev pub is_private_kind : AttributeKind → Bool
 is_private_kind Private = true

@@ -9,12 +9,12 @@ ghost use Rattle.just_text.specs.Tokens.{lexeme};
 ghost use Rattle.just_text.specs.declared.compile_error.CompileErrorKind.TheVariants.{OutOfMemory};
 
 use crate::attribute_item::AttributeItem;
+use crate::item_kind::ItemKind;
 use crate::systems::{is_system, kind_for, may_carry};
 use just_attribute_tree::{Attribute, AttributeKind};
 use just_text::{CompileError, CompileErrorKind, Name, Os, Text};
-use just_tree::ItemKind;
 use std::alloc::{AllocError, Global};
-use std::{slice, vec};
+use std::{fmt, slice, vec};
 
 /// The attributes of an item in their order: by name, then by printed arguments, then as they were
 /// given.
@@ -52,6 +52,7 @@ impl<'src> AttributeSet<'src> {
         self.items.len()
     }
 
+    /// Whether there is no attribute.
     pub fn is_empty(&self) -> bool
         ensures { IsTrue result ↔ (items_of self.now ≡ []) }
     {
@@ -160,7 +161,7 @@ impl<'src> AttributeSet<'src> {
 
     /// Whether an item of this kind and name may carry each of the attributes. The first that it may
     /// not carry is refused as `InvalidAttribute`, with the attribute's name and the item's, at the
-    /// item's name.
+    /// item's name; want of memory for that refusal as `OutOfMemory`.
     pub fn ensure_valid_attributes(
         &self,
         alloc: Global,
@@ -177,6 +178,23 @@ impl<'src> AttributeSet<'src> {
         let item_name = Text::from_text(alloc, name.lexeme())?;
         let kind = CompileErrorKind::InvalidAttribute(attribute, item_name);
         Err(name.token.error(kind))
+    }
+}
+
+/// One attribute a line.
+impl fmt::Display for AttributeSet<'_> {
+    ghost use Rattle.just_attribute_tree.specs.Attributes.{attributes_text};
+    ghost use Rattle.just_attributes.specs.Sets.{shapes_in};
+
+    ghost output = { λ set. Some (attributes_text (shapes_in set)) };
+
+    #[tactic(auto, using(crate::proofs::TextsInRow::texts_next))]
+    fn fmt<W: fmt::Write>(&self, f: &mut fmt::Formatter<W>) -> fmt::Result {
+        for item in &self.items {
+            let attribute = &item.attribute;
+            write!(f, "[{attribute}]\n")?;
+        }
+        Ok(())
     }
 }
 

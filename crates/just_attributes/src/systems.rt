@@ -2,9 +2,9 @@
 ghost use Rattle.std.specs.Prelude.{◌≡◌};
 ghost use Rattle.just_attributes.specs.Sets as spec;
 
+use crate::item_kind::ItemKind;
 use just_attribute_tree::AttributeKind;
 use just_text::Os;
-use just_tree::ItemKind;
 
 /// Whether the attribute names an operating system or a family of them.
 pub fn is_system(kind: AttributeKind) -> bool

@@ -11,7 +11,7 @@ use Rattle.just_expression_tree.specs.declared.expression.Expression.{Expression
 use Rattle.just_expression_tree.specs.Shape.{Shapes, end, more, shape_of, shapes_of}
 use Rattle.just_expressions.specs.declared.fault.Fault.{Fault}
 use Rattle.just_expressions.specs.declared.fault.Fault.TheVariants as faults
-use Rattle.just_expressions.specs.Literals.{Expansion, texts_of, cooked_in, cooked_in_all, IsCooked, AreCooked}
+use Rattle.just_expressions.specs.Literals.{Expansion, held_by, cooked_in, cooked_in_all, IsCooked, AreCooked}
 use Rattle.just_expressions.specs.Reading.{◌>>=◌, Read, Fails, accept, expect, elements_at, expression_at}
 use Rattle.just_expressions.proofs.Shorter.{accept_shorter, expression_shorter}
 
@@ -73,15 +73,15 @@ module _ (x : Expansion) (d : ℕ) (close : TokenKind) (fs : List Expression) (n
 
 cooked_behind : (x : Expansion) (fs : List Expression) (e : Expression) → cooked_in_all x (shapes_of (fs ++ e ∷ [])) ≡ cooked_in_all x (shapes_of fs) ++ cooked_in x (shape_of e)
 cooked_behind x [] e = append-nil (cooked_in x (shape_of e))
-cooked_behind x (f ∷ fs) e = ap (λ texts. cooked_in x (shape_of f) ++ texts) (cooked_behind x fs e) ∙ sym (append_assoc (cooked_in x (shape_of f)) (cooked_in_all x (shapes_of fs)) (cooked_in x (shape_of e)))
+cooked_behind x (f ∷ fs) e = ap (λ held. cooked_in x (shape_of f) ++ held) (cooked_behind x fs e) ∙ sym (append_assoc (cooked_in x (shape_of f)) (cooked_in_all x (shapes_of fs)) (cooked_in x (shape_of e)))
 
-texts_behind : (fs : List Expression) (e : Expression) → flat_map texts_of (fs ++ e ∷ []) ≡ flat_map texts_of fs ++ texts_of e
-texts_behind [] e = append-nil (texts_of e)
-texts_behind (f ∷ fs) e = ap (λ texts. texts_of f ++ texts) (texts_behind fs e) ∙ sym (append_assoc (texts_of f) (flat_map texts_of fs) (texts_of e))
+held_behind : (fs : List Expression) (e : Expression) → flat_map held_by (fs ++ e ∷ []) ≡ flat_map held_by fs ++ held_by e
+held_behind [] e = append-nil (held_by e)
+held_behind (f ∷ fs) e = ap (λ held. held_by f ++ held) (held_behind fs e) ∙ sym (append_assoc (held_by f) (flat_map held_by fs) (held_by e))
 
 -- a row with one element more holds what its strings stand for
 pub one_more_cooked : (x : Expansion) (fs : List Expression) (e : Expression) → AreCooked x fs → IsCooked x e → AreCooked x (fs ++ e ∷ [])
-one_more_cooked x fs e these this = texts_behind fs e ∙ ap (λ texts. texts ++ texts_of e) these ∙ ap (λ texts. cooked_in_all x (shapes_of fs) ++ texts) this ∙ sym (cooked_behind x fs e)
+one_more_cooked x fs e these this = held_behind fs e ∙ ap (λ held. held ++ held_by e) these ∙ ap (λ held. cooked_in_all x (shapes_of fs) ++ held) this ∙ sym (cooked_behind x fs e)
 
 -- what an option that is not none took
 pub taken : (kind : TokenKind) (ts : List Token) (o : Option Token) (rest : List Token) → accept word_of kind ts ≡ option_map (λ t. (t, rest)) o → IsSome o → (t : Token) × (accept word_of kind ts ≡ Some (t, rest))

@@ -9,7 +9,7 @@ use Rattle.just_expression_tree.specs.declared.expression.Expression.{Expression
 use Rattle.just_expression_tree.specs.Shape.{Holes, closed, hole, shape_of, holes_of, written}
 use Rattle.just_expressions.specs.declared.fault.Fault.{Fault}
 use Rattle.just_expressions.specs.declared.fault.Fault.TheVariants as faults
-use Rattle.just_expressions.specs.Literals.{Expansion, texts_of, cooked_in, cooked_in_holes, text_or_none, hole_texts, IsCooked, AreHolesCooked}
+use Rattle.just_expressions.specs.Literals.{Expansion, cooked_in, cooked_in_holes, held_by, held_by_holes, of_string, string_held, text_or_none, IsCooked, AreHolesCooked}
 use Rattle.just_expressions.specs.Reading.{◌>>=◌, Read, Fails, part_at, hole_at, holes_at, expression_at}
 use Rattle.just_expressions.proofs.Shorter.{expression_shorter, part_shorter}
 
@@ -66,24 +66,24 @@ module _ (x : Expansion) (d : ℕ) (kind : StringKind) (fs : List (Expression ×
   unfolding holes_at hole_at
   more_holes e a s b read part = sym (regroup_holes fs e s (holes_at word_of x (expression_at word_of x d) (n - 1) kind b)) ∙ (rw (read, part) at next_hole)
 
--- the texts of interpolations, the last apart
-hole_texts_behind : (fs : List (Expression × StringLiteral)) (e : Expression) (s : StringLiteral)
-    → hole_texts (map (λ f. (texts_of f.0, f.1)) (fs ++ (e, s) ∷ [])) ≡ hole_texts (map (λ f. (texts_of f.0, f.1)) fs) ++ (texts_of e ++ s.cooked ∷ [])
-hole_texts_behind [] e s = refl
-hole_texts_behind (f ∷ fs) e s = rw (hole_texts_behind fs e s) (sym (append_assoc (texts_of f.0) (f.1.cooked ∷ hole_texts (map (λ f. (texts_of f.0, f.1)) fs)) (texts_of e ++ s.cooked ∷ [])))
+-- what interpolations hold, the last apart
+held_behind : (fs : List (Expression × StringLiteral)) (e : Expression) (s : StringLiteral)
+    → held_by_holes (map (λ f. (held_by f.0, f.1)) (fs ++ (e, s) ∷ [])) ≡ held_by_holes (map (λ f. (held_by f.0, f.1)) fs) ++ (held_by e ++ string_held s ∷ [])
+held_behind [] e s = refl
+held_behind (f ∷ fs) e s = rw (held_behind fs e s) (sym (append_assoc (held_by f.0) (string_held f.1 ∷ held_by_holes (map (λ f. (held_by f.0, f.1)) fs)) (held_by e ++ string_held s ∷ [])))
 
-cooked_holes_behind : (x : Expansion) (kind : StringKind) (fs : List (Expression × StringLiteral)) (e : Expression) (s : StringLiteral)
-    → cooked_in_holes x kind (holes_of (fs ++ (e, s) ∷ [])) ≡ cooked_in_holes x kind (holes_of fs) ++ (cooked_in x (shape_of e) ++ text_or_none (cooked_part kind (written s)) ∷ [])
-cooked_holes_behind x kind [] e s = refl
-cooked_holes_behind x kind (f ∷ fs) e s =
-    rw (cooked_holes_behind x kind fs e s) (sym (append_assoc (cooked_in x (shape_of f.0)) (text_or_none (cooked_part kind (written f.1)) ∷ cooked_in_holes x kind (holes_of fs)) (cooked_in x (shape_of e) ++ text_or_none (cooked_part kind (written s)) ∷ [])))
+cooked_behind : (x : Expansion) (kind : StringKind) (fs : List (Expression × StringLiteral)) (e : Expression) (s : StringLiteral)
+    → cooked_in_holes x kind (holes_of (fs ++ (e, s) ∷ [])) ≡ cooked_in_holes x kind (holes_of fs) ++ (cooked_in x (shape_of e) ++ of_string kind (text_or_none (cooked_part kind (written s))) ∷ [])
+cooked_behind x kind [] e s = refl
+cooked_behind x kind (f ∷ fs) e s =
+    rw (cooked_behind x kind fs e s) (sym (append_assoc (cooked_in x (shape_of f.0)) (of_string kind (text_or_none (cooked_part kind (written f.1))) ∷ cooked_in_holes x kind (holes_of fs)) (cooked_in x (shape_of e) ++ of_string kind (text_or_none (cooked_part kind (written s))) ∷ [])))
 
 -- with one interpolation more they hold what their parts and strings stand for
 pub one_more_hole_cooked : (x : Expansion) (kind : StringKind) (fs : List (Expression × StringLiteral)) (e : Expression) (s : StringLiteral)
-    → AreHolesCooked x kind fs → IsCooked x e → cooked_part kind (written s) ≡ Ok s.cooked → AreHolesCooked x kind (fs ++ (e, s) ∷ [])
-one_more_hole_cooked x kind fs e s these this part =
-    let other : cooked_in x (shape_of e) ++ text_or_none (cooked_part kind (written s)) ∷ [] ≡ texts_of e ++ s.cooked ∷ [] = rw (part, ← this) refl in
-    hole_texts_behind fs e s ∙ ap (λ texts. texts ++ (texts_of e ++ s.cooked ∷ [])) these ∙ sym (cooked_holes_behind x kind fs e s ∙ ap (λ texts. cooked_in_holes x kind (holes_of fs) ++ texts) other)
+    → AreHolesCooked x kind fs → IsCooked x e → cooked_part kind (written s) ≡ Ok s.cooked → s.kind ≡ kind → AreHolesCooked x kind (fs ++ (e, s) ∷ [])
+one_more_hole_cooked x kind fs e s these this part of_kind =
+    let other : cooked_in x (shape_of e) ++ of_string kind (text_or_none (cooked_part kind (written s))) ∷ [] ≡ held_by e ++ string_held s ∷ [] = rw (part, of_kind, ← this) refl in
+    held_behind fs e s ∙ ap (λ held. held ++ (held_by e ++ string_held s ∷ [])) these ∙ sym (cooked_behind x kind fs e s ∙ ap (λ held. cooked_in_holes x kind (holes_of fs) ++ held) other)
 
 pub hole_shorter : (x : Expansion) (d : ℕ) (kind : StringKind) (e : Expression) (ts a : List Token) (s : List ℕ × Bool) (b : List Token) → expression_at word_of x d 6 ts ≡ Ok (shape_of e, a) → part_at word_of kind a ≡ Ok (s, b) → length b < length ts
 hole_shorter x d kind e ts a s b read part =

@@ -1,6 +1,7 @@
--- What the strings, parts of format strings and commands of an expression stand for.
+-- What an expression holds beside its shape, and what the strings, parts of format strings and commands in it stand for.
 use Rattle.std.specs.Prelude.{ℕ, ◌≡◌, Bool, List, [], ◌∷◌, ◌++◌, map, Option, Some, None, Result, Ok, Err, codes}
 use Rattle.std.specs.List.{flat_map}
+use Rattle.just_text.specs.Tokens.{lexeme}
 use Rattle.just_text.specs.declared.compile_error.CompileErrorKind.{CompileErrorKind}
 use Rattle.just_strings.specs.declared.string_literal.StringLiteral.{StringLiteral}
 use Rattle.just_strings.specs.declared.string_kind.StringKind.{StringKind}
@@ -11,6 +12,7 @@ use Rattle.just_strings.specs.Parts.{cooked_part}
 use Rattle.just_expression_tree.specs.declared.expression.Expression.{Expression, fold-Expression}
 use Rattle.just_expression_tree.specs.declared.expression.Expression.TheOpen.{Expression-F}
 use Rattle.just_expression_tree.specs.Shape.{Shape, Shapes, Holes, literal, command as command_shape, format, variable, call, assertion, assertion_alone, group, listing, choice, choice_alone, negation, rooted, binary, end, more, closed, hole, shape_of, shapes_of, holes_of}
+use Rattle.just_expressions.specs.Words.{assert_keyword}
 
 -- what `x` makes of a text, or the refusal's text
 abbrev pub Expansion : Type 0
@@ -36,17 +38,26 @@ abbrev pub text_or_none : Result (List ℕ) CompileErrorKind → List ℕ
 text_or_none (Ok text) = text
 text_or_none (Err kind) = []
 
+-- what an expression holds of its words
+pub data Held : Type 0 where
+  -- the kind and the cooked text of a string, or of a part of a format string
+  of_string : StringKind → List ℕ → Held
+  -- the text of a command
+  of_command : List ℕ → Held
+  -- the name of an assertion
+  of_assertion : List ℕ → Held
+
 module _ (expansion : Expansion) where
   abbrev mutual
-    -- the cooked texts of an expression, in order: of strings, parts and commands
-    pub cooked_in : Shape → List (List ℕ)
-    cooked_in (literal s) = text_or_none (cooked expansion s) ∷ []
-    cooked_in (command_shape s) = command s ∷ []
-    cooked_in (format s hs) = text_or_none (cooked_part (kind_of s) s) ∷ cooked_in_holes (kind_of s) hs
+    -- what an expression of that shape is to hold, in order
+    pub cooked_in : Shape → List Held
+    cooked_in (literal s) = of_string (kind_of s) (text_or_none (cooked expansion s)) ∷ []
+    cooked_in (command_shape s) = of_command (command s) ∷ []
+    cooked_in (format s hs) = of_string (kind_of s) (text_or_none (cooked_part (kind_of s) s)) ∷ cooked_in_holes (kind_of s) hs
     cooked_in (variable x) = []
     cooked_in (call f es) = cooked_in_all es
-    cooked_in (assertion c m) = cooked_in c ++ cooked_in m
-    cooked_in (assertion_alone c) = cooked_in c
+    cooked_in (assertion c m) = of_assertion assert_keyword ∷ cooked_in c ++ cooked_in m
+    cooked_in (assertion_alone c) = of_assertion assert_keyword ∷ cooked_in c
     cooked_in (group e) = cooked_in e
     cooked_in (listing es) = cooked_in_all es
     cooked_in (choice c t o) = cooked_in c ++ cooked_in t ++ cooked_in o
@@ -55,58 +66,63 @@ module _ (expansion : Expansion) where
     cooked_in (rooted e) = cooked_in e
     cooked_in (binary operator l r) = cooked_in l ++ cooked_in r
 
-    pub cooked_in_all : Shapes → List (List ℕ)
+    pub cooked_in_all : Shapes → List Held
     cooked_in_all end = []
     cooked_in_all (more e es) = cooked_in e ++ cooked_in_all es
 
-    pub cooked_in_holes : StringKind → Holes → List (List ℕ)
+    -- each part behind an interpolation has the kind of the format string
+    pub cooked_in_holes : StringKind → Holes → List Held
     cooked_in_holes kind closed = []
-    cooked_in_holes kind (hole e part hs) = cooked_in e ++ text_or_none (cooked_part kind part) ∷ cooked_in_holes kind hs
+    cooked_in_holes kind (hole e part hs) = cooked_in e ++ of_string kind (text_or_none (cooked_part kind part)) ∷ cooked_in_holes kind hs
 
--- the texts of the interpolations of a format string, each with that of the part behind it
-abbrev pub hole_texts : List (List (List ℕ) × StringLiteral) → List (List ℕ)
-hole_texts [] = []
-hole_texts ((texts, part) ∷ others) = texts ++ part.cooked ∷ hole_texts others
+-- the kind and the text that a string holds
+abbrev pub string_held : StringLiteral → Held
+string_held s = of_string s.kind s.cooked
 
--- one level, with the texts of each expression inside
-abbrev pub texts_step : Expression-F (List (List ℕ)) → List (List ℕ)
-texts_step (Expression-F.And l r) = l.value ++ r.value
-texts_step (Expression-F.Assert c None name) = c.value
-texts_step (Expression-F.Assert c (Some m) name) = c.value ++ m.value
-texts_step (Expression-F.Backtick contents token) = contents ∷ []
-texts_step (Expression-F.Call name es) = flat_map (λ texts. texts) es.items
-texts_step (Expression-F.Comparison l operator r token) = l.value ++ r.value
-texts_step (Expression-F.Concatenation l token r) = l.value ++ r.value
-texts_step (Expression-F.Conditional c t None) = c.value ++ t.value
-texts_step (Expression-F.Conditional c t (Some o)) = c.value ++ t.value ++ o.value
-texts_step (Expression-F.FormatString start es) = start.cooked ∷ hole_texts es.items
-texts_step (Expression-F.Group e) = e.value
-texts_step (Expression-F.Join None token r) = r.value
-texts_step (Expression-F.Join (Some l) token r) = l.value ++ r.value
-texts_step (Expression-F.List es token) = flat_map (λ texts. texts) es.items
-texts_step (Expression-F.ListConcatenation l token r) = l.value ++ r.value
-texts_step (Expression-F.Not e) = e.value
-texts_step (Expression-F.Or l r) = l.value ++ r.value
-texts_step (Expression-F.StringLiteral s) = s.cooked ∷ []
-texts_step (Expression-F.Variable name number) = []
+-- what the interpolations of a format string hold, each with the part behind it
+abbrev pub held_by_holes : List (List Held × StringLiteral) → List Held
+held_by_holes [] = []
+held_by_holes ((inside, part) ∷ others) = inside ++ string_held part ∷ held_by_holes others
 
--- the cooked texts that an expression holds, in order
-abbrev pub texts_of : Expression → List (List ℕ)
-texts_of = fold-Expression (List (List ℕ)) texts_step
+-- one level, with what each expression inside holds
+abbrev pub held_step : Expression-F (List Held) → List Held
+held_step (Expression-F.And l r) = l.value ++ r.value
+held_step (Expression-F.Assert c None name) = of_assertion (lexeme name.token) ∷ c.value
+held_step (Expression-F.Assert c (Some m) name) = of_assertion (lexeme name.token) ∷ c.value ++ m.value
+held_step (Expression-F.Backtick contents token) = of_command contents ∷ []
+held_step (Expression-F.Call name es) = flat_map (λ inside. inside) es.items
+held_step (Expression-F.Comparison l operator r token) = l.value ++ r.value
+held_step (Expression-F.Concatenation l token r) = l.value ++ r.value
+held_step (Expression-F.Conditional c t None) = c.value ++ t.value
+held_step (Expression-F.Conditional c t (Some o)) = c.value ++ t.value ++ o.value
+held_step (Expression-F.FormatString start es) = string_held start ∷ held_by_holes es.items
+held_step (Expression-F.Group e) = e.value
+held_step (Expression-F.Join None token r) = r.value
+held_step (Expression-F.Join (Some l) token r) = l.value ++ r.value
+held_step (Expression-F.List es token) = flat_map (λ inside. inside) es.items
+held_step (Expression-F.ListConcatenation l token r) = l.value ++ r.value
+held_step (Expression-F.Not e) = e.value
+held_step (Expression-F.Or l r) = l.value ++ r.value
+held_step (Expression-F.StringLiteral s) = string_held s ∷ []
+held_step (Expression-F.Variable name number) = []
 
--- the cooked texts of an expression, if there is one
-abbrev pub texts_if : Option Expression → List (List ℕ)
-texts_if None = []
-texts_if (Some e) = texts_of e
+-- what an expression holds, in order
+abbrev pub held_by : Expression → List Held
+held_by = fold-Expression (List Held) held_step
 
--- the expression holds what its strings, parts and commands stand for
+-- what an expression holds, if there is one
+abbrev pub held_if : Option Expression → List Held
+held_if None = []
+held_if (Some e) = held_by e
+
+-- the strings, parts and commands of the expression hold what they stand for, strings and parts are of their kinds, and assertions are named `assert`
 abbrev pub IsCooked : Expansion → Expression → Type 0
-IsCooked expansion e = texts_of e ≡ cooked_in expansion (shape_of e)
+IsCooked expansion e = held_by e ≡ cooked_in expansion (shape_of e)
 
 -- the same of a row of expressions
 abbrev pub AreCooked : Expansion → List Expression → Type 0
-AreCooked expansion es = flat_map texts_of es ≡ cooked_in_all expansion (shapes_of es)
+AreCooked expansion es = flat_map held_by es ≡ cooked_in_all expansion (shapes_of es)
 
 -- the same of the interpolations of a format string of this kind, and of the parts behind them
 abbrev pub AreHolesCooked : Expansion → StringKind → List (Expression × StringLiteral) → Type 0
-AreHolesCooked expansion kind es = hole_texts (map (λ e. (texts_of e.0, e.1)) es) ≡ cooked_in_holes expansion kind (holes_of es)
+AreHolesCooked expansion kind es = held_by_holes (map (λ e. (held_by e.0, e.1)) es) ≡ cooked_in_holes expansion kind (holes_of es)

@@ -1,10 +1,11 @@
 //! A parser of expressions by recursive descent, no deeper than their levels.
-ghost use Rattle.std.specs.Prelude.{Err, IfOk, IfSome, List, length, suc};
+ghost use Rattle.std.specs.Prelude.{◌≡◌, Err, IfOk, IfSome, List, length, suc};
 ghost use Rattle.just_text.specs.Tokens.{word_of, lexeme};
 ghost use Rattle.just_text.specs.declared.token.Token.{Token};
 ghost use Rattle.just_expression_tree.specs.Shape.{Shape, inner_shape, shape_of, shapes_of, holes_of};
 ghost use Rattle.just_expressions.specs.Literals.{AreCooked, AreHolesCooked, IsCooked};
 ghost use Rattle.just_expressions.specs.Reading.{Fails, Gives, ahead, first, too_deep, elements_at, holes_at, format_at, braces_at, otherwise_at, choice_at, closing_at, message_at, assertion_at, call_at, named_at, bracketed_at, primary_at, operand_at, expression_at};
+ghost use Rattle.just_expressions.specs.Words.{assert_keyword};
 
 use crate::cursor::Cursor;
 use crate::fault::Fault;
@@ -221,6 +222,7 @@ impl<'t, 'src> Cursor<'t, 'src> {
         name: Name<'src>,
         levels: u16,
     ) -> Result<Expression<'src>, Fault<'src>>
+        requires { lexeme name.token ≡ assert_keyword }
         ensures gives { Gives (λ e. (shape_of e, ahead self.new)) result (assertion_at word_of (E.expansion expander.now) (expression_at word_of (E.expansion expander.now) levels) (ahead self.old)) }
         ensures cooked { IfOk result (IsCooked (E.expansion expander.now)) }
     {

@@ -6,7 +6,7 @@ ghost use Rattle.just_strings.specs.Kinds.{kind_of};
 ghost use Rattle.just_strings.specs.Cooking.{cooked, command as cooked_command};
 ghost use Rattle.just_strings.specs.Parts.{cooked_part};
 ghost use Rattle.just_expressions.specs.declared.fault.Fault.TheVariants.{OutOfMemory, Refused};
-ghost use Rattle.just_expressions.specs.Literals.{is_open, texts_of};
+ghost use Rattle.just_expressions.specs.Literals.{held_by, is_open, of_command};
 ghost use Rattle.just_expressions.specs.Reading.{Gives, ahead, taken_if, command_at, part_at};
 ghost use Rattle.just_expression_tree.specs.Shape.{command, shape_of, written};
 
@@ -79,7 +79,7 @@ impl<'t, 'src> Cursor<'t, 'src> {
     pub(crate) fn command(&self, token: Token<'src>) -> Result<Expression<'src>, Fault<'src>>
         ensures gives { Gives (λ e. (shape_of e, ahead self.now)) result (command_at word_of token.entry (ahead self.now)) }
         ensures shape { IfOk result (λ e. shape_of e ≡ command (lexeme token.entry)) }
-        ensures texts { IfOk result (λ e. texts_of e ≡ cooked_command (lexeme token.entry) ∷ []) }
+        ensures held { IfOk result (λ e. held_by e ≡ of_command (cooked_command (lexeme token.entry)) ∷ []) }
     {
         let contents = command_text(self.alloc, token.lexeme())?;
         if is_shebang(contents.as_str()) {
@@ -96,6 +96,7 @@ impl<'t, 'src> Cursor<'t, 'src> {
     ) -> Result<(StringLiteral<'src>, bool), Fault<'src>>
         ensures gives { Gives (λ p. ((written p.0, p.1), ahead self.new)) result (part_at word_of kind (ahead self.old)) }
         ensures cooked { IfOk result (λ p. cooked_part kind (written p.0) ≡ Ok p.0.cooked) }
+        ensures kind { IfOk result (λ p. p.0.kind ≡ kind) }
     {
         if let Some(token) = self.accept(TokenKind::FormatStringContinue) {
             return Ok((format_part(self.alloc, kind, token)?, true));

@@ -1,8 +1,9 @@
 //! Expressions put together from their parts.
-ghost use Rattle.std.specs.Prelude.{◌≡◌, ◌++◌, option_map};
+ghost use Rattle.std.specs.Prelude.{◌≡◌, ◌∷◌, ◌++◌, option_map};
+ghost use Rattle.just_text.specs.Tokens.{lexeme};
 ghost use Rattle.just_expression_tree.specs.Shape as shape;
 ghost use Rattle.just_expression_tree.specs.Shape.{inner_shape, shape_of};
-ghost use Rattle.just_expressions.specs.Literals.{texts_if, texts_of};
+ghost use Rattle.just_expressions.specs.Literals.{held_by, held_if, of_assertion};
 ghost use Rattle.just_expressions.specs.Reading.{asserted, chosen, prefixed as prefixed_shape};
 ghost use Rattle.just_expressions.specs.Seen.{operator_seen, prefix_seen};
 
@@ -18,7 +19,7 @@ pub(crate) fn binary<'src>(
     rhs: Box<Expression<'src>>,
 ) -> Expression<'src>
     ensures shape { shape_of result ≡ shape.binary (operator_seen operator) (shape_of lhs.entry.value) (shape_of rhs.entry.value) }
-    ensures texts { texts_of result ≡ texts_of lhs.entry.value ++ texts_of rhs.entry.value }
+    ensures held { held_by result ≡ held_by lhs.entry.value ++ held_by rhs.entry.value }
 {
     match operator {
         Operator::Or => Expression::Or { lhs, rhs },
@@ -54,7 +55,7 @@ pub(crate) fn prefixed<'src>(
     operand: Box<Expression<'src>>,
 ) -> Expression<'src>
     ensures shape { shape_of result ≡ prefixed_shape (prefix_seen prefix) (shape_of operand.entry.value) }
-    ensures texts { texts_of result ≡ texts_of operand.entry.value }
+    ensures held { held_by result ≡ held_by operand.entry.value }
 {
     match prefix {
         Prefix::Not => Expression::Not { operand },
@@ -73,7 +74,7 @@ pub(crate) fn assertion<'src>(
     message: Option<Box<Expression<'src>>>,
 ) -> Expression<'src>
     ensures shape { shape_of result ≡ asserted (shape_of condition.entry.value) (inner_shape message.entry) }
-    ensures texts { texts_of result ≡ texts_of condition.entry.value ++ texts_if (option_map (λ m. m.value) message.entry) }
+    ensures held { held_by result ≡ of_assertion (lexeme name.entry.token) ∷ held_by condition.entry.value ++ held_if (option_map (λ m. m.value) message.entry) }
 {
     Expression::Assert {
         condition,
@@ -89,7 +90,7 @@ pub(crate) fn conditional<'src>(
     otherwise: Option<Box<Expression<'src>>>,
 ) -> Expression<'src>
     ensures shape { shape_of result ≡ chosen (shape_of condition.entry.value) (shape_of then.entry.value) (inner_shape otherwise.entry) }
-    ensures texts { texts_of result ≡ texts_of condition.entry.value ++ texts_of then.entry.value ++ texts_if (option_map (λ o. o.value) otherwise.entry) }
+    ensures held { held_by result ≡ held_by condition.entry.value ++ held_by then.entry.value ++ held_if (option_map (λ o. o.value) otherwise.entry) }
 {
     Expression::Conditional {
         condition,

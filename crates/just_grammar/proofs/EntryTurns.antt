@@ -1,7 +1,7 @@
 -- What the items that a loop has read and the entries that it still reads say together.
 use Rattle.std.proofs.Common.{◌≡◌, ℕ, zero, suc, ◌-◌, ◌<◌, List, [], ◌∷◌, ◌++◌, length, map, replicate, Result, Ok, Err, Option, Some, None, refl, sym, ap, subst, ◌∙◌, inl, inr, arith, append_assoc}
 use Rattle.std.proofs.lemmas.List.{append-nil, map-append}
-use Rattle.std.specs.Prelude.{option_map, IfNone, IsSome}
+use Rattle.std.specs.Prelude.{false, is_some, option_map, IfNone, IsSome}
 use Rattle.just_text.specs.Tokens.{word_of}
 use Rattle.just_text.specs.declared.token.Token.{Token}
 use Rattle.just_text.specs.declared.token_kind.TokenKind.TheVariants.{ByteOrderMark, Eof}
@@ -104,3 +104,8 @@ entry_fewer expansion current ends attributed ts e rest h =
 pub taken : (ts : List Token) (o : Option Token) (rest : List Token) → accept word_of Eof ts ≡ option_map (λ t. (t, rest)) o → IsSome o → (t : Token) × (accept word_of Eof ts ≡ Some (t, rest))
 taken ts None rest h some = absurd cc
 taken ts (Some t) rest h some = (t, h)
+
+-- where no token is taken the file doesn't end, and all stays
+pub not_ended : (ts : List Token) (o : Option Token) (rest : List Token) → accept word_of Eof ts ≡ option_map (λ t. (t, rest)) o → IfNone o (rest ≡ ts) → is_some o ≡ false → (accept word_of Eof ts ≡ None) × (rest ≡ ts)
+not_ended ts None rest h same none = (h, same)
+not_ended ts (Some t) rest h same none = absurd cc

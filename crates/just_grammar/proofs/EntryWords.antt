@@ -11,6 +11,7 @@ use Rattle.just_expressions.specs.Words.{is_kind, Lacks}
 use Rattle.just_expressions.specs.Literals.{Expansion}
 use Rattle.just_expressions.proofs.Starts.{shorter}
 use Rattle.just_attribute_lines.specs.Rows.{Follow}
+use Rattle.just_attributes.specs.Order.{in_order}
 use Rattle.just_attribute_lines.specs.Lines.{IsAttribute, IsBetween, IsLast, AreAttributes}
 use Rattle.just_attribute_lines.proofs.Rest.{closes_takes, between_takes, attribute_takes, line_end_takes}
 use Rattle.just_recipes.proofs.RecipeTaken.{front_shorter, mark_shorter, lacks}
@@ -119,7 +120,7 @@ module _ (expansion : Expansion) where
     bare_no_line as' other blanks ws rest h = refl
 
     no_line : (i : ItemShape) (blanks : ℕ) (ws rest : List Word) → IsAttributed expansion current i blanks ws rest → is_line i ≡ false
-    no_line i blanks ws rest h = ap is_line h.whole ∙ bare_no_line h.attributes h.bare blanks h.behind rest h.item
+    no_line i blanks ws rest h = ap is_line h.whole ∙ bare_no_line (in_order h.attributes) h.bare blanks h.behind rest h.item
 
     pub entry : (i : ItemShape) (blanks : ℕ) (ws rest : List Word) → IsAttributed expansion current i blanks ws rest → IsEntry expansion current (i, blanks) ws rest
     entry newline_item blanks ws rest h = let p = no_line newline_item blanks ws rest h in absurd cc

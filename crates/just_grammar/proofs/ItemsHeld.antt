@@ -4,6 +4,7 @@ use Rattle.std.proofs.lemmas.List.Elements.{All-append, All-cons, All-nil, All-r
 use Rattle.std.specs.List.{All}
 use Rattle.just_tree.specs.declared.ast.Item.{Item}
 use Rattle.just_tree.specs.declared.ast.Item.TheVariants.{Newline}
+use Rattle.just_attributes.specs.declared.attribute_item.AttributeItem.{AttributeItem}
 use Rattle.just_attribute_lines.specs.Cooked.{IsCookedAttribute}
 use Rattle.just_attributed_items.specs.Held.{IsItemCooked}
 use Rattle.just_expressions.specs.Literals.{Expansion}
@@ -15,4 +16,4 @@ pub one_held : (P : Item → Type 0) → P Newline → (items : List Item) (i : 
 one_held P of_blank items i blanks these this = All-append P items (i ∷ replicate blanks Newline) these (All-cons P i (replicate blanks Newline) this (All-replicate P blanks Newline of_blank))
 
 pub blank_cooked : (expansion : Expansion) → IsItemCooked expansion Newline
-blank_cooked expansion = record { attributes = All-nil (IsCookedAttribute expansion); inside = tt }
+blank_cooked expansion = record { attributes = All-nil (λ (item : AttributeItem). IsCookedAttribute expansion item.attribute); inside = tt }

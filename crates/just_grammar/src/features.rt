@@ -1,24 +1,12 @@
 //! The features of a file that must be asked for.
 ghost use Rattle.std.specs.Prelude.{◌≡◌, IfOk};
 ghost use Rattle.std.specs.List.{list_any};
-ghost use Rattle.just_attribute_tree.specs.declared.attribute.AttributeKind.TheVariants.{Cache};
-ghost use Rattle.just_attribute_tree.specs.Attributes.{attribute_shape};
 ghost use Rattle.just_tree.specs.Files.{item_shape, item_shapes};
-ghost use Rattle.just_attributes.specs.Sets.{has_kind};
 ghost use Rattle.just_grammar.specs.Features.{features_of, is_cached, is_function, sets_lists};
 
-use just_attribute_tree::Attribute;
+use just_attribute_tree::AttributeKind;
 use just_tree::{Item, UnstableFeature};
 use std::alloc::{AllocError, Global};
-
-/// Whether one of the attributes is `cache`.
-fn has_cache(attributes: &[Attribute]) -> bool
-    ensures { result ≡ list_any (λ attribute. has_kind Cache (attribute_shape attribute)) attributes.now }
-{
-    attributes
-        .iter()
-        .any(|attribute| attribute.name() == "cache")
-}
 
 /// Whether the item is a recipe with `[cache]`.
 #[tactic(auto, using(crate::proofs::AnyShape::any_shape))]
@@ -26,7 +14,7 @@ fn is_cached(item: &Item) -> bool
     ensures { result ≡ is_cached (item_shape item.now) }
 {
     match item {
-        Item::Recipe(recipe) => has_cache(&recipe.attributes),
+        Item::Recipe(recipe) => recipe.attributes.contains(AttributeKind::Cache),
         _ => false,
     }
 }

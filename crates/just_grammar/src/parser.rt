@@ -43,7 +43,8 @@ impl Parser {
         ensures only { (items : List ItemShape) → Derives (E.expansion expander.now) version.now (words_of tokens.now) items → GivesItems (AreUsed numerator.new) result items }
         // Where tokens are refused nothing is derived.
         ensures fault { IfErr result (λ e. RefusalHolds (AreUsed numerator.new) (E.expansion expander.now) version.now (words_of tokens.now) e.kind) }
-        // The refusal is the first that reading meets, at its token.
+        // The refusal is the first that reading meets, at its token; where attributes and parameters break a rule
+        // together, its kind alone.
         ensures reason { IfErr result (λ e. IsReason (E.expansion expander.now) version.now tokens.now e.token e.kind) }
         ensures numbers { IfOk result (λ ast. AreInOrder numerator.old numerator.new ast.items.items) }
         ensures whole { IfOk result (IsWhole (E.expansion expander.now)) }
@@ -73,7 +74,8 @@ impl Parser {
         ensures only { (items : List ItemShape) → Reads (E.expansion expander.now) version.now src.now items → GivesItems (AreUsed numerator.new) result items }
         // A refusal holds of the text, which says nothing then.
         ensures refused { IfErr result (λ e. IsRefusal (E.expansion expander.now) version.now (AreUsed numerator.new) src.now e.kind) }
-        // It stands at the lexer's fault, or at the token where reading halts.
+        // It stands at the lexer's fault, or at the token where reading halts; at which token attributes and
+        // parameters break a rule together is not told.
         ensures place { IfErr result (λ e. Stands (E.expansion expander.now) version.now path.now src.now e.token e.kind) }
         ensures numbers { IfOk result (λ ast. AreInOrder numerator.old numerator.new ast.items.items) }
         ensures whole { IfOk result (IsWhole (E.expansion expander.now)) }

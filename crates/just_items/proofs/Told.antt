@@ -3,8 +3,8 @@ use Rattle.std.proofs.Common.{◌≡◌, ℕ, true, false, ◌&&◌, List, map, 
 use Rattle.std.specs.Str.{bytes_eq}
 use Rattle.just_text.specs.Tokens.{Word}
 use Rattle.just_text.specs.declared.token_kind.TokenKind.TheVariants.{ColonEquals, Identifier, ParenL, QuestionMark, StringToken}
-use Rattle.just_tree.specs.declared.ast.ItemKind.{ItemKind}
-use Rattle.just_tree.specs.declared.ast.ItemKind.TheVariants.{Alias, Assignment, Import, Module, Unexport}
+use Rattle.just_attributes.specs.declared.item_kind.ItemKind.{ItemKind}
+use Rattle.just_attributes.specs.declared.item_kind.ItemKind.TheVariants.{Alias, Assignment, Import, Module, Unexport}
 use Rattle.just_expressions.specs.Words.{Begins}
 use Rattle.just_expressions.specs.Reading.{accept, is_next}
 use Rattle.just_expressions.proofs.Taken.{inspect, test, text_same, accept_is}

@@ -1,7 +1,7 @@
 -- What reading items and deriving them have to do with each other.
 use Rattle.std.specs.Prelude.{ℕ, ◌≡◌, List, map, Ok}
 use Rattle.just_text.specs.Tokens.{Word, word_of}
-use Rattle.just_tree.specs.declared.ast.ItemKind.TheVariants.{Recipe}
+use Rattle.just_attributes.specs.declared.item_kind.ItemKind.TheVariants.{Recipe}
 use Rattle.just_tree.specs.Files.{ItemShape}
 use Rattle.just_tree.specs.Recipes.{RecipeShape}
 use Rattle.just_expressions.specs.Literals.{Expansion}

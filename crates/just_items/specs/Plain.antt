@@ -2,6 +2,7 @@
 use Rattle.std.specs.Prelude.{ℕ, ◌≡◌, Bool, false, List, [], codes}
 use Rattle.just_text.specs.Tokens.{lexeme}
 use Rattle.just_strings.specs.Cutting.{begins}
+use Rattle.just_attributes.specs.Sets.{items_of}
 use Rattle.just_tree.specs.declared.ast.Item.{Item}
 use Rattle.just_tree.specs.declared.ast.Item.TheVariants.{Alias, Assignment, Module}
 use Rattle.just_expression_tree.specs.declared.expression.Expression.{Expression}
@@ -13,14 +14,14 @@ is_private name = begins name (codes "_")
 
 -- an assignment of the file that is read, which is private where its name begins with `_`
 pub record IsPlainAssignment (a : Binding Expression) : Type 0 where
-  pub attributes : a.attributes.items ≡ []
+  pub attributes : items_of a.attributes ≡ []
   pub file_depth : a.file_depth ≡ 0
   pub prelude : a.prelude ≡ false
   pub private : a.private ≡ is_private (lexeme a.name.token)
 
 -- the item has no attributes, and an assignment is one of the file that is read
 abbrev pub IsPlainItem : Item → Type 0
-IsPlainItem (Alias a) = a.attributes.items ≡ []
+IsPlainItem (Alias a) = items_of a.attributes ≡ []
 IsPlainItem (Assignment a) = IsPlainAssignment a
-IsPlainItem (Module m) = m.attributes.items ≡ []
+IsPlainItem (Module m) = items_of m.attributes ≡ []
 IsPlainItem other = Unit {0}

@@ -6,8 +6,8 @@ use Rattle.just_text.specs.declared.token.Token.{Token}
 use Rattle.just_text.specs.declared.compile_error.CompileErrorKind.TheVariants as kinds
 use Rattle.just_text.specs.declared.token_kind.TokenKind.TheVariants.{ColonEquals, Comma, Identifier, ParenL, ParenR, QuestionMark, StringToken}
 use Rattle.just_strings.specs.Cooking.{cooked}
-use Rattle.just_tree.specs.declared.ast.ItemKind.{ItemKind}
-use Rattle.just_tree.specs.declared.ast.ItemKind.TheVariants.{Alias, Assignment, Function, Import, Module, Recipe, Set, Unexport}
+use Rattle.just_attributes.specs.declared.item_kind.ItemKind.{ItemKind}
+use Rattle.just_attributes.specs.declared.item_kind.ItemKind.TheVariants.{Alias, Assignment, Function, Import, Module, Recipe, Set, Unexport}
 use Rattle.just_tree.specs.Files.{ItemShape, alias_item, assignment_item, function_item, import_item, module_item, unexport_item}
 use Rattle.just_tree.specs.Items.{AliasShape, AssignmentShape, FunctionShape, ImportShape, ModuleShape}
 use Rattle.just_expression_tree.specs.Shape.{Shape}

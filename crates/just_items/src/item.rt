@@ -4,6 +4,7 @@ ghost use Rattle.std.specs.Str.{bytes_eq};
 ghost use Rattle.just_text.specs.Tokens.{lexeme, word_of};
 ghost use Rattle.just_text.specs.declared.compile_error.CompileErrorKind.TheVariants as kinds;
 ghost use Rattle.just_text.specs.declared.token_kind.TokenKind.TheVariants.{Identifier};
+ghost use Rattle.just_attributes.specs.Sets.{items_of};
 ghost use Rattle.just_tree.specs.Files.{item_shape};
 ghost use Rattle.just_tree.specs.Items.{alias_shape, assignment_shape, function_shape, import_shape, module_shape, names_of, unexport_shape};
 ghost use Rattle.just_expression_tree.specs.Shape.{shape_of, written};
@@ -19,6 +20,7 @@ ghost use Rattle.just_items.specs.Plain.{IsPlainAssignment, IsPlainItem, is_priv
 ghost use Rattle.just_items.specs.Reading.{alias_at, assignment_at, file_at, function_at, import_at, item_of, module_at, names_at, new_name_at, string_at, unexport_at, value_at, words_at};
 
 use crate::kind::is_named_value;
+use just_attributes::{AttributeSet, ItemKind};
 use just_expression_tree::Expression;
 use just_expressions::{Cursor, Fault};
 use just_recipes::{end_of_line, ended, namepath, next_binding};
@@ -27,8 +29,8 @@ use just_text::{
     CompileError, CompileErrorKind, Expander, Name, Namepath, Numerator, Text, Token, TokenKind,
 };
 use just_tree::{
-    Alias, Assignment, Binding, FunctionDefinition, FunctionParameter, Import, Item, ItemKind,
-    Module, Unexport,
+    Alias, Assignment, Binding, FunctionDefinition, FunctionParameter, Import, Item, Module,
+    Unexport,
 };
 use std::alloc::Global;
 use std::collections::BTreeSet;
@@ -55,7 +57,7 @@ fn alias<'src>(
     cursor: &mut Cursor<'_, 'src>,
 ) -> Result<Alias<'src, Namepath<'src>>, Fault<'src>>
     ensures gives { Gives (λ a. (alias_shape a, ahead cursor.new)) result (alias_at word_of (ahead cursor.old)) }
-    ensures plain { IfOk result (λ a. a.attributes.items ≡ []) }
+    ensures plain { IfOk result (λ a. items_of a.attributes ≡ []) }
 {
     cursor.expect(TokenKind::Identifier)?;
     let name = name(cursor)?;
@@ -63,7 +65,7 @@ fn alias<'src>(
     let target = namepath(alloc, cursor)?;
     end_of_line(cursor)?;
     Ok(Alias {
-        attributes: Vec::new(alloc),
+        attributes: AttributeSet::new(alloc),
         name,
         target,
     })
@@ -147,7 +149,7 @@ fn assignment<'src, E: Expander>(
     let number = next_binding(numerator)?;
     let value = value(cursor, expander)?;
     Ok(Binding {
-        attributes: Vec::new(alloc),
+        attributes: AttributeSet::new(alloc),
         eager: words.eager,
         export: words.export,
         file_depth: 0,
@@ -311,7 +313,7 @@ fn submodule<'src, E: Expander>(
     expander: &E,
 ) -> Result<Module<'src>, Fault<'src>>
     ensures gives { Gives (λ m. (module_shape m, ahead cursor.new)) result (module_at word_of (E.expansion expander.now) (ahead cursor.old)) }
-    ensures plain { IfOk result (λ m. m.attributes.items ≡ []) }
+    ensures plain { IfOk result (λ m. items_of m.attributes ≡ []) }
     ensures cooked { IfOk result (λ m. IfSome m.path (IsCookedString (E.expansion expander.now))) }
 {
     cursor.expect(TokenKind::Identifier)?;
@@ -320,7 +322,7 @@ fn submodule<'src, E: Expander>(
     let path = file(alloc, cursor, expander)?;
     end_of_line(cursor)?;
     Ok(Module {
-        attributes: Vec::new(alloc),
+        attributes: AttributeSet::new(alloc),
         name,
         optional,
         path,

@@ -4,9 +4,9 @@ ghost use Rattle.just_text.specs.Tokens.{lexeme, word_of};
 ghost use Rattle.just_expressions.specs.Reading.{ahead};
 ghost use Rattle.just_items.specs.Reading.{ends_here, is_named_value, kind_at, kind_by_one, kind_by_two, kind_of_names, kind_of_value};
 
+use just_attributes::ItemKind;
 use just_expressions::Cursor;
 use just_text::TokenKind;
-use just_tree::ItemKind;
 
 /// Whether a line ends here.
 #[tactic(auto, unfolding(just_recipes::specs::RecipeReading::eol_at, just_expressions::specs::Reading::is_next))]

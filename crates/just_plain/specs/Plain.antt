@@ -1,6 +1,6 @@
 -- Which files are plain, and what they say: recipes whose dependencies are names and whose lines are texts that run as they stand.
 use Rattle.std.specs.Prelude.{ℕ, ◌==◌, Bool, true, false, not, ◌&&◌, ◌||◌, List, [], ◌∷◌, filter_map, Option, Some, None, codes, if◌then◌else◌}
-use Rattle.std.specs.List.{list_any, starts_with, ends_with}
+use Rattle.std.specs.List.{starts_with, ends_with}
 use Rattle.std.specs.Option.{option_map}
 use Rattle.just_tree.specs.Files.{ItemShape, comment_item, newline_item, recipe_item}
 use Rattle.just_tree.specs.Lines.{Piece, text}
@@ -29,9 +29,10 @@ plain_line [] = Some []
 plain_line (text line ∷ []) = if_plain (is_plain line) line
 plain_line other = None
 
--- whether a path is a name alone
-abbrev pub is_name : List ℕ → Bool
-is_name path = not (list_any (λ b. b == 58) path)
+-- the name of a path that is a name alone
+abbrev pub lone_name : List (List ℕ) → Option (List ℕ)
+lone_name (name ∷ []) = Some name
+lone_name other = None
 
 -- one, where the list is empty
 abbrev pub if_none : {A B : Type 0} → List A → Option B → Option B
@@ -40,7 +41,7 @@ if_none (x ∷ xs) o = None
 
 -- the name of a dependency, which has no arguments
 abbrev pub plain_dependency : DependencyShape → Option (List ℕ)
-plain_dependency d = if_none d.arguments (if_plain (is_name d.path) d.path)
+plain_dependency d = if_none d.arguments (lone_name d.path)
 
 -- one before others, where both are
 abbrev pub before : {A : Type 0} → Option A → Option (List A) → Option (List A)

@@ -1,33 +1,15 @@
 //! Which files are plain.
-ghost use Rattle.std.specs.Prelude.{◌≡◌, ◌==◌, ◌∷◌, ◌++◌, [], IfOk, OnOk, option_map, map, filter_map};
-ghost use Rattle.std.specs.List.{list_any};
+ghost use Rattle.std.specs.Prelude.{◌≡◌, ◌∷◌, ◌++◌, [], IfOk, OnOk, option_map, map, filter_map};
 ghost use Rattle.just_tree.specs.Files.{item_shape, item_shapes};
 ghost use Rattle.just_tree.specs.Recipes.{dependency_shape, recipe_shape as shape_of_recipe};
 ghost use Rattle.just_plain.specs.Shape.{name_text, recipe_shape, shape_of};
-ghost use Rattle.just_plain.specs.Plain.{each, if_plain, is_name, plain_dependency, plain_item, plain_of, plain_recipe};
+ghost use Rattle.just_plain.specs.Plain.{each, plain_dependency, plain_item, plain_of, plain_recipe};
 
 use crate::ast::{Ast, Recipe};
 use crate::lines::plain_lines;
 use just_text::Name;
 use just_tree::{Item, Recipe as RecipeTree, UnresolvedDependency};
 use std::alloc::{AllocError, Global};
-
-/// Whether a colon stands in the text.
-fn has_colon(text: &str) -> bool
-    ensures { result ≡ list_any (λ b. b == 58) text.now }
-{
-    text.as_bytes().iter().any(|byte| *byte == b':')
-}
-
-/// The name, if no colon stands in it.
-fn plain_name<'src>(name: Name<'src>) -> Option<Name<'src>>
-    ensures { option_map name_text result ≡ if_plain (is_name (name_text name.entry)) (name_text name.entry) }
-{
-    if has_colon(name.lexeme()) {
-        return None;
-    }
-    Some(name)
-}
 
 /// The name of the dependency, if it is a name alone.
 fn plain_dependency<'src>(dependency: &UnresolvedDependency<'src>) -> Option<Name<'src>>
@@ -38,7 +20,7 @@ fn plain_dependency<'src>(dependency: &UnresolvedDependency<'src>) -> Option<Nam
     }
     match dependency.recipe.names() {
         [] => None,
-        [name] => plain_name(*name),
+        [name] => Some(*name),
         _ => None,
     }
 }

@@ -1,8 +1,6 @@
 -- The names of a path that were read before those that are still to be read.
-use Rattle.std.proofs.Common.{◌≡◌, ℕ, suc, ◌-◌, ◌<◌, List, [], ◌∷◌, ◌++◌, length, map, Ok, Err, Some, None, refl, sym, ap, subst, ◌∙◌, arith, codes, inl, inr}
+use Rattle.std.proofs.Common.{◌≡◌, ℕ, suc, ◌-◌, ◌<◌, List, [], ◌∷◌, ◌++◌, length, map, Ok, Err, Some, None, refl, sym, ap, subst, ◌∙◌, arith, inl, inr}
 use Rattle.std.proofs.lemmas.List.{append-nil}
-use Rattle.std.specs.List.{flat_map}
-use Rattle.just_text.specs.Names.{more_names, path_text}
 use Rattle.just_text.specs.Tokens.{word_of, lexeme}
 use Rattle.just_text.specs.declared.name.Name.{Name}
 use Rattle.just_text.specs.declared.token.Token.{Token}
@@ -11,7 +9,7 @@ use Rattle.just_expressions.specs.declared.fault.Fault.{Fault}
 use Rattle.just_expressions.specs.declared.fault.Fault.TheVariants as faults
 use Rattle.just_expressions.specs.Reading.{◌>>=◌, on, Read, Fails, accept, expect}
 use Rattle.just_expressions.proofs.Shorter.{inspect}
-use Rattle.just_recipes.specs.Headers.{joined_names}
+use Rattle.just_tree.specs.Paths.{path_names}
 use Rattle.just_recipes.specs.RecipeReading.{names_at, path_at}
 use Rattle.just_recipes.proofs.Turns.{before, regroup}
 
@@ -66,30 +64,18 @@ module _ (fs : List Name) (n : ℕ) (ts : List Token) (total : Read Token (List 
   none_total (faults.Unexpected found) h = rw (names_step (n - 1) a, h) at (sym next)
   none_total (faults.Refused token kind) h = rw (names_step (n - 1) a, h) at (sym next)
 
-joined : (names : List Name) → flat_map (λ (n : List ℕ). codes "::" ++ n) (map name_text names) ≡ more_names names
-joined [] = refl
-joined (n ∷ ns) = ap (λ text. (codes "::" ++ lexeme n.token) ++ text) (joined ns)
-
--- the text of a path is that of its names
-pub path_is : (names : List Name) → joined_names (map name_text names) ≡ path_text names
-path_is [] = refl
-path_is (n ∷ ns) = ap (λ text. lexeme n.token ++ text) (joined ns)
-
 -- a path whose names were read
-pub read : (fs : List Name) (ts rest : List Token) → names_at word_of (suc (length ts)) ts ≡ Ok (map name_text fs, rest) → path_at word_of ts ≡ Ok (path_text fs, rest)
+pub read : (fs : List Name) (ts rest : List Token) → names_at word_of (suc (length ts)) ts ≡ Ok (map name_text fs, rest) → path_at word_of ts ≡ Ok (path_names fs, rest)
 unfolding path_at
-read fs ts rest h = rw h (ap (λ text. Ok (text, rest)) (path_is fs))
+read fs ts rest h = h
 
 pub not_read : (ts : List Token) (e : Fault) → Fails e (names_at word_of (suc (length ts)) ts) → Fails e (path_at word_of ts)
 unfolding path_at
-not_read ts faults.OutOfMemory h = h
-not_read ts faults.NumbersUsed h = h
-not_read ts (faults.Unexpected found) h = rw h refl
-not_read ts (faults.Refused token kind) h = rw h refl
+not_read ts e h = h
 
 pub no_name : (fs : List Name) (n : ℕ) (ts all : List Token) → length ts < n → before name_text fs (others_at n ts) ≡ names_at word_of (suc (length all)) all → (c : Token) (a : List Token) → accept word_of ColonColon ts ≡ Some (c, a)
     → (e : Fault) → Fails e (expect word_of Identifier a) → Fails e (path_at word_of all)
 no_name fs n ts all fuel so_far c a colons e h = not_read all e (none_total fs n ts (names_at word_of (suc (length all)) all) fuel so_far c a colons e h)
 
-pub at_end : (fs : List Name) (n : ℕ) (ts all : List Token) → before name_text fs (others_at n ts) ≡ names_at word_of (suc (length all)) all → accept word_of ColonColon ts ≡ None → path_at word_of all ≡ Ok (path_text fs, ts)
+pub at_end : (fs : List Name) (n : ℕ) (ts all : List Token) → before name_text fs (others_at n ts) ≡ names_at word_of (suc (length all)) all → accept word_of ColonColon ts ≡ None → path_at word_of all ≡ Ok (path_names fs, ts)
 at_end fs n ts all so_far none = read fs all ts (sym (rw none at so_far) ∙ ap (λ names. Ok (names, ts)) (append-nil (map name_text fs)))

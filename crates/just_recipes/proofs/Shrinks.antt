@@ -92,11 +92,9 @@ module _ {T : Type 0} (word : T → Word) where
             let k = names_shorter n w.0.1 ns.0 ns.1 in ended _ ns.0.1 p (length ts) ns.2 (omega (arith, i, j, k))
       ]
 
-  path_shorter : (ts : List T) (p : List ℕ × List T) → path_at word ts ≡ Ok p → length p.1 < length ts
+  path_shorter : (ts : List T) (p : List (List ℕ) × List T) → path_at word ts ≡ Ok p → length p.1 < length ts
   unfolding path_at
-  path_shorter ts p h =
-      let ns = bind_ok _ _ p h in
-      let less = names_shorter (suc (length ts)) ts ns.0 ns.1 in ended _ ns.0.1 p (length ts) ns.2 less
+  path_shorter ts p h = names_shorter (suc (length ts)) ts p h
 
   -- ---- the marks of parameters
 

@@ -1,6 +1,6 @@
 -- The grammar of recipes: parameters, dependencies, first lines.
-use Rattle.std.specs.Prelude.{ℕ, ◌≡◌, ◌≢◌, ◌≤◌, ◌+◌, ◌⊎◌, Bool, true, false, List, [], ◌∷◌, ◌++◌, Option, Some, None, codes, if◌then◌else◌, map}
-use Rattle.std.specs.List.{flat_map, IsAmong}
+use Rattle.std.specs.Prelude.{ℕ, ◌≡◌, ◌≢◌, ◌≤◌, ◌+◌, ◌⊎◌, Bool, true, false, List, [], ◌∷◌, Option, Some, None, if◌then◌else◌, map}
+use Rattle.std.specs.List.{IsAmong}
 use Rattle.just_text.specs.Tokens.{Word}
 use Rattle.just_text.specs.declared.token_kind.TokenKind.TheVariants.{AmpersandAmpersand, Asterisk, At, Colon, ColonColon, Dollar, Equals, Identifier, ParenL, ParenR, Plus as PlusMark}
 use Rattle.just_tree.specs.declared.recipe.ParameterKind.{ParameterKind}
@@ -13,20 +13,11 @@ use Rattle.just_recipes.specs.Bodies.{IsExpression, IsPrimary, IsEol, IsBody}
 
 -- ---- paths
 
--- names joined by `::`
-abbrev pub joined_names : List (List ℕ) → List ℕ
-joined_names [] = []
-joined_names (name ∷ names) = name ++ flat_map (λ n. codes "::" ++ n) names
-
 -- up to rest one name or more stand, `::` between two; the last has none behind it
-abbrev pub ArePath : List (List ℕ) → List Word → List Word → Type 0
-ArePath [] words rest = ⊥
-ArePath (name ∷ []) words rest = Begins Identifier name words rest × Lacks ColonColon rest
-ArePath (name ∷ next ∷ names) words rest = (a b : List Word) × Begins Identifier name words a × Mark ColonColon a b × ArePath (next ∷ names) b rest
-
--- up to rest there is the path with that text
-abbrev pub IsPath : List ℕ → List Word → List Word → Type 0
-IsPath path words rest = (names : List (List ℕ)) × ArePath names words rest × (path ≡ joined_names names)
+abbrev pub IsPath : List (List ℕ) → List Word → List Word → Type 0
+IsPath [] words rest = ⊥
+IsPath (name ∷ []) words rest = Begins Identifier name words rest × Lacks ColonColon rest
+IsPath (name ∷ next ∷ names) words rest = (a b : List Word) × Begins Identifier name words a × Mark ColonColon a b × IsPath (next ∷ names) b rest
 
 -- ---- parameters
 

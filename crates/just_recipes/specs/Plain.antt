@@ -1,6 +1,7 @@
 -- What a recipe has before its attributes are read.
 use Rattle.std.specs.Prelude.{◌≡◌, false, List, [], None}
 use Rattle.std.specs.List.{All}
+use Rattle.just_attributes.specs.Sets.{items_of}
 use Rattle.just_tree.specs.declared.recipe.Parameter.{Parameter}
 use Rattle.just_tree.specs.declared.recipe.Recipe.{Recipe}
 use Rattle.just_tree.specs.declared.recipe.UnresolvedDependency.{UnresolvedDependency}
@@ -21,5 +22,5 @@ ArePlain ps = All IsPlain ps
 
 -- the recipe has no attributes, and its parameters have no options
 pub record IsPlainRecipe (r : Recipe UnresolvedDependency) : Type 0 where
-  pub attributes : r.attributes.items ≡ []
+  pub attributes : items_of r.attributes ≡ []
   pub parameters : ArePlain r.parameters.items

@@ -14,8 +14,8 @@ pub record RecipesExactly {T : Type 0} (word : T → Word) (expansion : Expansio
 
 -- The same of paths.
 pub record PathsExactly {T : Type 0} (word : T → Word) : Type 0 where
-  pub found : (ts rest : List T) (path : List ℕ) → path_at word ts ≡ Ok (path, rest) → IsPath path (map word ts) (map word rest)
-  pub only : (ts : List T) (rest : List Word) (path : List ℕ) → IsPath path (map word ts) rest → (behind : List T) × (path_at word ts ≡ Ok (path, behind)) × (map word behind ≡ rest)
+  pub found : (ts rest : List T) (path : List (List ℕ)) → path_at word ts ≡ Ok (path, rest) → IsPath path (map word ts) (map word rest)
+  pub only : (ts : List T) (rest : List Word) (path : List (List ℕ)) → IsPath path (map word ts) rest → (behind : List T) × (path_at word ts ≡ Ok (path, behind)) × (map word behind ≡ rest)
 
 -- The same of the ends of lines.
 pub record EolsExactly {T : Type 0} (word : T → Word) : Type 0 where

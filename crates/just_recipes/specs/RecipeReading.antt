@@ -14,7 +14,7 @@ use Rattle.just_expression_tree.specs.Shape.{Shape}
 use Rattle.just_expressions.specs.Literals.{Expansion}
 use Rattle.just_expressions.specs.Reading.{◌>>=◌, on, Read, Stop, unexpected, refused, first, accept, expect, is_next, expression_at}
 use Rattle.just_recipes.specs.Bodies.{behind_blank, without_blank_end, blank_end}
-use Rattle.just_recipes.specs.Headers.{joined_names, stars}
+use Rattle.just_recipes.specs.Headers.{stars}
 
 -- a first line from its parameters on
 pub record Header : Type 0 where
@@ -60,8 +60,8 @@ module _ {T : Type 0} (word : T → Word) where
   names_at (suc n) ts =
       expect word Identifier ts >>= λ t. on (accept word ColonColon t.1) (Ok ((word t.0).text ∷ [], t.1)) (λ c. names_at n c.1 >>= λ ns. Ok ((word t.0).text ∷ ns.0, ns.1))
 
-  unfoldable pub path_at : List T → Read T (List ℕ)
-  path_at ts = names_at (suc (length ts)) ts >>= λ ns. Ok (joined_names ns.0, ns.1)
+  unfoldable pub path_at : List T → Read T (List (List ℕ))
+  path_at ts = names_at (suc (length ts)) ts
 
   -- ---- the marks of parameters
 

@@ -1,8 +1,8 @@
 //! Paths of names.
 ghost use Rattle.std.specs.Prelude.{◌≡◌};
-ghost use Rattle.just_text.specs.Names.{path_text};
 ghost use Rattle.just_text.specs.Tokens.{word_of};
 ghost use Rattle.just_expressions.specs.Reading.{Gives, ahead};
+ghost use Rattle.just_tree.specs.Paths.{path_names};
 ghost use Rattle.just_recipes.specs.RecipeReading.{path_at};
 
 use just_expressions::{Cursor, Fault};
@@ -17,7 +17,7 @@ pub fn namepath<'src>(
     alloc: Global,
     cursor: &mut Cursor<'_, 'src>,
 ) -> Result<Namepath<'src>, Fault<'src>>
-    ensures { Gives (λ p. (path_text p, ahead cursor.new)) result (path_at word_of (ahead cursor.old)) }
+    ensures { Gives (λ p. (path_names p, ahead cursor.new)) result (path_at word_of (ahead cursor.old)) }
 {
     let first = cursor.expect(TokenKind::Identifier)?;
     let mut path = Namepath::from_name(alloc, Name::from_token(first))?;

@@ -13,6 +13,7 @@ use crate::body::{body, end_of_line};
 use crate::dependency::{dependencies, subsequents};
 use crate::numbering::next_recipe;
 use crate::parameter::{marked, parameters};
+use just_attributes::AttributeSet;
 use just_expressions::{Cursor, Fault};
 use just_text::{Expander, Name, Numerator, TokenKind};
 use just_tree::{Parameter, Recipe, UnresolvedDependency};
@@ -86,7 +87,7 @@ pub fn recipe<'src, E: Expander>(
     let body = body(alloc, cursor, expander)?;
     Ok(RecipeRead {
         recipe: Recipe {
-            attributes: Vec::new(alloc),
+            attributes: AttributeSet::new(alloc),
             body: body.lines,
             name: Name::from_token(name),
             number,

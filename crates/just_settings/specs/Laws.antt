@@ -1,7 +1,7 @@
 -- What reading settings and deriving them have to do with each other.
 use Rattle.std.specs.Prelude.{◌≡◌, List, map, Ok}
 use Rattle.just_text.specs.Tokens.{Word, word_of}
-use Rattle.just_tree.specs.declared.ast.ItemKind.TheVariants.{Set}
+use Rattle.just_attributes.specs.declared.item_kind.ItemKind.TheVariants.{Set}
 use Rattle.just_attribute_tree.specs.Settings.{SetShape}
 use Rattle.just_expressions.specs.Literals.{Expansion}
 use Rattle.just_items.specs.Reading.{kind_at}

@@ -2,7 +2,9 @@
 ghost use Rattle.std.specs.Prelude.{[], ◌≡◌, ◌≢◌, IfOk, Some, length, map, suc};
 ghost use Rattle.just_text.specs.Tokens.{lexeme, word_of};
 ghost use Rattle.just_text.specs.declared.compile_error.CompileErrorKind.TheVariants as kinds;
-ghost use Rattle.just_attribute_tree.specs.Settings.{interpreter_shape, set_shape, value_shape};
+ghost use Rattle.just_attribute_tree.specs.Settings.{interpreter_shape, value_shape};
+ghost use Rattle.just_attributes.specs.Sets.{items_of};
+ghost use Rattle.just_tree.specs.Items.{set_shape};
 ghost use Rattle.just_expression_tree.specs.Shape.{shape_of, written};
 ghost use Rattle.just_expressions.specs.declared.fault.Fault.TheVariants.{OutOfMemory, Refused};
 ghost use Rattle.just_expressions.specs.Literals.{AreCooked, Expansion, IsCooked};
@@ -18,13 +20,14 @@ ghost use Rattle.just_settings.specs.Versions.{is_above};
 
 use crate::form::{Form, form_named};
 use crate::make::{interpreter_setting, truth_setting, value_setting};
-use just_attribute_tree::{Interpreter, Set, Setting};
-use just_attributes::Indentation;
+use just_attribute_tree::{Interpreter, Setting};
+use just_attributes::{AttributeSet, Indentation};
 use just_expression_tree::Expression;
 use just_expressions::{Cursor, Fault};
 use just_recipes::ended;
 use just_strings::StringLiteral;
 use just_text::{CompileError, CompileErrorKind, Expander, Name, Text, Token, TokenKind, both};
+use just_tree::Set;
 use semver::Version;
 use std::alloc::{AllocError, Global};
 use std::cmp::Ordering;
@@ -361,10 +364,10 @@ fn setting<'src, E: Expander>(
 fn plain_set<'src>(alloc: Global, name: Name<'src>, value: Setting<'src>) -> Set<'src>
     ensures name { result.name ≡ name.entry }
     ensures value { result.value ≡ value.entry }
-    ensures plain { result.attributes.items ≡ [] }
+    ensures plain { items_of result.attributes ≡ [] }
 {
     Set {
-        attributes: Vec::new(alloc),
+        attributes: AttributeSet::new(alloc),
         name,
         value,
     }
@@ -386,7 +389,7 @@ pub fn set<'src, E: Expander>(
     ensures gives { Gives (λ s. (set_shape s, ahead cursor.new)) result (set_at word_of (E.expansion expander.now) current.now (ahead cursor.old)) }
     ensures cooked { IfOk result (λ s. IsCookedSetting (E.expansion expander.now) s.value) }
     ensures name { IfOk result (λ s. setting_name s.value ≡ lexeme s.name.token) }
-    ensures plain { IfOk result (λ s. s.attributes.items ≡ []) }
+    ensures plain { IfOk result (λ s. items_of s.attributes ≡ []) }
 {
     cursor.expect(TokenKind::Identifier)?;
     let name = Name::from_token(cursor.expect(TokenKind::Identifier)?);

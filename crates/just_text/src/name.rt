@@ -18,6 +18,7 @@ pub struct Name<'src> {
 }
 
 impl<'src> Name<'src> {
+    /// The name that the token writes, whatever the token's kind.
     pub fn from_token(token: Token<'src>) -> Name<'src>
         ensures { result.token ≡ token.entry }
     {

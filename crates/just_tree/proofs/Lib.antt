@@ -1,3 +1,5 @@
 pub mod Marks
 pub mod RowText
 pub mod Filed
+pub mod First
+pub mod PathNames

@@ -4,29 +4,18 @@ use Rattle.std.specs.List.{list_any}
 use Rattle.just_tree.specs.declared.ast.Item.{Item}
 use Rattle.just_tree.specs.declared.ast.Item.TheVariants.{Alias, Assignment, Comment, Function, Import, Module, Newline, Recipe, Set, Unexport}
 use Rattle.just_tree.specs.declared.line.Line.{Line}
-use Rattle.just_tree.specs.declared.ast.ItemKind.{ItemKind}
-use Rattle.just_tree.specs.declared.ast.ItemKind.TheVariants.{Alias as AliasKind, Assignment as AssignmentKind, Comment as CommentKind, Function as FunctionKind, Import as ImportKind, Module as ModuleKind, Newline as NewlineKind, Recipe as RecipeKind, Set as SetKind, Unexport as UnexportKind}
+use Rattle.just_attributes.specs.declared.item_kind.ItemKind.{ItemKind}
+use Rattle.just_attributes.specs.declared.item_kind.ItemKind.TheVariants.{Alias as AliasKind, Assignment as AssignmentKind, Comment as CommentKind, Function as FunctionKind, Import as ImportKind, Module as ModuleKind, Newline as NewlineKind, Recipe as RecipeKind, Set as SetKind, Unexport as UnexportKind}
 use Rattle.just_tree.specs.declared.ast.UnstableFeature.{UnstableFeature}
 use Rattle.just_tree.specs.declared.ast.UnstableFeature.TheVariants.{CachedRecipes, DefinedFunctions, Lists}
 use Rattle.just_tree.specs.declared.ast.ListFeature.{ListFeature}
 use Rattle.just_tree.specs.declared.ast.ListFeature.TheVariants.{Comparison, Concatenation, ConditionalWithoutElse, Literal, Not, StarredArgument}
-use Rattle.just_attribute_tree.specs.Attributes.{AttributeShape, attribute_shapes, attributes_text}
-use Rattle.just_tree.specs.Items.{AliasShape, alias_shape, alias_text, AssignmentShape, assignment_shape, assignment_text, FunctionShape, function_shape, function_text, ImportShape, import_shape, import_text, ModuleShape, module_shape, module_text, unexport_shape, unexport_text}
+use Rattle.just_attribute_tree.specs.Attributes.{AttributeShape, attributes_text}
+use Rattle.just_tree.specs.Items.{AliasShape, alias_shape, alias_text, AssignmentShape, assignment_shape, assignment_text, FunctionShape, function_shape, function_text, ImportShape, import_shape, import_text, ModuleShape, module_shape, module_text, set_shape, unexport_shape, unexport_text}
 use Rattle.just_tree.specs.Lines.{ends_in_return, last_piece}
 use Rattle.just_tree.specs.Recipes.{RecipeShape, recipe_shape, recipe_text}
-use Rattle.just_attribute_tree.specs.Settings.{SetShape, set_shape, set_text}
-
-abbrev pub kind_text : ItemKind → List ℕ
-kind_text AliasKind = codes "alias"
-kind_text AssignmentKind = codes "assignment"
-kind_text CommentKind = codes "comment"
-kind_text FunctionKind = codes "function"
-kind_text ImportKind = codes "import"
-kind_text ModuleKind = codes "module"
-kind_text NewlineKind = codes "newline"
-kind_text RecipeKind = codes "recipe"
-kind_text SetKind = codes "setting"
-kind_text UnexportKind = codes "unexport"
+use Rattle.just_attribute_tree.specs.Settings.{SetShape, set_text}
+use Rattle.just_attributes.specs.Sets.{shapes_in}
 
 -- an item with its attributes, without places
 pub data ItemShape : Type 0 where
@@ -42,15 +31,15 @@ pub data ItemShape : Type 0 where
   unexport_item : List ℕ → ItemShape
 
 abbrev pub item_shape : Item → ItemShape
-item_shape (Alias a) = alias_item (attribute_shapes a.attributes.items) (alias_shape a)
-item_shape (Assignment a) = assignment_item (attribute_shapes a.attributes.items) (assignment_shape a)
+item_shape (Alias a) = alias_item (shapes_in a.attributes) (alias_shape a)
+item_shape (Assignment a) = assignment_item (shapes_in a.attributes) (assignment_shape a)
 item_shape (Comment text) = comment_item text.now
 item_shape (Function f) = function_item (function_shape f)
 item_shape (Import i) = import_item (import_shape i)
-item_shape (Module m) = module_item (attribute_shapes m.attributes.items) (module_shape m)
+item_shape (Module m) = module_item (shapes_in m.attributes) (module_shape m)
 item_shape Newline = newline_item
-item_shape (Recipe r) = recipe_item (attribute_shapes r.attributes.items) (recipe_shape r)
-item_shape (Set s) = set_item (attribute_shapes s.attributes.items) (set_shape s)
+item_shape (Recipe r) = recipe_item (shapes_in r.attributes) (recipe_shape r)
+item_shape (Set s) = set_item (shapes_in s.attributes) (set_shape s)
 item_shape (Unexport u) = unexport_item (unexport_shape u)
 
 abbrev pub kind_of : ItemShape → ItemKind

@@ -3,7 +3,6 @@ use Rattle.std.specs.Prelude.{ℕ, Bool, if◌then◌else◌, List, [], ◌∷�
 use Rattle.std.specs.List.{flat_map}
 use Rattle.std.specs.Option.{option_map}
 use Rattle.just_text.specs.Tokens.{lexeme}
-use Rattle.just_text.specs.Names.{path_text}
 use Rattle.just_text.specs.declared.name.Name.{Name}
 use Rattle.just_expression_tree.specs.declared.expression.Expression.{Expression}
 use Rattle.just_tree.specs.declared.item.Alias.{Alias}
@@ -14,21 +13,24 @@ use Rattle.just_tree.specs.declared.item.Module.{Module}
 use Rattle.just_tree.specs.declared.item.Unexport.{Unexport}
 use Rattle.just_expression_tree.specs.Shape.{Shape, shape_of, written}
 use Rattle.just_expression_tree.specs.Printing.{text_of}
+use Rattle.just_attribute_tree.specs.Settings.{SetShape, value_shape}
+use Rattle.just_tree.specs.declared.set.Set.{Set}
+use Rattle.just_tree.specs.Paths.{path_names, joined_names}
 
--- an alias: its name and the path of its target
+-- an alias: its name and the names of its target's path
 pub record AliasShape : Type 0 where
   pub name : List ℕ
-  pub target : List ℕ
+  pub target : List (List ℕ)
 
 abbrev pub alias_shape : Alias (List Name) → AliasShape
-alias_shape a = record { name = lexeme a.name.token; target = path_text a.target }
+alias_shape a = record { name = lexeme a.name.token; target = path_names a.target }
 
 -- an alias whose recipe is known: the recipe's own name stands for its path
 abbrev pub recipe_alias_shape : Alias Name → AliasShape
-recipe_alias_shape a = record { name = lexeme a.name.token; target = lexeme a.target.token }
+recipe_alias_shape a = record { name = lexeme a.name.token; target = lexeme a.target.token ∷ [] }
 
 abbrev pub alias_text : AliasShape → List ℕ
-alias_text a = codes "alias " ++ a.name ++ codes " := " ++ a.target
+alias_text a = codes "alias " ++ a.name ++ codes " := " ++ joined_names a.target
 
 -- an assignment: its words, whatever their order, its name and its expression
 pub record AssignmentShape : Type 0 where
@@ -104,6 +106,10 @@ behind_space (Some path) = codes " " ++ path
 
 abbrev pub module_text : ModuleShape → List ℕ
 module_text m = codes "mod" ++ question_mark m.optional ++ codes " " ++ m.name ++ behind_space m.path
+
+-- a setting: its name and its value
+abbrev pub set_shape : Set → SetShape
+set_shape s = record { name = lexeme s.name.token; value = value_shape s.value }
 
 -- a name that is not exported
 abbrev pub unexport_shape : Unexport → List ℕ

@@ -2,3 +2,5 @@ pub mod Lines
 pub mod Recipes
 pub mod Items
 pub mod Files
+pub mod FileIndentation
+pub mod Paths

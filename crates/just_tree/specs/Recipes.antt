@@ -3,7 +3,6 @@ use Rattle.std.specs.Prelude.{ℕ, Bool, true, false, if◌then◌else◌, List,
 use Rattle.std.specs.List.{flat_map}
 use Rattle.std.specs.Option.{option_map}
 use Rattle.just_text.specs.Tokens.{lexeme}
-use Rattle.just_text.specs.Names.{path_text}
 use Rattle.just_tree.specs.declared.line.Line.{Line}
 use Rattle.just_tree.specs.declared.recipe.ParameterKind.{ParameterKind}
 use Rattle.just_tree.specs.declared.recipe.ParameterKind.TheVariants.{Plus, Singular, Star}
@@ -14,6 +13,7 @@ use Rattle.just_tree.specs.declared.recipe.Recipe.{Recipe}
 use Rattle.just_expression_tree.specs.Shape.{Shape, shape_of}
 use Rattle.just_expression_tree.specs.Printing.{text_of}
 use Rattle.just_tree.specs.Lines.{Piece, pieces_of, line_text}
+use Rattle.just_tree.specs.Paths.{path_names, joined_names}
 
 -- a parameter takes all values that remain
 abbrev pub is_variadic : ParameterKind → Bool
@@ -77,11 +77,11 @@ arguments_text = flat_map argument_row
 
 -- a dependency: the names of its path, and its arguments
 pub record DependencyShape : Type 0 where
-  pub path : List ℕ
+  pub path : List (List ℕ)
   pub arguments : List ArgumentShape
 
 abbrev pub dependency_shape : UnresolvedDependency → DependencyShape
-dependency_shape d = record { path = path_text d.recipe; arguments = argument_shapes d.arguments.items }
+dependency_shape d = record { path = path_names d.recipe; arguments = argument_shapes d.arguments.items }
 
 abbrev pub dependency_shapes : List UnresolvedDependency → List DependencyShape
 dependency_shapes = map dependency_shape
@@ -92,7 +92,7 @@ called_text path [] = path
 called_text path (a ∷ as') = codes "(" ++ path ++ arguments_text (a ∷ as') ++ codes ")"
 
 abbrev pub dependency_text : DependencyShape → List ℕ
-dependency_text d = called_text d.path d.arguments
+dependency_text d = called_text (joined_names d.path) d.arguments
 
 abbrev pub dependency_row : DependencyShape → List ℕ
 dependency_row d = codes " " ++ dependency_text d

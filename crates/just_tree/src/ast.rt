@@ -2,48 +2,26 @@
 ghost use Rattle.std.specs.Prelude.{◌≡◌, ◌++◌, Some, codes};
 ghost use Rattle.std.specs.Fmt.{WritesOnOk};
 ghost use Rattle.std.specs.List.{list_any};
-ghost use Rattle.just_attribute_tree.specs.Attributes.{attribute_shapes};
+ghost use Rattle.just_attribute_tree.specs.Attributes.{attributes_text};
+ghost use Rattle.just_attributes.specs.Sets.{shapes_in};
 ghost use Rattle.just_tree.specs.Files as spec;
 
 use crate::item::{Alias, Assignment, FunctionDefinition, Import, Module, Unexport};
 use crate::line::Line;
 use crate::recipe::{Recipe, UnresolvedDependency};
-use just_attribute_tree::{Attribute, Attributes, Set};
+use crate::set::Set;
+use just_attributes::{AttributeSet, ItemKind};
 use just_text::Namepath;
 use std::fmt;
 
-/// What an item is.
-#[derive(Clone, Copy, Debug, PartialEq, Eq, PartialOrd, Ord)]
-pub enum ItemKind {
-    Alias,
-    Assignment,
-    Comment,
-    Function,
-    Import,
-    Module,
-    Newline,
-    Recipe,
-    Set,
-    Unexport,
-}
-
-impl fmt::Display for ItemKind {
-    ghost output = { λ kind. Some (spec.kind_text kind) };
-
-    fn fmt<W: fmt::Write>(&self, f: &mut fmt::Formatter<W>) -> fmt::Result {
-        f.write_str(match self {
-            ItemKind::Alias => "alias",
-            ItemKind::Assignment => "assignment",
-            ItemKind::Comment => "comment",
-            ItemKind::Function => "function",
-            ItemKind::Import => "import",
-            ItemKind::Module => "module",
-            ItemKind::Newline => "newline",
-            ItemKind::Recipe => "recipe",
-            ItemKind::Set => "setting",
-            ItemKind::Unexport => "unexport",
-        })
-    }
+/// Writes attributes, one a line.
+fn print_attributes<W: fmt::Write>(
+    f: &mut fmt::Formatter<W>,
+    attributes: &AttributeSet,
+) -> fmt::Result
+    ensures { WritesOnOk W.write_str_gives f.old result (attributes_text (shapes_in attributes.now)) f.new }
+{
+    write!(f, "{attributes}")
 }
 
 /// An item of a file.
@@ -64,6 +42,7 @@ pub enum Item<'src> {
 }
 
 impl<'src> Item<'src> {
+    /// What the item is.
     pub fn kind(&self) -> ItemKind
         ensures { result ≡ spec.kind_of (spec.item_shape self.now) }
     {
@@ -81,17 +60,17 @@ impl<'src> Item<'src> {
         }
     }
 
-    /// The attributes in front of the item; none for one that takes none.
-    fn attributes(&self) -> &[Attribute<'src>]
-        ensures { attribute_shapes result.now ≡ spec.attributes_of (spec.item_shape self.now) }
+    /// Writes the attributes in front of the item, one a line; some items have none.
+    fn print_attributes<W: fmt::Write>(&self, f: &mut fmt::Formatter<W>) -> fmt::Result
+        ensures { WritesOnOk W.write_str_gives f.old result (attributes_text (spec.attributes_of (spec.item_shape self.now))) f.new }
     {
         match self {
-            Item::Alias(alias) => alias.attributes.as_slice(),
-            Item::Assignment(assignment) => assignment.attributes.as_slice(),
-            Item::Module(module) => module.attributes.as_slice(),
-            Item::Recipe(recipe) => recipe.attributes.as_slice(),
-            Item::Set(set) => set.attributes.as_slice(),
-            _ => &[],
+            Item::Alias(alias) => print_attributes(f, &alias.attributes),
+            Item::Assignment(assignment) => print_attributes(f, &assignment.attributes),
+            Item::Module(module) => print_attributes(f, &module.attributes),
+            Item::Recipe(recipe) => print_attributes(f, &recipe.attributes),
+            Item::Set(set) => print_attributes(f, &set.attributes),
+            _ => Ok(()),
         }
     }
 
@@ -100,8 +79,7 @@ impl<'src> Item<'src> {
     pub fn print<W: fmt::Write>(&self, f: &mut fmt::Formatter<W>, indentation: &str) -> fmt::Result
         ensures { WritesOnOk W.write_str_gives f.old result (spec.item_text indentation.now (spec.item_shape self.now)) f.new }
     {
-        let attributes = Attributes(self.attributes());
-        write!(f, "{attributes}")?;
+        self.print_attributes(f)?;
         self.print_bare(f, indentation)
     }
 

@@ -2,8 +2,8 @@
 ghost use Rattle.std.specs.Prelude.{◌≡◌, Some};
 ghost use Rattle.just_tree.specs.Items as spec;
 
-use crate::rows::Names;
-use just_attribute_tree::Attribute;
+use crate::rows::{Names, Path};
+use just_attributes::AttributeSet;
 use just_expression_tree::Expression;
 use just_strings::StringLiteral;
 use just_text::{Name, Namepath, Number};
@@ -13,7 +13,7 @@ use std::marker::Model;
 /// Another name of a recipe; `T` is what stands for the recipe.
 #[derive(Drop)]
 pub struct Alias<'src, T> {
-    pub attributes: Vec<Attribute<'src>>,
+    pub attributes: AttributeSet<'src>,
     pub name: Name<'src>,
     pub target: T,
 }
@@ -23,7 +23,7 @@ impl<'src> fmt::Display for Alias<'src, Namepath<'src>> {
 
     fn fmt<W: fmt::Write>(&self, f: &mut fmt::Formatter<W>) -> fmt::Result {
         let name = self.name;
-        let target = &self.target;
+        let target = Path(&self.target);
         write!(f, "alias {name} := {target}")
     }
 }
@@ -44,7 +44,7 @@ impl<'src> fmt::Display for Alias<'src, Name<'src>> {
 /// A name and what it stands for.
 #[derive(Drop)]
 pub struct Binding<'src, V> {
-    pub attributes: Vec<Attribute<'src>>,
+    pub attributes: AttributeSet<'src>,
     /// Whether it is evaluated even where nothing reads it.
     pub eager: bool,
     /// Whether it is exported to the environment.
@@ -91,18 +91,21 @@ impl<'src> Model for FunctionParameter<'src> {
 }
 
 impl<'src> FunctionParameter<'src> {
+    /// The parameter with that name and that binding number.
     pub fn new(name: Name<'src>, number: Number) -> FunctionParameter<'src>
         ensures { result ≡ (name.entry, number) }
     {
         FunctionParameter { name, number }
     }
 
+    /// Its name where it is written.
     pub fn name(&self) -> Name<'src>
         ensures { result ≡ self.now.0 }
     {
         self.name
     }
 
+    /// The number of its binding.
     pub fn number(&self) -> Number
         ensures { result ≡ self.now.1 }
     {
@@ -150,7 +153,7 @@ impl fmt::Display for Import<'_> {
 /// A submodule, and its file where one is named.
 #[derive(Drop)]
 pub struct Module<'src> {
-    pub attributes: Vec<Attribute<'src>>,
+    pub attributes: AttributeSet<'src>,
     pub name: Name<'src>,
     /// `?`: the file may be missing.
     pub optional: bool,

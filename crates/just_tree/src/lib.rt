@@ -1,16 +1,21 @@
-//! Lines, recipes, items and whole files as trees, and their printed texts.
+//! Lines, recipes, items and whole files as trees, and their printed texts; names and indentation.
 #![tactic(auto)]
 
 mod ast;
+mod indentation;
 mod item;
+mod keyed;
 mod line;
 mod recipe;
 mod rows;
+mod set;
 
-pub use ast::{Ast, Item, ItemKind, ListFeature, UnstableFeature};
+pub use ast::{Ast, Item, ListFeature, UnstableFeature};
 pub use item::{
     Alias, Assignment, Binding, FunctionDefinition, FunctionParameter, Import, Module, RecipeAlias,
     Unexport,
 };
+pub use keyed::Keyed;
 pub use line::{Fragment, Line, Sigils};
 pub use recipe::{DependencyArgument, Parameter, ParameterKind, Recipe, UnresolvedDependency};
+pub use set::Set;

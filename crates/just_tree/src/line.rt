@@ -67,7 +67,6 @@ impl Sigils {
 }
 
 /// The marks at the front of a text.
-
 fn read_marks(text: &str, guards: bool) -> Sigils
     ensures { result ≡ read_sigils guards no_sigils text.now }
 {

@@ -4,8 +4,8 @@ ghost use Rattle.std.specs.Fmt.{WritesOnOk};
 ghost use Rattle.just_tree.specs.Recipes as spec;
 
 use crate::line::Line;
-use crate::rows::{Arguments, Body, Dependencies, Parameters, Subsequents};
-use just_attribute_tree::Attribute;
+use crate::rows::{Arguments, Body, Dependencies, Parameters, Path, Subsequents};
+use just_attributes::AttributeSet;
 use just_expression_tree::Expression;
 use just_text::{Name, Namepath, Number, Text};
 use std::fmt;
@@ -112,7 +112,7 @@ impl fmt::Display for UnresolvedDependency<'_> {
     ghost output = { λ dependency. Some (spec.dependency_text (spec.dependency_shape dependency)) };
 
     fn fmt<W: fmt::Write>(&self, f: &mut fmt::Formatter<W>) -> fmt::Result {
-        let recipe = &self.recipe;
+        let recipe = Path(&self.recipe);
         if self.arguments.is_empty() {
             return write!(f, "{recipe}");
         }
@@ -124,7 +124,7 @@ impl fmt::Display for UnresolvedDependency<'_> {
 /// A recipe; `D` is what stands for a dependency.
 #[derive(Drop)]
 pub struct Recipe<'src, D> {
-    pub attributes: Vec<Attribute<'src>>,
+    pub attributes: AttributeSet<'src>,
     pub body: Vec<Line<'src>>,
     pub name: Name<'src>,
     pub number: Number,

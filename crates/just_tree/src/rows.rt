@@ -6,7 +6,23 @@ ghost use Rattle.just_tree.specs.Recipes as spec;
 use crate::item::FunctionParameter;
 use crate::line::Line;
 use crate::recipe::{DependencyArgument, Parameter, UnresolvedDependency};
+use just_text::Namepath;
 use std::fmt;
+
+/// A path's names with `::` between two.
+#[derive(Clone, Copy)]
+pub struct Path<'a, 'src>(pub &'a Namepath<'src>);
+
+impl fmt::Display for Path<'_, '_> {
+    ghost use Rattle.just_tree.specs.Paths.{joined_names, path_names};
+
+    ghost output = { λ path. Some (joined_names (path_names path.0.now)) };
+
+    fn fmt<W: fmt::Write>(&self, f: &mut fmt::Formatter<W>) -> fmt::Result {
+        let names = self.0;
+        write!(f, "{names}")
+    }
+}
 
 /// Parameters, each behind a space.
 #[derive(Clone, Copy)]

@@ -6,7 +6,8 @@ use Rattle.std.specs.Ordering.{nat_cmp}
 use Rattle.just_text.specs.declared.name.Name.{Name}
 use Rattle.just_text.specs.declared.token_kind.TokenKind.{TokenKind}
 use Rattle.just_text.specs.declared.token_kind.TokenKind.TheVariants.{Identifier}
-use Rattle.just_attribute_tree.specs.Attributes.{attribute_shape, attribute_text}
+use Rattle.just_attribute_tree.specs.Attributes.{attribute_text}
+use Rattle.just_attributes.specs.Sets.{shapes_in}
 use Rattle.just_tree.specs.declared.item.Binding.{Binding}
 
 -- a name where it is written, without where it lies in memory
@@ -44,7 +45,7 @@ pub record Bound : Type 0 where
 
 unfoldable pub bound_of : Binding (List (List ℕ)) → Bound
 bound_of b = record {
-  attributes = map (λ a. attribute_text (attribute_shape a)) b.attributes.items;
+  attributes = map attribute_text (shapes_in b.attributes);
   eager = b.eager;
   export = b.export;
   file_depth = b.file_depth;

@@ -7,6 +7,7 @@ ghost use Rattle.just_value.specs.Frames.{BindsRows, Rebinds, ByNumber, bound_of
 use crate::constant::{CONSTANT_COUNT, constants};
 use crate::frame::{Bindings, Frame};
 use crate::value::Value;
+use just_attributes::AttributeSet;
 use just_text::{Name, Number, Numerator, Token, TokenKind};
 use just_tree::Binding;
 use std::alloc::{AllocError, AllocFailed, Global};
@@ -134,7 +135,7 @@ fn constant<'src>(
         src: name,
     };
     Ok(Binding {
-        attributes: Vec::new(alloc),
+        attributes: AttributeSet::new(alloc),
         eager: false,
         export: false,
         file_depth: 0,

@@ -85,6 +85,7 @@ impl Value {
         Ok(Value { elements })
     }
 
+    /// The elements in order.
     pub fn elements(&self) -> &[String]
         ensures { map string_bytes result.now ≡ self.now }
     {
@@ -98,6 +99,7 @@ impl Value {
         self.elements.len()
     }
 
+    /// Whether there is no element.
     pub fn is_empty(&self) -> bool
         ensures { IsTrue result ↔ (self.now ≡ []) }
     {

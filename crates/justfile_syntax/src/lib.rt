@@ -3,23 +3,26 @@
 #![tactic(auto)]
 
 pub use just_attribute_tree::{
-    Attribute, AttributeArguments, AttributeKind, Interpreter, Set, Setting,
+    ArgumentOptions, Attribute, AttributeArguments, AttributeKind, Interpreter, LongName, Setting,
+    kind_from_name,
 };
 pub use just_attributes::{
-    AttributeItem, AttributeSet, Indentation, InvalidIndentation, Keyed, PrintedArguments,
-    file_indentation,
+    AttributeItem, AttributeSet, Indentation, InvalidIndentation, ItemKind, PrintedArguments,
+    is_private, may_carry,
 };
 pub use just_expression_tree::{ConditionalOperator, Expression, ListOperator};
 pub use just_grammar::Parser;
 pub use just_lexer::Lexer;
-pub use just_strings::{StringKind, StringLiteral, unindent};
+pub use just_strings::{
+    StringDelimiter, StringKind, StringLiteral, StringPrefix, command_text, cook_part, unindent,
+};
 pub use just_text::{
     CompileError, CompileErrorKind, Count, Delimiter, ExpandFault, Expander, Keyword, Name,
     Namepath, Number, Numerator, Os, Sequence, Text, Ticked, Token, TokenKind,
 };
 pub use just_tree::{
     Alias, Assignment, Ast, Binding, DependencyArgument, Fragment, FunctionDefinition,
-    FunctionParameter, Import, Item, ItemKind, Line, ListFeature, Module, Parameter, ParameterKind,
-    Recipe, RecipeAlias, Sigils, Unexport, UnresolvedDependency, UnstableFeature,
+    FunctionParameter, Import, Item, Keyed, Line, ListFeature, Module, Parameter, ParameterKind,
+    Recipe, RecipeAlias, Set, Sigils, Unexport, UnresolvedDependency, UnstableFeature,
 };
 pub use just_variables::{ExpressionContext, resolve_variables};

@@ -13,15 +13,38 @@ fn reads_names(rt: HostRuntime) -> Result<(), Fail> {
         ),
         (
             "[unix] # systems\n# more\n[cache]\na:",
-            "[unix]\n[cache]\na:\n",
+            "[cache]\n[unix]\na:\n",
         ),
         (
             "[linux, group: 'g'] # one\n# two\n[private]\na:\n",
-            "[linux]\n[group('g')]\n[private]\na:\n",
+            "[group('g')]\n[linux]\n[private]\na:\n",
         ),
         ("[private]\nalias b := a\n", "[private]\nalias b := a\n"),
         ("[linux]\nset quiet\n", "[linux]\nset quiet := true\n"),
         ("[doc('d')]\nmod m\n", "[doc('d')]\nmod m\n"),
+    ];
+    tell(&rt, rt.alloc(), rows.as_slice())
+}
+
+#[test]
+fn puts_attributes_in_order(rt: HostRuntime) -> Result<(), Fail> {
+    let rows = [
+        (
+            "[private,linux]\nb:\n  echo b\n",
+            "[linux]\n[private]\nb:\n    echo b\n",
+        ),
+        (
+            "[group('b')]\n[doc('c'), group('a')]\nmod m\n",
+            "[doc('c')]\n[group('a')]\n[group('b')]\nmod m\n",
+        ),
+        (
+            "[unix]\n[linux]\nset quiet\n",
+            "[linux]\n[unix]\nset quiet := true\n",
+        ),
+        (
+            "[arg('c', long), arg('b', short='d')]\na b c:\n",
+            "[arg('b', short='d')]\n[arg('c', long)]\na b c:\n",
+        ),
     ];
     tell(&rt, rt.alloc(), rows.as_slice())
 }

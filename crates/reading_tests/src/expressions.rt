@@ -73,6 +73,32 @@ fn negated(alloc: Global, times: usize) -> Result<String, AllocError> {
     Ok(src)
 }
 
+/// An assignment of a string in so many parentheses.
+fn grouped(alloc: Global, times: usize) -> Result<String, AllocError> {
+    let mut src = String::new(alloc);
+    src.push_str("x := ")?;
+    for _ in 0..times {
+        src.push_str("(")?;
+    }
+    src.push_str("'a'")?;
+    for _ in 0..times {
+        src.push_str(")")?;
+    }
+    Ok(src)
+}
+
+#[test]
+fn reads_groups_inside_one_another(rt: HostRuntime) -> Result<(), Fail> {
+    for (times, want) in [(200usize, true), (255, true), (256, false), (300, false)] {
+        let src = grouped(rt.alloc(), times)?;
+        let mut numerator = Numerator::new(29);
+        let told = told(rt.alloc(), &mut numerator, src.as_str())?;
+        assert!(rt; told.starts_with("x := ((") == want);
+        assert!(rt; told.starts_with("parsing recursion depth exceeded") != want);
+    }
+    Ok(())
+}
+
 #[test]
 fn reads_256_levels(rt: HostRuntime) -> Result<(), Fail> {
     for (times, want) in [(255usize, true), (256, false)] {

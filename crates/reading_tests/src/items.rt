@@ -43,6 +43,14 @@ fn reads_other_items(rt: HostRuntime) -> Result<(), Fail> {
         ("mod m", "mod m\n"),
         ("mod? m 'p'\n", "mod? m 'p'\n"),
         ("unexport x", "unexport x\n"),
+        (
+            "set minimum-version := '1.58.0'\n",
+            "set minimum-version := '1.58.0'\n",
+        ),
+        (
+            "set minimum-version := '1.9.0'\n",
+            "set minimum-version := '1.9.0'\n",
+        ),
     ];
     tell(&rt, rt.alloc(), rows.as_slice())
 }

@@ -2,11 +2,11 @@
 
 use crate::tokens::{name, token};
 use just_attribute_tree::{Attribute, AttributeArguments, AttributeKind, kind_from_name};
-use just_attributes::{AttributeItem, AttributeSet, Indentation, Keyed};
+use just_attributes::{AttributeItem, AttributeSet, Indentation, ItemKind};
 use just_expression_tree::Expression;
 use just_strings::{StringDelimiter, StringKind, StringLiteral, StringPrefix};
 use just_text::{Name, Os, Text, TokenKind};
-use just_tree::ItemKind;
+use just_tree::Keyed;
 use std::alloc::{AllocError, Global};
 use std::fmt;
 use std::test::Fail;
@@ -61,16 +61,6 @@ fn set(alloc: Global) -> Result<AttributeSet<'static>, AllocError> {
     AttributeSet::from_items(items)
 }
 
-/// The attributes in brackets, in order.
-fn printed(alloc: Global, attributes: &AttributeSet<'_>) -> Result<String, Fail> {
-    let mut text = String::new(alloc);
-    for item in attributes {
-        let attribute = &item.attribute;
-        write!(text, "[{attribute}]")?;
-    }
-    Ok(text)
-}
-
 /// The groups, in order.
 fn groups(alloc: Global, attributes: &AttributeSet<'_>) -> Result<String, AllocError> {
     let mut text = String::new(alloc);
@@ -103,11 +93,11 @@ fn may_stand_at(alloc: Global, attributes: &AttributeSet<'_>, kind: ItemKind) ->
 fn puts_attributes_in_order(rt: HostRuntime) -> Result<(), Fail> {
     let alloc = rt.alloc();
     let attributes = set(alloc)?;
-    let printed = printed(alloc, &attributes)?;
+    let printed = attributes.to_string(alloc)?;
     let groups = groups(alloc, &attributes)?;
     assert_eq!(rt;
         printed.as_str(),
-        "[group('a')][group('b')][linux][private]"
+        "[group('a')]\n[group('b')]\n[linux]\n[private]\n"
     );
     assert_eq!(rt; groups.as_str(), "ab");
     Ok(())

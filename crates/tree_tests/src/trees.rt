@@ -1,6 +1,7 @@
 //! An alias of a recipe, and the marks of a body line.
 
 use crate::tokens::{name, token};
+use just_attributes::AttributeSet;
 use just_text::TokenKind;
 use just_tree::{Fragment, Line, RecipeAlias};
 use std::test::Fail;
@@ -8,7 +9,7 @@ use std::test::Fail;
 #[test]
 fn prints_an_alias_of_a_recipe(rt: HostRuntime) -> Result<(), Fail> {
     let alias: RecipeAlias = RecipeAlias {
-        attributes: Vec::new(rt.alloc()),
+        attributes: AttributeSet::new(rt.alloc()),
         name: name("b"),
         target: name("build"),
     };

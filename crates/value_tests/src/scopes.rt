@@ -1,6 +1,7 @@
 //! Scopes by what is found in them.
 
 use crate::tokens::token;
+use just_attributes::AttributeSet;
 use just_text::{Name, Number, Numerator, TokenKind};
 use just_tree::Binding;
 use just_value::{CONSTANT_COUNT, Scope, Value, constants};
@@ -14,7 +15,7 @@ fn binding(
     text: &str,
 ) -> Result<Binding<'static, Value>, AllocError> {
     Ok(Binding {
-        attributes: Vec::new(alloc),
+        attributes: AttributeSet::new(alloc),
         eager: false,
         export: false,
         file_depth: 0,

@@ -70,6 +70,7 @@ fn operators_go_pairwise(rt: HostRuntime) -> Result<(), Fail> {
         ("a;b;", "c;d;", "[\"ac\", \"bd\"]"),
         ("a;", "b;c;", "[\"ab\", \"ac\"]"),
         ("a;", "", "operator `+` cannot be applied to empty lists"),
+        ("", "a;", "operator `+` cannot be applied to empty lists"),
     ] {
         let told = applied(rt.alloc(), left, ListOperator::Concatenate, right)?;
         assert_eq!(rt; told.as_str(), want);

@@ -1,13 +1,29 @@
 -- What was read stays beside what is read behind it.
-use Rattle.std.proofs.Common.{List, Option, Ok, ◌∙◌, ap, subst}
+use Rattle.std.proofs.Common.{List, Option, Ok, ◌∙◌, ap, refl, subst}
 use Rattle.std.specs.Prelude.{IfOk}
 use Rattle.just_attribute_tree.specs.Attributes.{AttributeShape}
+use Rattle.just_text.specs.Tokens.{word_of}
 use Rattle.just_expressions.specs.Reading.{ahead}
 use Rattle.just_expressions.proofs.Together.{both_given}
+use Rattle.just_attribute_lines.specs.Seen.{read_shapes}
+use Rattle.just_items.specs.Reading.{kind_at}
+use Rattle.just_recipes.specs.Numbering.{AreUsed, GivesUnless}
+use Rattle.just_attributed_items.specs.Reading.{bare_behind, parts_at}
+use Rattle.just_attributed_items.specs.Seen.{read_of}
 use Rattle.just_attributed_items.specs.Held.{IsItemNumbered}
 use Rattle.just_attributed_items.specs.Plain.{IsBareCooked, IsBareTree}
 use Rattle.just_attributed_items.proofs.WholeArguments.{attributes_whole}
 use Rattle.just_attributed_items.proofs.item.parts.Goals as goal
+
+pub returns-clause-gives : goal.returns-clause-gives
+unfolding parts_at
+returns-clause-gives g c =
+    let x = g.E.Expander.expansion c.args.expander.now in
+    let ts = ahead c.attributes.new.cursor in
+    let given = both_given c.in_ok-attributes.attributes c.bare_behind-read.result (c.in_ok-attributes-2.attributes, c.in_ok-attributes-2.read) c.in_ok-attributes-2.ensures in
+    let bare = subst (λ r. GivesUnless (AreUsed c.bare_behind-read.new.numerator) (λ r. (read_of r, ahead c.bare_behind-read.new.cursor)) r (bare_behind word_of x c.args.current.now (read_shapes c.deref.result.now) (kind_at word_of ts) ts)) given.1 c.bare_behind-read.ensures.gives in
+    let behind = rw c.deref.ensures.value at bare in
+    rw (c.in_ok-attributes.ensures.gives, behind, given.0) refl
 
 pub returns-clause-whole : goal.returns-clause-whole
 returns-clause-whole g c =

@@ -1,7 +1,7 @@
 -- Each turn takes an attribute.
-use Rattle.std.proofs.Common.{◌≡◌, ◌+◌, suc, List, ◌∷◌, ◌++◌, length, ap, subst, arith}
+use Rattle.std.proofs.Common.{◌≡◌, ◌+◌, suc, List, ◌∷◌, ◌++◌, length, map, ap, subst, arith}
 use Rattle.std.specs.Vec.Iter.{into_iter_items, into_iter_len}
-use Rattle.just_attribute_tree.specs.Attributes.{attribute_shapes}
+use Rattle.just_attributes.specs.Order.{item_shape}
 use Rattle.just_expressions.specs.Literals.{Expansion}
 use Rattle.just_attribute_lines.specs.declared.attribute.AttributeRead.{AttributeRead}
 use Rattle.just_attribute_lines.specs.Seen.{AreWholeReads, IsWholeRead, read_shapes}
@@ -25,7 +25,7 @@ loop-read-preserved c =
       finite = tt;
       count = omega (arith, fewer, more, i.count);
       so_far = more_shapes l.known c.add.new.known r c.in_ok-add.ensures.attributes c.in_ok-add.ensures.options rest _
-          (subst (λ (xs : List AttributeRead). attribute_shapes l.known.attributes.items ++ known (read_shapes xs) ≡ known (read_shapes c.args.reads.items)) items i.so_far);
+          (subst (λ (xs : List AttributeRead). map item_shape l.known.items.items ++ known (read_shapes xs) ≡ known (read_shapes c.args.reads.items)) items i.so_far);
       these = λ x all. more_whole l.known c.add.new.known r c.in_ok-add.ensures.attributes c.in_ok-add.ensures.options x (i.these x all) (all_first (IsWholeRead x) r rest (all_left x all));
       others = λ x all. all_others (IsWholeRead x) r rest (all_left x all);
     }

@@ -2,4 +2,4 @@
 use Rattle.just_attributed_items.proofs.trees.item_with.Goals as goal
 
 pub returns-in-Recipe-clause-own : goal.returns-in-Recipe-clause-own
-returns-in-Recipe-clause-own c = λ expansion whole arguments bare. c.recipe_item_with.ensures.own expansion whole arguments (rw c.in-Recipe.is at bare)
+returns-in-Recipe-clause-own c = λ expansion written whole arguments bare. c.recipe_item_with.ensures.own expansion written whole arguments (rw c.in-Recipe.is at bare)

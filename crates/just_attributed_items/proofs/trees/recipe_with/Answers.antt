@@ -1,6 +1,7 @@
 -- A recipe is the same but for the options of its parameters.
 use Rattle.std.proofs.Common.{refl}
 use Rattle.just_attributed_items.proofs.Options.{same_cooked, same_length, same_numbers, same_shapes}
+use Rattle.just_attributed_items.proofs.Reordered.{distinct_if_fits, options_alike}
 use Rattle.just_attributed_items.proofs.trees.recipe_with.Goals as goal
 
 pub returns-clause-shape : goal.returns-clause-shape
@@ -23,3 +24,10 @@ returns-clause-cooked c expansion h = record {
   subsequents = h.subsequents;
   body = h.body;
 }
+
+-- the options are those of the `arg`s in whatever order they stand
+pub returns-clause-options : goal.returns-clause-options
+returns-clause-options c = λ x written whole arguments bare.
+    let given = rw whole.again at (c.in_ok-parameters.ensures.options x whole.cooked_options bare.plain.parameters bare.distinct (rw whole.again arguments)) in
+    let fits = rw whole.again at (c.in_ok-parameters.ensures.gives x whole.cooked_options) in
+    rw whole.order (options_alike x written c.in_ok-parameters.parameters.items (distinct_if_fits x _ written _ fits) given)

@@ -10,7 +10,7 @@ use Rattle.just_recipes.specs.Numbering.{AreUsed}
 use Rattle.just_attributed_items.specs.Halting.{HaltsUnless}
 use Rattle.just_attributed_items.specs.Held.{IsItemCooked, IsOwnItem}
 use Rattle.just_grammar.specs.Reading.{entry_at}
-use Rattle.just_grammar.proofs.EntryTurns.{all_read, begun, entry_fewer, goes_on, more_behind, no_entry, taken}
+use Rattle.just_grammar.proofs.EntryTurns.{all_read, begun, entry_fewer, goes_on, more_behind, no_entry, not_ended, taken}
 use Rattle.just_grammar.proofs.InOrder.{in_order, none_in_order}
 use Rattle.just_grammar.proofs.ItemsHeld.{blank_cooked, none_held, one_held}
 use Rattle.just_grammar.proofs.file.items.Goals as goal
@@ -55,8 +55,9 @@ loop-alloc-preserved g c =
     let i = l.invariant in
     let x = g.E.Expander.expansion c.args.expander.now in
     let read = c.in_ok-read.read in
-    let no_end : accept word_of Eof (ahead l.cursor) ≡ None = grind arith in
-    let same : ahead c.accept.new.self ≡ ahead l.cursor = grind arith in
+    let none = not_ended (ahead l.cursor) c.accept.result (ahead c.accept.new.self) c.accept.ensures.accepted c.accept.ensures.none c.loop-alloc-test.ensures in
+    let no_end = none.0 in
+    let same = none.1 in
     let is : entry_at word_of x c.args.current.now (ahead l.cursor) ≡ Ok ((item_shape read.item, read.blank_lines), ahead c.entry.new.cursor) = rw same at c.in_ok-read.ensures.gives in
     let less = entry_fewer x c.args.current.now c.recipe_law.ensures.ends.tokens (c.law.ensures.items x c.args.current.now) (ahead l.cursor) (item_shape read.item, read.blank_lines) (ahead c.entry.new.cursor) is in
     let pushed : c.push_entry.new.items.items ≡ l.items.items ++ read.item ∷ replicate read.blank_lines Newline = search rules in

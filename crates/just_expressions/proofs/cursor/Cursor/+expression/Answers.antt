@@ -150,9 +150,10 @@ holes-returns-then-not-follows-clause-cooked g t c =
     let l = c.loop-holes in
     let given = both_given c.in_ok-expression.expression c.part.result (c.in_ok-expression-2.expression, (c.in_ok-expression-2.part, c.in_ok-expression-2.follows)) c.in_ok-expression-2.ensures in
     let part_cooked : cooked_part c.args.kind (written c.in_ok-expression-2.part) ≡ Ok c.in_ok-expression-2.part.cooked = rw given.1 at c.part.ensures.cooked in
+    let of_kind : c.in_ok-expression-2.part.kind ≡ c.args.kind = rw given.1 at c.part.ensures.kind in
     let pushed : c.push.new.self.items ≡ l.holes.items ++ (c.in_ok-expression-2.expression, c.in_ok-expression-2.part) ∷ [] = search rules in
     let hole_pushed = pushed ∙ ap (λ (e : Expression). l.holes.items ++ (e, c.in_ok-expression-2.part) ∷ []) given.0 in
-    rw hole_pushed (one_more_hole_cooked (g.E.Expander.expansion c.args.expander.now) c.args.kind l.holes.items c.in_ok-expression.expression c.in_ok-expression-2.part l.invariant.3 c.in_ok-expression.ensures.cooked part_cooked)
+    rw hole_pushed (one_more_hole_cooked (g.E.Expander.expansion c.args.expander.now) c.args.kind l.holes.items c.in_ok-expression.expression c.in_ok-expression-2.part l.invariant.3 c.in_ok-expression.ensures.cooked part_cooked of_kind)
 
 pub holes-loop-holes-smaller : goal.holes-loop-holes-smaller
 holes-loop-holes-smaller g t c =
@@ -169,10 +170,11 @@ holes-loop-holes-preserved g t c =
     let any_part : part_at word_of c.args.kind (ahead c.ranked.new.self) ≡ Ok ((written c.in_ok-expression-2.part, c.in_ok-expression-2.follows), ahead c.part.new.self) = rw given.1 at c.part.ensures.gives in
     let part : part_at word_of c.args.kind (ahead c.ranked.new.self) ≡ Ok ((written c.in_ok-expression-2.part, true), ahead c.part.new.self) = rw more at any_part in
     let part_cooked : cooked_part c.args.kind (written c.in_ok-expression-2.part) ≡ Ok c.in_ok-expression-2.part.cooked = rw given.1 at c.part.ensures.cooked in
+    let of_kind : c.in_ok-expression-2.part.kind ≡ c.args.kind = rw given.1 at c.part.ensures.kind in
     let less = hole_shorter x c.args.levels c.args.kind c.in_ok-expression.expression (ahead l.self) (ahead c.ranked.new.self) (written c.in_ok-expression-2.part, true) (ahead c.part.new.self) c.in_ok-expression.ensures.gives part in
     let pushed : c.push.new.self.items ≡ l.holes.items ++ (c.in_ok-expression-2.expression, c.in_ok-expression-2.part) ∷ [] = search rules in
     let hole_pushed = pushed ∙ ap (λ (e : Expression). l.holes.items ++ (e, c.in_ok-expression-2.part) ∷ []) given.0 in
-    (l.invariant.0 - 1, omega (arith, less, l.invariant.1), rw hole_pushed (more_holes x c.args.levels c.args.kind l.holes.items l.invariant.0 (ahead l.self) _ l.invariant.1 l.invariant.2 c.in_ok-expression.expression (ahead c.ranked.new.self) c.in_ok-expression-2.part (ahead c.part.new.self) c.in_ok-expression.ensures.gives part), rw hole_pushed (one_more_hole_cooked x c.args.kind l.holes.items c.in_ok-expression.expression c.in_ok-expression-2.part l.invariant.3 c.in_ok-expression.ensures.cooked part_cooked))
+    (l.invariant.0 - 1, omega (arith, less, l.invariant.1), rw hole_pushed (more_holes x c.args.levels c.args.kind l.holes.items l.invariant.0 (ahead l.self) _ l.invariant.1 l.invariant.2 c.in_ok-expression.expression (ahead c.ranked.new.self) c.in_ok-expression-2.part (ahead c.part.new.self) c.in_ok-expression.ensures.gives part), rw hole_pushed (one_more_hole_cooked x c.args.kind l.holes.items c.in_ok-expression.expression c.in_ok-expression-2.part l.invariant.3 c.in_ok-expression.ensures.cooked part_cooked of_kind))
 
 pub operand-returns-in_err-operand-clause-gives : goal.operand-returns-in_err-operand-clause-gives
 operand-returns-in_err-operand-clause-gives g t c =

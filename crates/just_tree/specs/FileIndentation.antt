@@ -6,9 +6,8 @@ use Rattle.just_tree.specs.declared.ast.Item.{Item}
 use Rattle.just_tree.specs.declared.ast.Item.TheVariants.{Set as SetItem}
 use Rattle.just_attribute_tree.specs.declared.setting.Setting.{Setting}
 use Rattle.just_attribute_tree.specs.declared.setting.Setting.TheVariants.{Indentation}
-use Rattle.just_attribute_tree.specs.Attributes.{attribute_shape}
 use Rattle.just_attributes.specs.Indentations.{is_indentation}
-use Rattle.just_attributes.specs.Sets.{enabled}
+use Rattle.just_attributes.specs.Sets.{is_enabled, items_of}
 
 -- the text of a setting of the indentation
 abbrev pub indentation_text : Setting → Option (List ℕ)
@@ -17,7 +16,7 @@ indentation_text other = None
 
 -- the indentation that an item sets where it is enabled
 abbrev pub item_indentation : Os → Item → Option (List ℕ)
-item_indentation os (SetItem set) = if enabled attribute_shape os set.attributes.items then indentation_text set.value else None
+item_indentation os (SetItem set) = if is_enabled os (items_of set.attributes) then indentation_text set.value else None
 item_indentation os other = None
 
 abbrev pub or_next : {B : Type 0} → Option B → Option B → Option B

@@ -1,7 +1,7 @@
 -- The first element that gives something, from a place on.
 use Rattle.std.proofs.Common.{◌≡◌, ℕ, ◌+◌, ◌<◌, ◌≤◌, List, ◌∷◌, length, get_or, drop, Option, Some, None, refl, sym, ◌∙◌, add-one, drop-cons}
 use Rattle.std.proofs.lemmas.List.{drop_all}
-use Rattle.just_attributes.specs.Files.{first_given, or_next}
+use Rattle.just_tree.specs.FileIndentation.{first_given, or_next}
 
 -- from a place on it is what stands there, or what follows gives
 pub given_at : {A B : Type 0} (f : A → Option B) (xs : List A) (i : ℕ) (x : A) → i < length xs → x ≡ get_or xs i x

@@ -1,9 +1,10 @@
 //! Things that have a name.
 ghost use Rattle.just_text.specs.Tokens.{lexeme};
 
-use just_attribute_tree::Set;
+use crate::item::{Alias, Binding, FunctionDefinition};
+use crate::recipe::Recipe;
+use crate::set::Set;
 use just_text::Name;
-use just_tree::{Alias, Binding, FunctionDefinition, Recipe};
 
 /// What has a name, by which it can be looked up.
 pub trait Keyed {

@@ -1,8 +1,8 @@
 -- The first item that gives an indentation ends the search.
 use Rattle.std.proofs.Common.{◌<◌, ◌≤◌, length, arith, sym, ◌∙◌}
-use Rattle.just_attributes.specs.Files.{item_indentation}
-use Rattle.just_attributes.proofs.First.{given_there, given_later, given_never}
-use Rattle.just_attributes.proofs.files.first_indentation.Goals as goal
+use Rattle.just_tree.specs.FileIndentation.{item_indentation}
+use Rattle.just_tree.proofs.First.{given_there, given_later, given_never}
+use Rattle.just_tree.proofs.indentation.first_indentation.Goals as goal
 
 pub loop-item-preserved : goal.loop-item-preserved
 loop-item-preserved c =
