@@ -76,6 +76,10 @@ fn refuses_lines(rt: HostRuntime) -> Result<(), Fail> {
     let rows = [
         ("[nope]\na:\n", "unknown attribute: `nope`"),
         ("[group]\na:\n", "attribute argument count: `group`, `0`"),
+        (
+            "[group('b', 'c')]\na:",
+            "attribute argument count: `group`, `2`",
+        ),
         ("[env('B')]\na:", "attribute argument count: `env`, `1`"),
         (
             "[private('b')]\na:",

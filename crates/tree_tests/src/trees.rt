@@ -1,21 +1,9 @@
-//! An alias of a recipe, and the marks of a body line.
+//! The marks of a body line.
 
-use crate::tokens::{name, token};
-use just_attributes::AttributeSet;
+use crate::tokens::token;
 use just_text::TokenKind;
-use just_tree::{Fragment, Line, RecipeAlias};
+use just_tree::{Fragment, Line};
 use std::test::Fail;
-
-#[test]
-fn prints_an_alias_of_a_recipe(rt: HostRuntime) -> Result<(), Fail> {
-    let alias: RecipeAlias = RecipeAlias {
-        attributes: AttributeSet::new(rt.alloc()),
-        name: name("b"),
-        target: name("build"),
-    };
-    assert_eq!(rt; alias.to_string(rt.alloc())?.as_str(), "alias b := build");
-    Ok(())
-}
 
 #[test]
 fn reads_marks(rt: HostRuntime) -> Result<(), Fail> {

@@ -1,4 +1,4 @@
-//! Tests of values, lists, paths, scopes, words and constants.
+//! Tests of values, lists, paths, words and constants.
 #![tactic(auto)]
 
 #[cfg(test)]
@@ -7,8 +7,6 @@ mod constants;
 mod lists;
 #[cfg(test)]
 mod paths;
-#[cfg(test)]
-mod scopes;
 #[cfg(test)]
 mod tokens;
 #[cfg(test)]
