@@ -1,16 +1,10 @@
 //! The program: a justfile on standard input, its commands on standard output.
 #![tactic(auto)]
 
-mod expander;
-mod host;
-mod input;
-
-use crate::expander::Unexpanded;
-use crate::host::Printing;
-use crate::input::read_justfile;
 use anyhow::{Context, Result};
 use just_excerpt::Excerpt;
 use just_run::{Action, Collected, Config, Fault, Recorded, drive};
+use just_streams::{Printing, Unexpanded, read_justfile};
 use justfile_syntax::Os;
 use semver::Version;
 use std::alloc::Global;

@@ -1,9 +1,9 @@
 //! A host that prints commands and runs none.
-use just_run::{
+use just_host::{
     Answer, CommandJob, Confirmation, DotenvRequest, Host, HostFault, Pair, Question, RunHost,
     ScriptJob, Status,
 };
-use justfile_syntax::Sequence;
+use just_text::Sequence;
 use std::io::Write;
 
 /// Prints each command as a line, and answers that it ended with code 0; it shows texts beside them.

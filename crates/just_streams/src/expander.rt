@@ -2,7 +2,7 @@
 //! yet, and is refused for that.
 ghost use Rattle.std.specs.Prelude.{Ok};
 
-use justfile_syntax::{ExpandFault, Expander, Text};
+use just_text::{ExpandFault, Expander, Text};
 use std::alloc::Global;
 
 /// Gives each text as it is.
