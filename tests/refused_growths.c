@@ -3,7 +3,8 @@
  * Loaded before a program (LD_PRELOAD), it counts the program's calls of malloc, calloc and realloc from its
  * start on. REFUSE_FROM names the first call to refuse, counted from 1, and REFUSE_TO the last one; a missing
  * REFUSE_TO means that one call, and `end` each later one too. A refused call gives no memory and sets ENOMEM.
- * For each refusal a byte goes to the file descriptor 9, so that the caller knows whether there was one.
+ * For each refusal a byte goes to the file descriptor 9, so that the caller knows whether there was one. What the
+ * program starts isn't loaded behind it.
  */
 #include <errno.h>
 #include <limits.h>
@@ -35,6 +36,7 @@ __attribute__((constructor)) static void start(void)
     }
     if (to != NULL)
         last = strcmp(to, "end") == 0 ? LONG_MAX : atol(to);
+    unsetenv("LD_PRELOAD");
     started = 1;
 }
 

@@ -1,41 +1,33 @@
-//! The program: a justfile on standard input, its commands on standard output.
+//! The program: runs what its words name of the justfile of a folder.
 #![tactic(auto)]
 
-use anyhow::{Context, Result};
+mod switch;
+
+use anyhow::{Context, Result, bail};
 use just_excerpt::Excerpt;
-use just_run::{Action, Collected, Config, Fault, Recorded, drive};
-use just_streams::{Printing, Unexpanded, read_justfile};
-use justfile_syntax::Os;
+use just_expander::Environment;
+use just_loader::{base_folder, find_root, load};
+use just_run::{Action, Config, Device, Fault, Recorded, drive};
+use just_shell::Shell;
+use just_value::Positional;
+use justfile_syntax::{Os, Text};
 use semver::Version;
 use std::alloc::Global;
 use std::collections::BTreeMap;
 use std::io::{BufWriter, Write};
 use std::process::ExitCode;
-use std::{env, io};
+use std::{env, io, process};
+use switch::{Start, read_start};
 
-/// The key of the one file.
-const ROOT: &str = "justfile";
-
-/// How the program runs what it is given.
-fn config(alloc: Global, folder: &str) -> Result<Config> {
-    Ok(Config {
-        os: Os::Linux,
-        arch: String::from_str(alloc, "x86_64")?,
-        base: String::from_str(alloc, folder)?,
-        working_directory: String::from_str(alloc, folder)?,
-        invocation_directory: String::from_str(alloc, folder)?,
-        dry_run: false,
-        yes: false,
-        no_dependencies: false,
-        quiet: false,
-        loquacious: false,
-        unstable: false,
-        jobs: None,
-        shell: None,
-        shell_args: None,
-        recursion_limit: 256,
-        version: Version::new(1, 58, 0),
-    })
+/// A project, as the words name it.
+#[derive(Drop)]
+struct Project {
+    /// The folder of the root file.
+    base: String,
+    /// The root file by the words' search directory.
+    roots: BTreeMap<Option<String>, String>,
+    /// The files by their paths below the folder.
+    sources: BTreeMap<String, String>,
 }
 
 /// The program's words, without its name.
@@ -49,25 +41,71 @@ fn words(rt: &HostRuntime) -> Result<Vec<String>> {
     Ok(words)
 }
 
-/// How the program runs what it is given, in the current folder.
-fn config_here(rt: &HostRuntime) -> Result<Config> {
+/// The folder that the program was started in.
+fn current_folder(rt: &HostRuntime) -> Result<String> {
     let folder = env::current_dir(rt).context("could not find the current folder")?;
-    config(rt.alloc(), folder.as_str())
+    Ok(String::from_str(rt.alloc(), folder.as_str())?)
 }
 
-/// The justfile under its key.
-fn read_sources(rt: &HostRuntime) -> Result<BTreeMap<String, String>> {
-    let text = read_justfile(rt)?;
-    let mut sources = BTreeMap::new(rt.alloc());
-    sources.insert(String::from_str(rt.alloc(), ROOT)?, text)?;
-    Ok(sources)
+/// How the program runs what it is given.
+fn config(alloc: Global, base: &str, current: &str, start: &Start) -> Result<Config> {
+    Ok(Config {
+        os: Os::Linux,
+        arch: String::from_str(alloc, "x86_64")?,
+        base: String::from_str(alloc, base)?,
+        working_directory: String::from_str(alloc, base)?,
+        invocation_directory: String::from_str(alloc, current)?,
+        dry_run: start.dry_run,
+        yes: start.yes,
+        no_dependencies: false,
+        quiet: false,
+        loquacious: false,
+        unstable: false,
+        jobs: None,
+        shell: None,
+        shell_args: None,
+        recursion_limit: 256,
+        version: Version::new(1, 58, 0),
+    })
 }
 
-/// The justfile's key, for all words.
-fn root(alloc: Global) -> Result<BTreeMap<Option<String>, String>> {
+/// The search directory as a key.
+fn root_key(alloc: Global, directory: Option<&Text>) -> Result<Option<String>> {
+    match directory {
+        Some(directory) => Ok(Some(String::from_str(alloc, directory.as_str())?)),
+        None => Ok(None),
+    }
+}
+
+/// The root file's name under the search directory.
+fn roots(
+    alloc: Global,
+    directory: Option<&Text>,
+    name: &str,
+) -> Result<BTreeMap<Option<String>, String>> {
     let mut roots = BTreeMap::new(alloc);
-    roots.insert(None, String::from_str(alloc, ROOT)?)?;
+    roots.insert(root_key(alloc, directory)?, String::from_str(alloc, name)?)?;
     Ok(roots)
+}
+
+/// The project in the folder that the search directory names. Without a root file it is empty.
+fn read_project(rt: &HostRuntime, current: &str, directory: Option<&Text>) -> Result<Project> {
+    let alloc = rt.alloc();
+    let base = base_folder(alloc, current, directory)?;
+    let Some(name) = find_root(rt, base.as_str())? else {
+        return Ok(Project {
+            base,
+            roots: BTreeMap::new(alloc),
+            sources: BTreeMap::new(alloc),
+        });
+    };
+    let sources = load(rt, base.as_str(), name.as_str())?;
+    let roots = roots(alloc, directory, name.as_str())?;
+    Ok(Project {
+        base,
+        roots,
+        sources,
+    })
 }
 
 /// Shows why the run ended, and gives the status to end with.
@@ -80,53 +118,58 @@ fn report<W: Write>(shown: &mut W, fault: &Fault) -> u8 {
     fault.status()
 }
 
-/// Drives the justfile, and gives the status to end with.
-fn drive_words<W: Write + Drop, V: Write + Drop>(
-    alloc: Global,
+/// Sends on what was shown, and gives the status of a run without a fault.
+fn finish<W: Write>(shown: &mut W) -> u8 {
+    let _ = shown.flush();
+    0
+}
+
+/// Drives the project by the words, and gives the status to end with.
+fn drive_project(
+    rt: &HostRuntime,
     config: &Config,
-    sources: &BTreeMap<String, String>,
+    project: &Project,
     words: &[String],
-    printing: Printing<W, V>,
 ) -> Result<u8> {
-    let roots = root(alloc)?;
-    let mut host = Recorded::new(alloc, printing);
-    let mut out = Collected::new(alloc);
+    let alloc = rt.alloc();
+    let environment = Environment::read(rt)?;
+    let shown = BufWriter::new(alloc, rt.stderr())?;
+    let shell = Shell::new(rt, shown, config.base.as_str(), process::id(rt.process()));
+    let mut host = Recorded::new(alloc, shell);
+    let mut out = Device::new(alloc, io::writer(rt));
     let answer = drive(
         alloc,
         config,
-        &Unexpanded,
-        sources,
-        &roots,
+        &environment,
+        &project.sources,
+        &project.roots,
         words,
         Action::Run,
         &mut host,
         &mut out,
     );
-    let Printing {
-        mut output,
-        mut shown,
-    } = host.into_host();
-    let flushed = output.flush();
-    let _ = shown.flush();
-    let status = match answer {
-        Ok(_) => 0,
+    let exhausted = host.exhausted();
+    let mut shown = host.into_host().into_shown();
+    Ok(match answer {
+        Ok(_) if exhausted => report(&mut shown, &Fault::OutOfMemory),
+        Ok(_) => finish(&mut shown),
         Err(fault) => report(&mut shown, &fault),
-    };
-    flushed.context("could not write the commands to standard output")?;
-    Ok(status)
+    })
 }
 
-/// Drives the justfile on standard input by the program's words.
+/// Does what the program's words ask, and gives the status to end with.
 fn run(rt: &HostRuntime) -> Result<u8> {
     let alloc = rt.alloc();
     let words = words(rt)?;
-    let sources = read_sources(rt)?;
-    let config = config_here(rt)?;
-    let printing = Printing {
-        output: BufWriter::new(alloc, rt.stdout())?,
-        shown: BufWriter::new(alloc, rt.stderr())?,
-    };
-    drive_words(alloc, &config, &sources, words.as_slice(), printing)
+    let start = read_start(words.as_slice());
+    if let Some(word) = start.not_yet {
+        bail!("not yet: `{word}`");
+    }
+    let positional = Positional::from_values(alloc, start.rest)?;
+    let current = current_folder(rt)?;
+    let project = read_project(rt, current.as_str(), positional.search_directory.as_ref())?;
+    let config = config(alloc, project.base.as_str(), current.as_str(), &start)?;
+    drive_project(rt, &config, &project, start.rest)
 }
 
 fn main(rt: HostRuntime) -> ExitCode {

@@ -1,0 +1,6 @@
+a: b c
+  echo a
+b: c
+  echo b
+c:
+  echo c
