@@ -4,7 +4,7 @@ use Rattle.std.proofs.lemmas.Bool.{eqb-false}
 use Rattle.std.proofs.lemmas.List.{take_more, length-map}
 use Rattle.std.specs.Borrow.{Bor}
 use Rattle.just_value.specs.Constants.{row_of}
-use Rattle.just_value.specs.Frames.{Bound, Rebinds, BindsRows, constant_binding}
+use Rattle.just_value.specs.Frames.{BoundRow, Rebinds, BindsRows, constant_binding}
 
 by_test : {G : Type 0} (b : Bool) → (b ≡ true → G) → (b ≡ false → G) → G
 by_test true holds fails = holds refl
@@ -29,7 +29,7 @@ get_or_mapped f (x ∷ xs) zero d = refl
 get_or_mapped f (x ∷ xs) (suc i) d = get_or_mapped f xs i d
 
 -- one more row
-row_more : (rows : List (List ℕ × List ℕ)) (i : ℕ) (row : List ℕ × List ℕ) (old new : List Bound) → length rows ≡ i → BindsRows rows old → Rebinds old (constant_binding i row) new → BindsRows (rows ++ row ∷ []) new
+row_more : (rows : List (List ℕ × List ℕ)) (i : ℕ) (row : List ℕ × List ℕ) (old new : List BoundRow) → length rows ≡ i → BindsRows rows old → Rebinds old (constant_binding i row) new → BindsRows (rows ++ row ∷ []) new
 row_more rows i row old new long so_far rebound = λ n.
     let more : slice_get (rows ++ row ∷ []) n ≡ cond (eqb n i) (Some row) (slice_get rows n) = slice_get_push rows row n ∙ ap (λ k. cond (eqb n k) (Some row) (slice_get rows n)) long in
     by_test (eqb n i)
@@ -42,7 +42,7 @@ row_more rows i row old new long so_far rebound = λ n.
 abbrev pub no_row : Bor (List ℕ) × Bor (List ℕ)
 no_row = (record { ref_ptr = (0, 0); now = [] }, record { ref_ptr = (0, 0); now = [] })
 
-pub one_row_more : (raw : List (Bor (List ℕ) × Bor (List ℕ))) (rows : List (List ℕ × List ℕ)) (i : ℕ) (d : Bor (List ℕ) × Bor (List ℕ)) (b : Bound) (old new : List Bound) → map row_of raw ≡ rows → i < length raw
+pub one_row_more : (raw : List (Bor (List ℕ) × Bor (List ℕ))) (rows : List (List ℕ × List ℕ)) (i : ℕ) (d : Bor (List ℕ) × Bor (List ℕ)) (b : BoundRow) (old new : List BoundRow) → map row_of raw ≡ rows → i < length raw
     → b ≡ constant_binding i (row_of (get_or raw i d)) → BindsRows (take i rows) old → Rebinds old b new → BindsRows (take (i + 1) rows) new
 one_row_more raw rows i d b old new is lt row so_far rebound =
     let within : i < length rows = omega (arith, lt, ap length is, length-map raw row_of) in

@@ -11,11 +11,11 @@ use Rattle.std.specs.Ordering.{nat_cmp, is_eq, match_ordering}
 use Rattle.std.specs.declared.cmp.Ordering.{Ordering}
 use Rattle.std.specs.declared.cmp.Ordering.TheVariants.{Less, Equal, Greater}
 use Rattle.std.proofs.lemmas.Bool.{eqb-false}
-use Rattle.just_tree.specs.declared.item.Binding.{Binding}
-use Rattle.just_value.specs.Frames.{Bound, bound_of, bound_in, Rebinds, ByNumber}
+use Rattle.just_value.specs.declared.bound.Bound.{Bound}
+use Rattle.just_value.specs.Frames.{BoundRow, bound_of, bound_in, Rebinds, ByNumber}
 
 abbrev pub Entry : Type 0
-Entry = ℕ × Binding (List (List ℕ))
+Entry = ℕ × Bound
 
 -- each key is its binding's number
 abbrev pub Numbered : List Entry → Type 0
@@ -33,7 +33,7 @@ numbered_with e es first rest = λ k. elim k as (λ n. (d : Entry) → n < lengt
   | suc n ↦ λ d l. rest n d (omega (arith, l))
 ]
 
-abbrev pub frame_of : List Entry → List Bound
+abbrev pub frame_of : List Entry → List BoundRow
 frame_of es = map (λ e. bound_of e.1) es
 
 by_test : {G : Type 0} (b : Bool) → (b ≡ true → G) → (b ≡ false → G) → G
@@ -60,18 +60,18 @@ bound_in_is (e ∷ es) n h =
     let same : is_eq (nat_cmp n e.0) ≡ eqb n e.1.number = cmp_is_eq n e.0 ∙ ap (eqb n) (numbered_first e es h) in
     rw same (by_test (eqb n e.1.number) (λ t. rw t refl) (λ t. rw t (bound_in_is es n (numbered_rest e es h))))
 
-inserted_by : (o : Ordering) (k : ℕ) (v : Binding (List (List ℕ))) (e : Entry) (es rest : List Entry) → (o ≡ Equal → k ≡ e.0) → k ≡ v.number → Numbered (e ∷ es) → Numbered rest
+inserted_by : (o : Ordering) (k : ℕ) (v : Bound) (e : Entry) (es rest : List Entry) → (o ≡ Equal → k ≡ e.0) → k ≡ v.number → Numbered (e ∷ es) → Numbered rest
     → Numbered (match_ordering o ((k, v) ∷ e ∷ es) ((e.0, v) ∷ es) (e ∷ rest))
 inserted_by Less k v e es rest same is h r = numbered_with (k, v) (e ∷ es) is h
 inserted_by Equal k v e es rest same is h r = numbered_with (e.0, v) es (sym (same refl) ∙ is) (numbered_rest e es h)
 inserted_by Greater k v e es rest same is h r = numbered_with e rest (numbered_first e es h) r
 
-inserted : (es : List Entry) (k : ℕ) (v : Binding (List (List ℕ))) → k ≡ v.number → Numbered es → Numbered (insert_entry nat_cmp es k v)
+inserted : (es : List Entry) (k : ℕ) (v : Bound) → k ≡ v.number → Numbered es → Numbered (insert_entry nat_cmp es k v)
 inserted [] k v is h = numbered_with (k, v) [] is h
 inserted (e ∷ es) k v is h = inserted_by (nat_cmp k e.0) k v e es (insert_entry nat_cmp es k v) (equal_numbers k e.0) is h (inserted es k v is (numbered_rest e es h))
 
 -- an insertion, refused or not, keeps the numbers
-pub numbered_stays : {X Y : Type 0} (r : Result X Y) (old new : List Entry) (k : ℕ) (v : Binding (List (List ℕ))) → OnOk r (new ≡ insert_entry nat_cmp old k v) → OnErr r (new ≡ old) → k ≡ v.number → Numbered old → Numbered new
+pub numbered_stays : {X Y : Type 0} (r : Result X Y) (old new : List Entry) (k : ℕ) (v : Bound) → OnOk r (new ≡ insert_entry nat_cmp old k v) → OnErr r (new ≡ old) → k ≡ v.number → Numbered old → Numbered new
 numbered_stays (Ok x) old new k v ok err is h = subst Numbered (sym ok) (inserted old k v is h)
 numbered_stays (Err y) old new k v ok err is h = subst Numbered (sym err) h
 
@@ -80,7 +80,7 @@ mapped f true x o = refl
 mapped f false x o = refl
 
 -- a map with one more entry is the frame with the binding
-pub rebinds : (old new : List Entry) (v : Binding (List (List ℕ))) → Numbered old → Numbered new
+pub rebinds : (old new : List Entry) (v : Bound) → Numbered old → Numbered new
     → ((q : ℕ) → lookup (λ k. is_eq (nat_cmp q k)) new ≡ cond (is_eq (nat_cmp v.number q)) (Some v) (lookup (λ k. is_eq (nat_cmp q k)) old))
     → Rebinds (frame_of old) (bound_of v) (frame_of new)
 unfolding bound_of

@@ -6,9 +6,7 @@ use Rattle.std.specs.Ordering.{nat_cmp}
 use Rattle.just_text.specs.declared.name.Name.{Name}
 use Rattle.just_text.specs.declared.token_kind.TokenKind.{TokenKind}
 use Rattle.just_text.specs.declared.token_kind.TokenKind.TheVariants.{Identifier}
-use Rattle.just_attribute_tree.specs.Attributes.{attribute_text}
-use Rattle.just_attributes.specs.Sets.{shapes_in}
-use Rattle.just_tree.specs.declared.item.Binding.{Binding}
+use Rattle.just_value.specs.declared.bound.Bound.{Bound}
 
 -- a name where it is written, without where it lies in memory
 pub record WrittenName : Type 0 where
@@ -31,71 +29,69 @@ written_name n = record {
   src = n.token.src.now;
 }
 
--- a binding: its attributes as they are printed, its words, its name and the texts of its value
-pub record Bound : Type 0 where
-  pub attributes : List (List ℕ)
-  pub eager : Bool
+-- a binding: its words, its name where it is written, its number and the texts of its value
+pub record BoundRow : Type 0 where
   pub export : Bool
-  pub file_depth : ℕ
   pub name : WrittenName
   pub number : ℕ
   pub prelude : Bool
-  pub private : Bool
   pub value : List (List ℕ)
 
-unfoldable pub bound_of : Binding (List (List ℕ)) → Bound
+unfoldable pub bound_of : Bound → BoundRow
 bound_of b = record {
-  attributes = map attribute_text (shapes_in b.attributes);
-  eager = b.eager;
   export = b.export;
-  file_depth = b.file_depth;
   name = written_name b.name;
   number = b.number;
   prelude = b.prelude;
-  private = b.private;
   value = b.value;
 }
 
 -- the binding of a number in one frame
-abbrev pub bound_in : List Bound → ℕ → Option Bound
+abbrev pub bound_in : List BoundRow → ℕ → Option BoundRow
 bound_in [] number = None
 bound_in (binding ∷ bindings) number = cond (number == binding.number) (Some binding) (bound_in bindings number)
 
 -- the binding of a number in the first frame that has it
-abbrev pub found_in : List (List Bound) → ℕ → Option Bound
+abbrev pub found_in : List (List BoundRow) → ℕ → Option BoundRow
 found_in [] number = None
 found_in (frame ∷ frames) number = option_or (bound_in frame number) (found_in frames number)
 
 -- the second frame has the binding at its number, and else what the first has
-abbrev pub Rebinds : List Bound → Bound → List Bound → Type 0
+abbrev pub Rebinds : List BoundRow → BoundRow → List BoundRow → Type 0
 Rebinds old binding new = (number : ℕ) → bound_in new number ≡ cond (number == binding.number) (Some binding) (bound_in old number)
 
 -- no number comes twice, and each before the greater ones
-abbrev pub ByNumber : List Bound → Type 0
+abbrev pub ByNumber : List BoundRow → Type 0
 ByNumber frame = IsStrictlySortedBy nat_cmp (map (λ b. b.number) frame)
 
 -- a frame and those around it, innermost first
 pub record Frames : Type 0 where
-  pub own : List Bound
-  pub outer : List (List Bound)
+  pub own : List BoundRow
+  pub outer : List (List BoundRow)
 
-abbrev pub look_up : Frames → ℕ → Option Bound
+abbrev pub look_up : Frames → ℕ → Option BoundRow
 look_up frames number = found_in (frames.own ∷ frames.outer) number
 
 -- a constant by its row and number
-abbrev pub constant_binding : ℕ → List ℕ × List ℕ → Bound
+abbrev pub constant_binding : ℕ → List ℕ × List ℕ → BoundRow
 constant_binding number row = record {
-  attributes = [];
-  eager = false;
   export = false;
-  file_depth = 0;
   name = record { column = 0; kind = Identifier; length = length row.0; line = 0; offset = 0; path = codes "PRELUDE"; src = row.0 };
   number = number;
   prelude = true;
-  private = false;
   value = row.1 ∷ [];
 }
 
+-- a name with its number and its value, no constant
+abbrev pub value_binding : Name → ℕ → Bool → List (List ℕ) → BoundRow
+value_binding name number export value = record {
+  export = export;
+  name = written_name name;
+  number = number;
+  prelude = false;
+  value = value;
+}
+
 -- each number is bound to the row at its place, and no other number is bound
-abbrev pub BindsRows : List (List ℕ × List ℕ) → List Bound → Type 0
+abbrev pub BindsRows : List (List ℕ × List ℕ) → List BoundRow → Type 0
 BindsRows rows frame = (number : ℕ) → bound_in frame number ≡ option_map (constant_binding number) (slice_get rows number)

@@ -3,9 +3,8 @@ ghost use Rattle.std.specs.Prelude.{◌≡◌, [], OnOk, IfErr, map};
 ghost use Rattle.std.specs.Option.{option_map};
 ghost use Rattle.just_value.specs.Frames.{Rebinds, ByNumber, bound_in, bound_of};
 
-use crate::value::Value;
+use crate::bound::Bound;
 use just_text::Number;
-use just_tree::Binding;
 use std::alloc::{AllocFailed, Global};
 use std::collections::BTreeMap;
 use std::collections::btree_map::Values;
@@ -14,14 +13,14 @@ use std::marker::Model;
 /// Bindings, at most one of each number.
 #[derive(Drop)]
 pub struct Frame<'src> {
-    bindings: BTreeMap<Number, Binding<'src, Value>>,
+    bindings: BTreeMap<Number, Bound<'src>>,
 }
 
 impl<'src> Model for Frame<'src> {
     ghost use Rattle.std.specs.Prelude.{◌≡◌, All, List, map};
-    ghost use Rattle.just_value.specs.Frames.{Bound, bound_of};
+    ghost use Rattle.just_value.specs.Frames.{BoundRow, bound_of};
 
-    ghost Value = { List Bound };
+    ghost Value = { List BoundRow };
 
     ghost view = { λ f. map (λ e. bound_of e.1) f.bindings.entries };
 
@@ -40,10 +39,7 @@ impl<'src> Frame<'src> {
 
     /// Puts the binding in, in place of an earlier one of its number. A refused growth changes
     /// nothing and gives the binding back.
-    pub(crate) fn bind(
-        &mut self,
-        binding: Binding<'src, Value>,
-    ) -> Result<(), AllocFailed<Binding<'src, Value>>>
+    pub(crate) fn bind(&mut self, binding: Bound<'src>) -> Result<(), AllocFailed<Bound<'src>>>
         ensures bound { OnOk result (Rebinds self.old (bound_of binding.entry) self.new) }
         ensures refused { IfErr result (λ e. (self.new ≡ self.old) × (bound_of e.value ≡ bound_of binding.entry)) }
     {
@@ -58,14 +54,14 @@ impl<'src> Frame<'src> {
     }
 
     /// The binding of the number, if there is one. Takes no memory.
-    pub fn binding(&self, number: Number) -> Option<&Binding<'src, Value>>
+    pub fn binding(&self, number: Number) -> Option<&Bound<'src>>
         ensures { option_map (λ b. bound_of b.now) result ≡ bound_in self.now number }
     {
         self.bindings.get(&number)
     }
 
     /// Goes over the bindings by their numbers. Takes no memory.
-    pub fn bindings(&self) -> Bindings<'_, Binding<'src, Value>>
+    pub fn bindings(&self) -> Bindings<'_, Bound<'src>>
         ensures all { map bound_of result ≡ self.now }
         ensures sorted { ByNumber self.now }
     {

@@ -1,6 +1,7 @@
 //! Values of justfiles: lists of texts, and the words that a call is given.
 #![tactic(auto)]
 
+pub mod bound;
 mod combine;
 pub mod constant;
 mod display;
@@ -14,6 +15,7 @@ pub mod scope;
 pub mod uri;
 pub mod value;
 
+pub use bound::Bound;
 pub use constant::{CONSTANT_COUNT, constants};
 pub use fault::{ConstError, ConstEvalError, StringContext, ValueFault};
 pub use frame::{Bindings, Frame};

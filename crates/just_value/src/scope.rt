@@ -2,14 +2,13 @@
 ghost use Rattle.std.specs.Prelude.{◌≡◌, ◌∷◌, [], IfOk, IfErr, OnOk, map};
 ghost use Rattle.std.specs.Option.{option_map};
 ghost use Rattle.just_value.specs.Constants.{constant_rows};
-ghost use Rattle.just_value.specs.Frames.{BindsRows, Rebinds, ByNumber, bound_of, constant_binding, look_up};
+ghost use Rattle.just_value.specs.Frames.{BindsRows, Rebinds, ByNumber, bound_of, constant_binding, look_up, value_binding};
 
+use crate::bound::Bound;
 use crate::constant::{CONSTANT_COUNT, constants};
 use crate::frame::{Bindings, Frame};
 use crate::value::Value;
-use just_attributes::AttributeSet;
 use just_text::{Name, Number, Numerator, Token, TokenKind};
-use just_tree::Binding;
 use std::alloc::{AllocError, AllocFailed, Global};
 use std::marker::Model;
 
@@ -65,18 +64,39 @@ impl<'outer, 'src> Scope<'outer, 'src> {
 
     /// Puts the binding into the innermost frame, in place of an earlier one of its number there. A
     /// refused growth changes nothing and gives the binding back.
-    pub fn bind(
-        &mut self,
-        binding: Binding<'src, Value>,
-    ) -> Result<(), AllocFailed<Binding<'src, Value>>>
+    pub fn bind(&mut self, binding: Bound<'src>) -> Result<(), AllocFailed<Bound<'src>>>
         ensures bound { OnOk result (Rebinds self.old.own (bound_of binding.entry) self.new.own × (self.new.outer ≡ self.old.outer)) }
         ensures refused { IfErr result (λ e. (self.new ≡ self.old) × (bound_of e.value ≡ bound_of binding.entry)) }
     {
         self.own.bind(binding)
     }
 
+    /// Binds the name to the value in the innermost frame, in place of an earlier binding of the number
+    /// there; the binding is no constant. A refused growth changes nothing.
+    #[tactic(auto, unfolding(crate::specs::Frames::bound_of))]
+    pub fn bind_value(
+        &mut self,
+        name: Name<'src>,
+        number: Number,
+        export: bool,
+        value: Value,
+    ) -> Result<(), AllocError>
+        ensures bound { OnOk result (Rebinds self.old.own (value_binding name.entry number export value) self.new.own × (self.new.outer ≡ self.old.outer)) }
+        ensures refused { IfErr result (λ _. self.new ≡ self.old) }
+    {
+        let binding = Bound {
+            export,
+            name,
+            number,
+            prelude: false,
+            value,
+        };
+        self.bind(binding)?;
+        Ok(())
+    }
+
     /// The number's binding in the innermost frame that has one. Takes no memory.
-    pub fn binding(&self, number: Number) -> Option<&Binding<'src, Value>>
+    pub fn binding(&self, number: Number) -> Option<&Bound<'src>>
         ensures { option_map (λ b. bound_of b.now) result ≡ look_up self.now number }
     {
         if let Some(binding) = self.own.binding(number) {
@@ -101,7 +121,7 @@ impl<'outer, 'src> Scope<'outer, 'src> {
     }
 
     /// Goes over the innermost frame's bindings by their numbers. Takes no memory.
-    pub fn bindings(&self) -> Bindings<'_, Binding<'src, Value>>
+    pub fn bindings(&self) -> Bindings<'_, Bound<'src>>
         ensures all { map bound_of result ≡ self.now.own }
         ensures sorted { ByNumber self.now.own }
     {
@@ -122,7 +142,7 @@ fn constant<'src>(
     number: Number,
     name: &'static str,
     text: &str,
-) -> Result<Binding<'src, Value>, AllocError>
+) -> Result<Bound<'src>, AllocError>
     ensures { IfOk result (λ b. bound_of b ≡ constant_binding number (name.now, text.now)) }
 {
     let token = Token {
@@ -134,15 +154,11 @@ fn constant<'src>(
         path: "PRELUDE",
         src: name,
     };
-    Ok(Binding {
-        attributes: AttributeSet::new(alloc),
-        eager: false,
+    Ok(Bound {
         export: false,
-        file_depth: 0,
         name: Name::from_token(token),
         number,
         prelude: true,
-        private: false,
         value: Value::from_text(alloc, text)?,
     })
 }

@@ -1,6 +1,7 @@
 //! Values: lists of texts.
 ghost use Rattle.std.specs.Prelude.{◌≡◌, ◌≢◌, ◌<◌, ◌↔◌, ◌++◌, ◌∷◌, [], IfOk, IfErr, IsTrue, MatchResult, Some, None, codes, cond, if◌then◌else◌, is_ok, length, map};
 ghost use Rattle.std.specs.Iterator.{IsFinite, size};
+ghost use Rattle.std.specs.List.{flat_map};
 ghost use Rattle.std.specs.Iterator.Runs.{WholeRun};
 ghost use Rattle.std.specs.Ordering.{as_partial_cmp};
 ghost use Rattle.std.specs.Slice.Iter.{iter_rest};
@@ -85,6 +86,17 @@ impl Value {
         Ok(Value { elements })
     }
 
+    /// The elements of the lists, one list behind the other. Refused only where memory is.
+    pub fn from_values(alloc: Global, values: Vec<Value>) -> Result<Value, AllocError>
+        ensures { IfOk result (λ v. v ≡ flat_map (λ list. list) values.items) }
+    {
+        let mut all = Value::new(alloc);
+        for value in values {
+            all.append(value)?;
+        }
+        Ok(all)
+    }
+
     /// The elements in order.
     pub fn elements(&self) -> &[String]
         ensures { map string_bytes result.now ≡ self.now }
@@ -119,6 +131,14 @@ impl Value {
         ensures returned { IfErr result (λ e. e.value ≡ text) }
     {
         self.elements.push(text)
+    }
+
+    /// Puts the other's elements behind the own. A refused growth changes nothing.
+    pub fn append(&mut self, other: Value) -> Result<(), AllocError>
+        ensures { self.new ≡ (if is_ok result then self.old ++ other else self.old) }
+    {
+        let mut elements = other.into_elements();
+        self.elements.append(&mut elements)
     }
 
     /// The elements with a space between two. Refused only where memory is.

@@ -13,4 +13,4 @@ invariant_of-token c = record {
 
 pub returns : goal.returns
 unfolding bound_of
-returns c = rw (c.new.ensures, c.from_token.ensures, c.in_ok-from_text.ensures) refl
+returns c = rw (c.from_token.ensures, c.in_ok-from_text.ensures) refl
