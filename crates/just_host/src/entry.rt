@@ -4,7 +4,7 @@ use crate::job::{CommandJob, DotenvRequest, Pair, ScriptJob};
 use just_text::{Sequence, Text};
 
 /// One thing that was asked of a host, with its answer.
-#[derive(Debug, Drop, PartialEq, Eq)]
+#[derive(Drop)]
 pub enum Entry {
     Asked(Question, Answer),
     Line(CommandJob, Status),

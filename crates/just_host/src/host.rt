@@ -1,5 +1,5 @@
 //! What a run asks of the outside, and what it is answered.
-ghost use Rattle.std.specs.Prelude.{◌≡◌, ◌∷◌, [], ◌++◌, List, Some};
+ghost use Rattle.std.specs.Prelude.{◌≡◌, ◌∷◌, [], ◌++◌, ◌⊎◌, List, Some, codes};
 ghost use Rattle.just_host.specs.declared.entry.Entry.{Entry};
 ghost use Rattle.just_host.specs.declared.entry.Entry.TheVariants.{Asked, Line, Script, Confirm, Show, Dotenv};
 ghost use Rattle.just_host.specs.declared.host.Status.{Status};
@@ -7,7 +7,7 @@ ghost use Rattle.just_host.specs.declared.host.Confirmation.{Confirmation};
 
 use crate::job::{CommandJob, DotenvRequest, Pair, ScriptJob};
 use just_text::{Sequence, Text};
-use std::alloc::AllocError;
+use std::alloc::{AllocError, AllocFailed, Global};
 use std::fmt;
 
 /// A fact about the machine.
@@ -38,7 +38,7 @@ pub enum MachineFact {
 }
 
 /// What is asked while texts are evaluated.
-#[derive(Debug, Drop, PartialEq, Eq)]
+#[derive(Drop)]
 pub enum Question {
     /// What the command prints.
     Command(CommandJob),
@@ -56,7 +56,7 @@ pub enum Question {
 }
 
 /// Why a question has no answer. It prints as the words behind each.
-#[derive(Debug, Drop, PartialEq, Eq)]
+#[derive(Debug, Drop)]
 pub enum HostFault {
     /// A command ended with this code: `exit code N`.
     Code(u8),
@@ -73,7 +73,7 @@ pub enum HostFault {
 }
 
 /// What a question is answered.
-#[derive(Debug, Drop, PartialEq, Eq)]
+#[derive(Drop)]
 pub enum Answer {
     Text(Text),
     Truth(bool),
@@ -146,6 +146,41 @@ pub trait RunHost: Host {
         ensures { Self.goes self.old (Dotenv request.now result ∷ []) self.new };
 }
 
+impl From<AllocError> for HostFault {
+    ghost use Rattle.std.specs.Prelude.{◌≡◌};
+    ghost use Rattle.just_host.specs.declared.host.HostFault.TheVariants.{Memory};
+
+    ghost from_gives = { λ _ fault. fault ≡ Memory };
+
+    fn from(_refused: AllocError) -> HostFault {
+        HostFault::Memory
+    }
+}
+
+impl<T: Drop> From<AllocFailed<T>> for HostFault {
+    ghost use Rattle.std.specs.Prelude.{◌≡◌};
+    ghost use Rattle.just_host.specs.declared.host.HostFault.TheVariants.{Memory};
+
+    ghost from_gives = { λ _ fault. fault ≡ Memory };
+
+    fn from(_refused: AllocFailed<T>) -> HostFault {
+        HostFault::Memory
+    }
+}
+
+impl HostFault {
+    /// The fault of an answer of another kind than was asked for: it prints as
+    /// `unexpected answer`. Memory's fault where memory is refused.
+    pub fn unexpected(alloc: Global) -> HostFault
+        ensures { (result ≡ HostFault.Io (codes "unexpected answer")) ⊎ (result ≡ HostFault.Memory) }
+    {
+        match Text::from_text(alloc, "unexpected answer") {
+            Ok(text) => HostFault::Io(text),
+            Err(_) => HostFault::Memory,
+        }
+    }
+}
+
 impl fmt::Display for HostFault {
     ghost use Rattle.just_host.specs.Faults.{fault_text};
 
@@ -207,29 +242,5 @@ impl Clone for Answer {
             Answer::Absent => Answer::Absent,
             Answer::Fault(fault) => Answer::Fault(fault.clone()?),
         })
-    }
-}
-
-#[cfg(test)]
-mod tests {
-    use super::*;
-    use std::test::Fail;
-
-    #[test]
-    fn faults_print(rt: HostRuntime) -> Result<(), Fail> {
-        let alloc = rt.alloc();
-        assert_eq!(rt;
-            format!(in alloc; "{}", HostFault::Code(7))?.as_str(),
-            "exit code 7"
-        );
-        assert_eq!(rt;
-            format!(in alloc; "{}", HostFault::Signal(15))?.as_str(),
-            "signal 15"
-        );
-        assert_eq!(rt;
-            format!(in alloc; "{}", HostFault::Memory)?.as_str(),
-            "out of memory"
-        );
-        Ok(())
     }
 }

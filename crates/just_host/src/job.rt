@@ -5,14 +5,14 @@ use just_text::{Sequence, Text};
 use std::alloc::AllocError;
 
 /// A variable and its value.
-#[derive(Debug, Drop, PartialEq, Eq)]
+#[derive(Drop)]
 pub struct Pair {
     pub name: Text,
     pub value: Text,
 }
 
 /// A command, with what it runs under.
-#[derive(Debug, Drop, PartialEq, Eq)]
+#[derive(Drop)]
 pub struct CommandJob {
     /// The shell and its words, which the command stands behind.
     pub shell: Sequence<Text>,
@@ -30,7 +30,7 @@ pub struct CommandJob {
 }
 
 /// A script, with what it runs under.
-#[derive(Debug, Drop, PartialEq, Eq)]
+#[derive(Drop)]
 pub struct ScriptJob {
     /// The interpreter's command and its words, which the script's path stands behind.
     pub interpreter: Sequence<Text>,
@@ -49,7 +49,7 @@ pub struct ScriptJob {
 }
 
 /// Which files of variables are read, and how.
-#[derive(Debug, Drop, PartialEq, Eq)]
+#[derive(Drop)]
 pub struct DotenvRequest {
     /// The folder that the files are sought in.
     pub folder: Text,

@@ -227,6 +227,3 @@ fn copied(
         Err(fault) => Err(fault.clone()?),
     })
 }
-
-#[cfg(test)]
-mod tests;

@@ -4,9 +4,15 @@ ghost use Rattle.std.proofs.Common.{◌∙◌};
 ghost use Rattle.just_host.specs.Follows.{Follows, questions};
 ghost use Rattle.just_host.specs.Steps.{idle, then, questions-join};
 ghost use Rattle.just_host.specs.declared.entry.Entry.TheVariants.{Asked, Line, Script, Confirm, Show, Dotenv};
+ghost use Rattle.just_host.specs.declared.host.Status.{Status};
+ghost use Rattle.just_host.specs.declared.host.Confirmation.{Confirmation};
 
-use super::*;
-use just_text::both;
+use just_host::{
+    Answer, CommandJob, Confirmation, DotenvRequest, Entry, Host, HostFault, Pair, Question,
+    Recorded, RunHost, ScriptJob, Status,
+};
+use just_text::{Sequence, Text};
+use std::alloc::{AllocError, Global};
 use std::test::Fail;
 
 /// Answers questions, and counts what it is asked.
@@ -142,56 +148,62 @@ struct Asking {
     request: DotenvRequest,
 }
 
-fn command_job(alloc: Global) -> Result<CommandJob, AllocError> {
-    let command = Text::from_text(alloc, "make")?;
-    Ok(CommandJob {
+/// The text; the empty one where memory is refused.
+fn text(alloc: Global, text: &str) -> Text {
+    match Text::from_text(alloc, text) {
+        Ok(text) => text,
+        Err(_) => Text::from_string(String::new(alloc)),
+    }
+}
+
+fn command_job(alloc: Global) -> CommandJob {
+    CommandJob {
         shell: Sequence::new(alloc),
-        command,
+        command: text(alloc, "make"),
         positional: Sequence::new(alloc),
         pairs: Sequence::new(alloc),
         removed: Sequence::new(alloc),
         folder: None,
         quiet: true,
-    })
+    }
 }
 
-fn script_job(alloc: Global) -> Result<ScriptJob, AllocError> {
-    let folder = Text::from_text(alloc, "/")?;
-    Ok(ScriptJob {
+fn script_job(alloc: Global) -> ScriptJob {
+    ScriptJob {
         interpreter: Sequence::new(alloc),
         lines: Sequence::new(alloc),
         positional: Sequence::new(alloc),
         extension: None,
         pairs: Sequence::new(alloc),
         removed: Sequence::new(alloc),
-        folder: Some(folder),
-    })
+        folder: Some(text(alloc, "/")),
+    }
 }
 
-fn dotenv_request(alloc: Global) -> Result<DotenvRequest, AllocError> {
-    let folder = Text::from_text(alloc, "/")?;
-    Ok(DotenvRequest {
-        folder,
+fn dotenv_request(alloc: Global) -> DotenvRequest {
+    DotenvRequest {
+        folder: text(alloc, "/"),
         load: true,
         filenames: Sequence::new(alloc),
         paths: Sequence::new(alloc),
         command: Sequence::new(alloc),
         overriding: false,
         required: false,
-    })
+    }
 }
 
-fn one_of_each(alloc: Global) -> Result<Asking, AllocError> {
-    let question = Question::Environment(Text::from_text(alloc, "HOME")?);
-    let asked = both(question, command_job(alloc))?;
-    let put = both(asked, script_job(alloc))?;
-    let (((question, line), script), request) = both(put, dotenv_request(alloc))?;
-    Ok(Asking {
-        question,
-        line,
-        script,
-        request,
-    })
+fn boxed<T: Drop>(alloc: Global, value: T) -> Result<Box<T>, AllocError> {
+    Ok(Box::new(alloc, value)?)
+}
+
+fn one_of_each(alloc: Global) -> Result<Box<Asking>, AllocError> {
+    let asking = Asking {
+        question: Question::Environment(text(alloc, "HOME")),
+        line: command_job(alloc),
+        script: script_job(alloc),
+        request: dotenv_request(alloc),
+    };
+    boxed(alloc, asking)
 }
 
 /// Asks for one of each, in order.
@@ -245,6 +257,13 @@ fn plan_deep<G: RunHost + Drop>(
     if exhausted { None } else { answers }
 }
 
+fn is_home(question: &Question) -> bool {
+    match question {
+        Question::Environment(name) => name.as_str() == "HOME",
+        _ => false,
+    }
+}
+
 fn is_text(answer: &Answer, text: &str) -> bool {
     match answer {
         Answer::Text(found) => found.as_str() == text,
@@ -252,73 +271,141 @@ fn is_text(answer: &Answer, text: &str) -> bool {
     }
 }
 
-/// Whether the entries are those of each, in order, with these answers.
-fn are_entries(entries: &[Entry], asking: &Asking, answers: &Answers) -> bool {
-    match entries {
-        [
-            Entry::Asked(question, asked),
-            Entry::Line(line, line_status),
-            Entry::Script(script, script_status),
-            Entry::Confirm(prompt, confirmation),
-            Entry::Show(text),
-            Entry::Dotenv(request, pairs),
-        ] => {
-            *question == asking.question
-                && *asked == answers.asked
-                && *line == asking.line
-                && *line_status == answers.line
-                && *script == asking.script
-                && *script_status == answers.script
-                && prompt.is_empty()
-                && *confirmation == answers.confirm
-                && text.is_empty()
-                && *request == asking.request
-                && *pairs == answers.dotenv
-        }
+fn is_root(folder: &Option<Text>) -> bool {
+    match folder {
+        Some(folder) => folder.as_str() == "/",
+        None => false,
+    }
+}
+
+/// Whether the job is that of `command_job`.
+fn is_command(job: &CommandJob) -> bool {
+    job.shell.is_empty()
+        && job.command.as_str() == "make"
+        && job.positional.is_empty()
+        && job.pairs.is_empty()
+        && job.removed.is_empty()
+        && job.folder.is_none()
+        && job.quiet
+}
+
+/// Whether the job is that of `script_job`.
+fn is_script(job: &ScriptJob) -> bool {
+    job.interpreter.is_empty()
+        && job.lines.is_empty()
+        && job.positional.is_empty()
+        && job.extension.is_none()
+        && job.pairs.is_empty()
+        && job.removed.is_empty()
+        && is_root(&job.folder)
+}
+
+/// Whether the request is that of `dotenv_request`.
+fn is_request(request: &DotenvRequest) -> bool {
+    request.folder.as_str() == "/"
+        && request.load
+        && request.filenames.is_empty()
+        && request.paths.is_empty()
+        && request.command.is_empty()
+        && !request.overriding
+        && !request.required
+}
+
+fn are_no_pairs(answer: &Result<Sequence<Pair>, HostFault>) -> bool {
+    match answer {
+        Ok(pairs) => pairs.is_empty(),
+        Err(_) => false,
+    }
+}
+
+/// Whether the answers are those of `Counting`.
+fn are_counted_answers(answers: &Answers) -> bool {
+    is_text(&answers.asked, "HOME")
+        && answers.line == Status::Code(3)
+        && answers.script == Status::Signal(9)
+        && answers.confirm == Confirmation::No
+        && are_no_pairs(&answers.dotenv)
+}
+
+/// Whether this is one of each with the answer of `Counting`, by its place in the order.
+fn is_entry(place: usize, entry: &Entry) -> bool {
+    match (place, entry) {
+        (0, Entry::Asked(question, answer)) => is_home(question) && is_text(answer, "HOME"),
+        (1, Entry::Line(job, status)) => is_command(job) && *status == Status::Code(3),
+        (2, Entry::Script(job, status)) => is_script(job) && *status == Status::Signal(9),
+        (3, Entry::Confirm(prompt, answer)) => prompt.is_empty() && *answer == Confirmation::No,
+        (4, Entry::Show(text)) => text.is_empty(),
+        (5, Entry::Dotenv(request, answer)) => is_request(request) && are_no_pairs(answer),
         _ => false,
     }
 }
 
-/// Whether one of each is answered, and kept with its answer.
+/// Whether the entries are those of each, in order.
+fn are_entries(entries: &[Entry]) -> bool {
+    for (place, entry) in entries.iter().enumerate() {
+        if !is_entry(place, entry) {
+            return false;
+        }
+    }
+    entries.len() == 6
+}
+
+/// Whether one of each is answered and kept.
 fn is_kept(host: &mut Recorded<Counting>, asking: &Asking) -> bool {
     let answers = ask_all(host, asking);
-    !host.exhausted()
-        && is_text(&answers.asked, "HOME")
-        && answers.line == Status::Code(3)
-        && answers.script == Status::Signal(9)
-        && answers.confirm == Confirmation::No
-        && are_entries(host.entries(), asking, &answers)
+    are_counted_answers(&answers) && !host.exhausted() && are_entries(host.entries())
+}
+
+/// Whether one of each is answered through two plans, as a plan answers a command.
+fn is_planned(alloc: Global, host: &mut Recorded<Counting>, asking: &Asking) -> bool {
+    match plan_deep(alloc, host, asking) {
+        Some(answers) => answers.line == Status::Code(0),
+        None => false,
+    }
+}
+
+/// How often a host was asked, how many commands it ran, how often it prompted and showed.
+fn counts(host: Recorded<Counting>) -> [u8; 4] {
+    let counted = host.into_host();
+    [
+        counted.asked,
+        counted.commands,
+        counted.prompts,
+        counted.texts,
+    ]
+}
+
+/// What a host counts that is asked for one of each; nothing where an answer or an entry differs.
+fn counts_asked(alloc: Global, asking: &Asking) -> [u8; 4] {
+    let mut host = Recorded::new(alloc, Counting::new(alloc));
+    if !is_kept(&mut host, asking) {
+        return [0; 4];
+    }
+    counts(host)
+}
+
+/// What a host counts for which one of each is planned; nothing where an answer or how many
+/// entries are kept differs.
+fn counts_planned(alloc: Global, asking: &Asking) -> [u8; 4] {
+    let mut host = Recorded::new(alloc, Counting::new(alloc));
+    if !is_planned(alloc, &mut host, asking) || host.exhausted() || host.entries().len() != 2 {
+        return [0; 4];
+    }
+    counts(host)
 }
 
 #[test]
 fn everything_is_kept_in_order(rt: HostRuntime) -> Result<(), Fail> {
-    let alloc = rt.alloc();
-    let asking = one_of_each(alloc)?;
-    let mut host = Recorded::new(alloc, Counting::new(alloc));
-    assert!(rt; is_kept(&mut host, &asking));
-    let counted = host.into_host();
-    assert_eq!(rt; counted.asked, 2);
-    assert_eq!(rt; counted.commands, 2);
-    assert_eq!(rt; counted.prompts, 1);
-    assert_eq!(rt; counted.texts, 1);
+    let asking = one_of_each(rt.alloc())?;
+    let counted = counts_asked(rt.alloc(), &asking);
+    assert!(rt; counted == [2, 2, 1, 1]);
     Ok(())
 }
 
 #[test]
 fn a_plan_asks_and_does_nothing(rt: HostRuntime) -> Result<(), Fail> {
-    let alloc = rt.alloc();
-    let asking = one_of_each(alloc)?;
-    let mut host = Recorded::new(alloc, Counting::new(alloc));
-    let Some(answers) = plan_deep(alloc, &mut host, &asking) else {
-        return Err(Fail::from("memory"));
-    };
-    assert!(rt; !host.exhausted());
-    assert_eq!(rt; answers.line, Status::Code(0));
-    assert_eq!(rt; host.entries().len(), 2);
-    let counted = host.into_host();
-    assert_eq!(rt; counted.asked, 2);
-    assert_eq!(rt; counted.commands, 0);
-    assert_eq!(rt; counted.prompts, 0);
-    assert_eq!(rt; counted.texts, 0);
+    let asking = one_of_each(rt.alloc())?;
+    let counted = counts_planned(rt.alloc(), &asking);
+    assert!(rt; counted == [2, 0, 0, 0]);
     Ok(())
 }

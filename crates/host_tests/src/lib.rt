@@ -1,0 +1,7 @@
+//! Tests of hosts over records.
+#![tactic(auto)]
+
+#[cfg(test)]
+mod faults;
+#[cfg(test)]
+mod records;
