@@ -1,3 +1,4 @@
 pub mod Operators
 pub mod Shape
 pub mod Printing
+pub mod FirstTokens

@@ -1,5 +1,6 @@
 //! Expressions.
-ghost use Rattle.std.specs.Prelude.{Some};
+ghost use Rattle.std.specs.Prelude.{◌≡◌, Some};
+ghost use Rattle.just_expression_tree.specs.FirstTokens.{first_token_of};
 
 use crate::operator::ConditionalOperator;
 use crate::printing;
@@ -93,6 +94,38 @@ pub enum Expression<'src> {
         name: Name<'src>,
         number: Option<Number>,
     },
+}
+
+impl<'src> Expression<'src> {
+    /// The first token of those that the expression keeps, which is the one that it begins with: but an
+    /// `if`, a `!` and the parenthesis of a group are not kept, and there it is the first one behind.
+    pub fn first_token(&self) -> Token<'src>
+        ensures { result ≡ first_token_of self.now }
+    {
+        let first = match self {
+            Expression::And { lhs, .. }
+            | Expression::Comparison { lhs, .. }
+            | Expression::Concatenation { lhs, .. }
+            | Expression::ListConcatenation { lhs, .. }
+            | Expression::Or { lhs, .. }
+            | Expression::Join { lhs: Some(lhs), .. } => lhs,
+            Expression::Conditional { condition, .. } => condition,
+            Expression::Group { contents } => contents,
+            Expression::Not { operand } => operand,
+            Expression::Assert { name, .. }
+            | Expression::Call { name, .. }
+            | Expression::Variable { name, .. } => return name.token,
+            Expression::Backtick { token, .. } | Expression::List { token, .. } => return *token,
+            Expression::FormatString { start, .. } => return start.token,
+            Expression::Join {
+                lhs: None,
+                operator,
+                ..
+            } => return *operator,
+            Expression::StringLiteral { string_literal } => return string_literal.token,
+        };
+        first.first_token()
+    }
 }
 
 impl fmt::Display for Expression<'_> {

@@ -1,5 +1,6 @@
 //! Parts of format strings.
 ghost use Rattle.std.specs.Prelude.{◌≡◌, ◌≢◌, IfErr, IfOk};
+ghost use Rattle.std.specs.String.{string_bytes};
 ghost use Rattle.just_text.specs.Tokens.{lexeme};
 ghost use Rattle.just_text.specs.declared.compile_error.CompileErrorKind.TheVariants.{OutOfMemory};
 ghost use Rattle.just_strings.specs.Answering.{Answers};
@@ -34,9 +35,9 @@ fn before_closing<'a>(mark: &str, part: &'a str) -> &'a str
     }
 }
 
-/// The text with `{{` for each `{{{{`, from the left.
-fn halve(alloc: Global, text: &str) -> Result<Text, AllocError>
-    ensures { IfOk result (λ halved. halved ≡ spec.halved text.now) }
+/// The text with `{{` for each `{{{{`, from the left. Refused only where memory is.
+pub fn halve(alloc: Global, text: &str) -> Result<String, AllocError>
+    ensures { IfOk result (λ halved. string_bytes halved ≡ spec.halved text.now) }
 {
     let mut halved = String::new(alloc);
     let mut rest = text;
@@ -46,7 +47,7 @@ fn halve(alloc: Global, text: &str) -> Result<Text, AllocError>
         rest = after;
     }
     halved.push_str(rest)?;
-    Ok(Text::from_string(halved))
+    Ok(halved)
 }
 
 /// What a part stands for.
@@ -56,7 +57,7 @@ fn cooked_part(alloc: Global, kind: StringKind, part: &str) -> Result<Text, Comp
 {
     let mark = kind.mark();
     match halve(alloc, before_closing(mark, behind_opening(mark, part))) {
-        Ok(text) => read_escapes(alloc, kind.delimiter, text),
+        Ok(text) => read_escapes(alloc, kind.delimiter, Text::from_string(text)),
         Err(_) => Err(CompileErrorKind::OutOfMemory),
     }
 }

@@ -11,7 +11,7 @@ mod string_kind;
 mod string_literal;
 
 pub use command::{command_text, is_shebang};
-pub use format_part::cook_part;
+pub use format_part::{cook_part, halve};
 pub use indentation::unindent;
 pub use string_kind::{StringDelimiter, StringKind, StringPrefix};
 pub use string_literal::StringLiteral;

@@ -14,5 +14,5 @@ loop-before-preserved c =
 
 pub returns : goal.returns
 returns c =
-    c.from_string.ensures ∙ c.in_ok-push_str-3.ensures.bytes
+    c.in_ok-push_str-3.ensures.bytes
     ∙ ap (λ x. string_bytes c.loop-before.halved ++ x) (sym (halved_lacks c.loop-before.rest.now c.in_default.ensures.cases)) ∙ c.loop-before.invariant.1
