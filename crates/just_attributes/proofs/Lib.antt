@@ -2,3 +2,4 @@ pub mod Sorted
 pub mod TextsInRow
 pub mod InOrder
 pub mod Groups
+pub mod InPlace

@@ -3,6 +3,7 @@ use Rattle.std.specs.Prelude.{ℕ, Bool, true, false, not, ◌||◌, List, Optio
 use Rattle.std.specs.List.{list_any}
 use Rattle.just_text.specs.declared.compile_error.CompileErrorKind.{CompileErrorKind}
 use Rattle.just_text.specs.declared.compile_error.CompileErrorKind.TheVariants.{InvalidAttribute}
+use Rattle.just_text.specs.declared.name.Name.{Name}
 use Rattle.just_text.specs.declared.os.Os.{Os}
 use Rattle.just_text.specs.declared.os.Os.TheVariants.{Android as AndroidOs, Dragonfly as DragonflyOs, Freebsd as FreebsdOs, Linux as LinuxOs, Macos as MacosOs, Netbsd as NetbsdOs, Openbsd as OpenbsdOs}
 use Rattle.just_attributes.specs.declared.item_kind.ItemKind.{ItemKind}
@@ -23,6 +24,10 @@ items_of set = set.items.items
 -- what the attributes of a set say, in their order
 abbrev pub shapes_in : AttributeSet → List AttributeShape
 shapes_in set = map item_shape (items_of set)
+
+-- where an item is written and what it says
+abbrev pub written_item : AttributeItem → Name × AttributeShape
+written_item item = (item.name, item_shape item)
 
 -- an attribute has the name of this kind
 abbrev pub has_kind : AttributeKind → AttributeShape → Bool

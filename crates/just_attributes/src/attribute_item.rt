@@ -7,6 +7,7 @@ ghost use Rattle.std.proofs.Common.{rules};
 ghost use Rattle.just_attribute_tree.specs.Attributes.{attribute_shape};
 ghost use Rattle.just_attributes.specs.Arguments.{arguments_text};
 
+use crate::numbering::{NumberVariables, number_attribute};
 use crate::printed_arguments::PrintedArguments;
 use just_attribute_tree::Attribute;
 use just_text::{Name, Text};
@@ -31,7 +32,7 @@ fn print_arguments(alloc: Global, attribute: &Attribute) -> Result<Text, AllocEr
 
 impl<'src> AttributeItem<'src> {
     ghost use Rattle.std.specs.Prelude.{option_map};
-    ghost use Rattle.just_attributes.specs.Sets.{group_of};
+    ghost use Rattle.just_attributes.specs.Sets.{group_of, written_item};
 
     /// Prints the attribute's arguments, once and for all comparisons. Refused only where memory is.
     pub fn new(
@@ -62,6 +63,13 @@ impl<'src> AttributeItem<'src> {
             Attribute::Group(text) => Some(text.cooked.as_str()),
             _ => None,
         }
+    }
+
+    /// Gives the variables in the attribute their numbers. Takes no memory.
+    pub(crate) fn number_variables<N: NumberVariables>(&mut self, numbers: &N)
+        ensures { written_item self.new ≡ written_item self.old }
+    {
+        number_attribute(&mut self.attribute, numbers);
     }
 
     /// The attribute's arguments as they are printed, without parentheses.

@@ -10,6 +10,7 @@ ghost use Rattle.just_text.specs.declared.compile_error.CompileErrorKind.TheVari
 
 use crate::attribute_item::AttributeItem;
 use crate::item_kind::ItemKind;
+use crate::numbering::NumberVariables;
 use crate::systems::{is_system, kind_for, may_carry};
 use just_attribute_tree::{Attribute, AttributeKind};
 use just_text::{CompileError, CompileErrorKind, Name, Os, Text};
@@ -102,6 +103,15 @@ impl<'src> AttributeSet<'src> {
         ensures { result ≡ spec.is_private (items_of self.now) }
     {
         self.contains(AttributeKind::Private)
+    }
+
+    /// Gives the variables in the attributes their numbers. Takes no memory.
+    pub fn number_variables<N: NumberVariables>(&mut self, numbers: &N)
+        ensures { map spec.written_item (items_of self.new) ≡ map spec.written_item (items_of self.old) }
+    {
+        for index in 0..self.items.len() {
+            self.items[index].number_variables(numbers);
+        }
     }
 
     /// Goes over the attributes in their order.

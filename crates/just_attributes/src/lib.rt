@@ -6,6 +6,7 @@ mod attribute_set;
 mod indentation;
 mod item_kind;
 pub mod law;
+mod numbering;
 mod printed_arguments;
 mod systems;
 
@@ -13,5 +14,6 @@ pub use attribute_item::AttributeItem;
 pub use attribute_set::AttributeSet;
 pub use indentation::{Indentation, InvalidIndentation};
 pub use item_kind::ItemKind;
+pub use numbering::NumberVariables;
 pub use printed_arguments::PrintedArguments;
 pub use systems::{is_private, may_carry};
