@@ -1,5 +1,5 @@
 -- Lines of bodies: what they say, how they are printed, and their marks.
-use Rattle.std.specs.Prelude.{ℕ, ◌==◌, Bool, true, false, not, ◌&&◌, if◌then◌else◌, List, [], ◌∷◌, ◌++◌, map, Option, Some, None, codes, length, ◌-◌, slice_get}
+use Rattle.std.specs.Prelude.{ℕ, ◌==◌, Bool, true, false, not, ◌&&◌, ◌||◌, ◌+◌, if◌then◌else◌, List, [], ◌∷◌, ◌++◌, map, Option, Some, None, codes, length, ◌-◌, slice_get}
 use Rattle.std.specs.List.{flat_map}
 use Rattle.std.specs.Option.{option_map, option_map_or}
 use Rattle.just_text.specs.Tokens.{lexeme}
@@ -7,6 +7,7 @@ use Rattle.just_tree.specs.declared.line.Fragment.{Fragment}
 use Rattle.just_tree.specs.declared.line.Fragment.TheVariants.{Interpolation, Text}
 use Rattle.just_tree.specs.declared.line.Line.{Line}
 use Rattle.just_tree.specs.declared.line.Sigils.{Sigils}
+use Rattle.just_strings.specs.Cutting.{begins}
 use Rattle.just_expression_tree.specs.Shape.{Shape, shape_of}
 use Rattle.just_expression_tree.specs.Printing.{text_of}
 
@@ -43,6 +44,13 @@ next_sigils guards s byte =
     else if (byte == 63) && guards && not s.guard then Some (record s { guard = true })
     else None
 
+abbrev pub one_if : Bool → ℕ
+one_if mark = if mark then 1 else 0
+
+-- how many marks there are
+abbrev pub sigil_count : Sigils → ℕ
+sigil_count s = one_if s.guard + (one_if s.infallible + one_if s.quiet)
+
 -- the marks at the front of a text, beside those that are there
 unfoldable pub read_sigils : Bool → Sigils → List ℕ → Sigils
 read_sigils guards s [] = s
@@ -70,6 +78,23 @@ abbrev pub is_comment : Option Piece → Bool
 is_comment None = false
 is_comment (Some (text t)) = is_byte 35 (slice_get t 0)
 is_comment (Some (interpolation e)) = false
+
+-- a space or a tab
+abbrev pub is_white : Option ℕ → Bool
+is_white None = false
+is_white (Some b) = (b == 32) || (b == 9)
+
+-- a line whose first part is this begins with white space
+abbrev pub begins_with_space : Option Piece → Bool
+begins_with_space None = false
+begins_with_space (Some (text t)) = is_white (slice_get t 0)
+begins_with_space (Some (interpolation e)) = false
+
+-- a line whose first part is this begins with `#!`
+abbrev pub is_shebang : Option Piece → Bool
+is_shebang None = false
+is_shebang (Some (text t)) = begins t (codes "#!")
+is_shebang (Some (interpolation e)) = false
 
 -- a line whose last part is this ends with a backslash
 abbrev pub is_continuation : Option Piece → Bool

@@ -54,6 +54,10 @@ parameter_row p = codes " " ++ parameter_text p
 abbrev pub parameters_text : List ParameterShape → List ℕ
 parameters_text = flat_map parameter_row
 
+-- a name and parameters
+abbrev pub signature_text : List ℕ → List ParameterShape → List ℕ
+signature_text name parameters = name ++ parameters_text parameters
+
 -- an argument of a dependency
 pub record ArgumentShape : Type 0 where
   pub expression : Shape

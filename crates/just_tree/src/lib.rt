@@ -17,5 +17,7 @@ pub use item::{
 };
 pub use keyed::Keyed;
 pub use line::{Fragment, Line, Sigils};
-pub use recipe::{DependencyArgument, Parameter, ParameterKind, Recipe, UnresolvedDependency};
+pub use recipe::{
+    DependencyArgument, Parameter, ParameterKind, Recipe, RecipeSignature, UnresolvedDependency,
+};
 pub use set::Set;

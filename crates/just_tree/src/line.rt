@@ -4,6 +4,7 @@ ghost use Rattle.just_tree.specs.Lines as spec;
 ghost use Rattle.just_tree.specs.Lines.{piece_of, piece_text, pieces_of, line_text, first_piece, last_piece, sigils_of, next_sigils, no_sigils, read_sigils, is_comment, is_continuation};
 
 use just_expression_tree::Expression;
+use just_strings::is_shebang;
 use just_text::Token;
 use std::fmt;
 
@@ -44,6 +45,13 @@ pub struct Sigils {
 }
 
 impl Sigils {
+    /// How many marks there are: they are the first bytes of the line's text.
+    pub fn count(self) -> usize
+        ensures { result ≡ spec.sigil_count self }
+    {
+        usize::from(self.guard) + usize::from(self.infallible) + usize::from(self.quiet)
+    }
+
     /// The marks with one more, unless the byte is no mark or a mark that is there.
     fn with(self, guards: bool, byte: u8) -> Option<Sigils>
         ensures { result ≡ next_sigils guards self byte }
@@ -94,6 +102,16 @@ fn is_byte(found: Option<&u8>, byte: u8) -> bool
     }
 }
 
+/// Whether there is a byte, and it is a space or a tab.
+fn is_white(found: Option<&u8>) -> bool
+    ensures { result ≡ spec.is_white (option_copied found.entry) }
+{
+    match found {
+        Some(found) => *found == b' ' || *found == b'\t',
+        None => false,
+    }
+}
+
 impl Line<'_> {
     /// The marks at the line's front, each at most once and in any order, up to the first byte that
     /// is no mark or a second one of its kind; `?` is a mark only under `guards`. A line that begins
@@ -117,6 +135,26 @@ impl Line<'_> {
     {
         match self.fragments.first() {
             Some(Fragment::Text { token }) => is_byte(token.lexeme().as_bytes().first(), b'#'),
+            _ => false,
+        }
+    }
+
+    /// Whether the line begins with a space or a tab.
+    pub fn begins_with_space(&self) -> bool
+        ensures { result ≡ spec.begins_with_space (first_piece self.now) }
+    {
+        match self.fragments.first() {
+            Some(Fragment::Text { token }) => is_white(token.lexeme().as_bytes().first()),
+            _ => false,
+        }
+    }
+
+    /// Whether the line begins with `#!`.
+    pub fn is_shebang(&self) -> bool
+        ensures { result ≡ spec.is_shebang (first_piece self.now) }
+    {
+        match self.fragments.first() {
+            Some(Fragment::Text { token }) => is_shebang(token.lexeme()),
             _ => false,
         }
     }

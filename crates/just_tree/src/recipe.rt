@@ -137,6 +137,37 @@ pub struct Recipe<'src, D> {
     pub subsequents: Vec<D>,
 }
 
+impl<'src, D> Recipe<'src, D> {
+    /// The recipe's name and its parameters.
+    pub fn signature(&self) -> RecipeSignature<'_, 'src>
+        ensures { (result.name ≡ self.now.name) × (result.parameters.now ≡ self.now.parameters.items) }
+    {
+        RecipeSignature {
+            name: self.name,
+            parameters: self.parameters.as_slice(),
+        }
+    }
+}
+
+/// A recipe's name, and its parameters, each behind a space.
+#[derive(Clone, Copy)]
+pub struct RecipeSignature<'a, 'src> {
+    pub name: Name<'src>,
+    pub parameters: &'a [Parameter<'src>],
+}
+
+impl fmt::Display for RecipeSignature<'_, '_> {
+    ghost use Rattle.just_text.specs.Tokens.{lexeme};
+
+    ghost output = { λ signature. Some (spec.signature_text (lexeme signature.name.token) (spec.parameter_shapes signature.parameters.now)) };
+
+    fn fmt<W: fmt::Write>(&self, f: &mut fmt::Formatter<W>) -> fmt::Result {
+        let name = self.name;
+        let parameters = Parameters(self.parameters);
+        write!(f, "{name}{parameters}")
+    }
+}
+
 impl<'src> Recipe<'src, UnresolvedDependency<'src>> {
     /// Writes the recipe with this indentation of its body, and no newline at its end.
     pub fn print<W: fmt::Write>(&self, f: &mut fmt::Formatter<W>, indentation: &str) -> fmt::Result

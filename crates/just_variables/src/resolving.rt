@@ -10,9 +10,9 @@ use std::mem;
 
 /// Where the numbers of names stand.
 #[derive(Clone, Copy)]
-struct Scope<'a, 'src> {
-    context: &'a ExpressionContext<'src>,
-    bindings: &'a ExpressionContext<'src>,
+pub(crate) struct Scope<'a, 'src> {
+    pub context: &'a ExpressionContext<'src>,
+    pub bindings: &'a ExpressionContext<'src>,
 }
 
 impl Scope<'_, '_> {
@@ -58,7 +58,7 @@ fn placeholder<'src>() -> Expression<'src> {
 
 /// Takes the expression out, and puts it back with the numbers of its variables.
 #[cycle(resolve)]
-fn resolve_in_place(expression: &mut Expression, scope: &Scope)
+pub(crate) fn resolve_in_place(expression: &mut Expression, scope: &Scope)
     ensures { spec.IsNumbered (spec.number_for scope.now.context.now scope.now.bindings.now) expression.old expression.new }
 {
     let taken = mem::replace(expression, placeholder());

@@ -14,7 +14,8 @@ pub use just_expression_tree::{ConditionalOperator, Expression, ListOperator};
 pub use just_grammar::Parser;
 pub use just_lexer::Lexer;
 pub use just_strings::{
-    StringDelimiter, StringKind, StringLiteral, StringPrefix, command_text, cook_part, unindent,
+    StringDelimiter, StringKind, StringLiteral, StringPrefix, command_text, cook_part, halve,
+    unindent,
 };
 pub use just_text::{
     CompileError, CompileErrorKind, Count, Delimiter, ExpandFault, Expander, Keyword, Name,
@@ -23,6 +24,7 @@ pub use just_text::{
 pub use just_tree::{
     Alias, Assignment, Ast, Binding, DependencyArgument, Fragment, FunctionDefinition,
     FunctionParameter, Import, Item, Keyed, Line, ListFeature, Module, Parameter, ParameterKind,
-    Recipe, RecipeAlias, Set, Sigils, Unexport, UnresolvedDependency, UnstableFeature,
+    Recipe, RecipeAlias, RecipeSignature, Set, Sigils, Unexport, UnresolvedDependency,
+    UnstableFeature,
 };
-pub use just_variables::{ExpressionContext, resolve_variables};
+pub use just_variables::{ExpressionContext, resolve_attributes, resolve_variables};

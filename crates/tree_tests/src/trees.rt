@@ -16,5 +16,7 @@ fn reads_marks(rt: HostRuntime) -> Result<(), Fail> {
     assert!(rt; sigils.quiet && sigils.infallible && !sigils.guard);
     assert!(rt; line.sigils(true).guard);
     assert!(rt; line.is_continuation() && !line.is_comment());
+    assert!(rt; line.sigils(true).count() == 3);
+    assert!(rt; !line.begins_with_space() && !line.is_shebang());
     Ok(())
 }
