@@ -105,6 +105,3 @@ impl fmt::Display for Excerpt<'_, '_> {
         write!(f, "{place}\n{margin} |\n{source}\n{marks}")
     }
 }
-
-#[cfg(test)]
-mod tests;

@@ -1,7 +1,8 @@
 //! What the lexer makes of small texts.
 
-use justfile_syntax::{Lexer, Token, TokenKind};
-use std::alloc::AllocError;
+use justfile_syntax::{CompileError, Lexer, Token, TokenKind};
+use std::alloc::{AllocError, Global};
+use std::process::Abort;
 use std::test::Fail;
 
 /// A letter for the token's kind, or the mark itself.
@@ -25,45 +26,97 @@ fn letter<'src>(token: &Token<'src>) -> &'src str {
     }
 }
 
-/// The letters of the text's tokens.
-fn kinds(rt: &HostRuntime, src: &str) -> Result<String, Fail> {
-    let tokens = Lexer::lex(rt.alloc(), "justfile", src)?;
-    let mut text = String::new(rt.alloc());
-    for token in &tokens {
+/// What is told of a text.
+#[derive(Clone, Copy)]
+enum Subject {
+    /// The letters of its tokens.
+    Kinds,
+    /// The texts of its tokens, a bar behind each.
+    Lexemes,
+    /// The places and texts of its tokens.
+    Places,
+    /// The refusal and its place; nothing where the text has tokens.
+    Refusal,
+}
+
+fn kinds(alloc: Global, tokens: &[Token<'_>]) -> Result<String, AllocError> {
+    let mut text = String::new(alloc);
+    for token in tokens {
         text.push_str(letter(token))?;
     }
     Ok(text)
 }
 
-/// The texts of the tokens, a bar behind each.
-fn lexemes(rt: &HostRuntime, src: &str) -> Result<String, Fail> {
-    let tokens = Lexer::lex(rt.alloc(), "justfile", src)?;
-    let mut text = String::new(rt.alloc());
-    for token in &tokens {
+fn lexemes(alloc: Global, tokens: &[Token<'_>]) -> Result<String, AllocError> {
+    let mut text = String::new(alloc);
+    for token in tokens {
         text.push_str(token.lexeme())?;
         text.push('|')?;
     }
     Ok(text)
 }
 
-/// The refusal's text and place; nothing where the text has tokens.
-fn refusal(rt: &HostRuntime, src: &str) -> Result<String, AllocError> {
-    let alloc = rt.alloc();
-    match Lexer::lex(alloc, "justfile", src) {
-        Ok(_) => Ok(String::new(alloc)),
-        Err(error) => {
-            let place = error.token;
-            format!(in alloc;
-                "{} at {}:{}:{}",
-                error.kind, place.line, place.column, place.offset
-            )
-        }
+fn places(alloc: Global, tokens: &[Token<'_>]) -> Result<String, AllocError> {
+    let mut text = String::new(alloc);
+    for token in tokens {
+        let lexeme = token.lexeme();
+        write!(
+            text,
+            "{}:{}:{} {lexeme:?};",
+            token.line, token.column, token.offset
+        )?;
     }
+    Ok(text)
+}
+
+fn refusal(alloc: Global, error: &CompileError<'_>) -> Result<String, AllocError> {
+    let place = error.token;
+    format!(in alloc;
+        "{} at {}:{}:{}",
+        error.kind, place.line, place.column, place.offset
+    )
+}
+
+fn tokens_told(
+    alloc: Global,
+    subject: Subject,
+    tokens: &[Token<'_>],
+) -> Result<String, AllocError> {
+    match subject {
+        Subject::Kinds => kinds(alloc, tokens),
+        Subject::Lexemes => lexemes(alloc, tokens),
+        Subject::Places => places(alloc, tokens),
+        Subject::Refusal => Ok(String::new(alloc)),
+    }
+}
+
+fn told(alloc: Global, subject: Subject, src: &str) -> Result<String, AllocError> {
+    match Lexer::lex(alloc, "justfile", src) {
+        Ok(tokens) => tokens_told(alloc, subject, tokens.as_slice()),
+        Err(error) => refusal(alloc, &error),
+    }
+}
+
+fn gives(alloc: Global, subject: Subject, src: &str, want: &str) -> Result<bool, AllocError> {
+    Ok(told(alloc, subject, src)?.as_str() == want)
+}
+
+/// Holds each text to what is told of it.
+fn tell(
+    rt: &impl Abort,
+    alloc: Global,
+    subject: Subject,
+    rows: &[(&str, &str)],
+) -> Result<(), Fail> {
+    for (src, want) in rows {
+        assert!(rt; gives(alloc, subject, src, want)?, "in {src:?}");
+    }
+    Ok(())
 }
 
 #[test]
 fn reads_tokens(rt: HostRuntime) -> Result<(), Fail> {
-    for (src, want) in [
+    let rows = [
         ("", "."),
         ("a: b c\n  echo a\nb:\n", "i:wiwin>tn<i:n."),
         ("a:\r\n  b\r\n", "i:n>tn<."),
@@ -84,16 +137,13 @@ fn reads_tokens(rt: HostRuntime) -> Result<(), Fail> {
         ("a:\n  {b}\r# {\n", "i:n>tn<."),
         ("a:\n  \r\n\n", "i:nwnn."),
         ("# \r {{ \0", "#."),
-    ] {
-        let found = kinds(&rt, src)?;
-        assert_eq!(rt; found.as_str(), want, "in {src:?}");
-    }
-    Ok(())
+    ];
+    tell(&rt, rt.alloc(), Subject::Kinds, rows.as_slice())
 }
 
 #[test]
 fn reads_strings_and_brackets(rt: HostRuntime) -> Result<(), Fail> {
-    for (src, want) in [
+    let rows = [
         // Strings, commands and what is in them.
         ("a := \"\\u{110000}\\q\"\n", "iw:=wsn."),
         ("a := 'b' + \"\\\"\"\n", "iw:=wsw+wsn."),
@@ -110,16 +160,13 @@ fn reads_strings_and_brackets(rt: HostRuntime) -> Result<(), Fail> {
         ("a: (b :\n [{}])\n  c\n", "i:w(iw:ww[{}])n>tn<."),
         ("a (b:)\n  c\n", "iw(i:)n>in."),
         ("(# :\n  )\n", "(#ww)n."),
-    ] {
-        let found = kinds(&rt, src)?;
-        assert_eq!(rt; found.as_str(), want, "in {src:?}");
-    }
-    Ok(())
+    ];
+    tell(&rt, rt.alloc(), Subject::Kinds, rows.as_slice())
 }
 
 #[test]
 fn reads_expressions(rt: HostRuntime) -> Result<(), Fail> {
-    for (src, want) in [
+    let rows = [
         // Expressions in bodies.
         ("a:\n  b {{c}} d }}\n", "i:n>t{{i}}tn<."),
         ("a:\n  {{{{{b{{{c}}}}\n", "i:n>t{{{i}}}tn<."),
@@ -140,16 +187,13 @@ fn reads_expressions(rt: HostRuntime) -> Result<(), Fail> {
         ("\u{feff}a:\n  b\n", "^i:n>tn<."),
         ("\u{feff}# a\n  b\n", "^#n>in."),
         ("\u{feff}  a", "^>i."),
-    ] {
-        let found = kinds(&rt, src)?;
-        assert_eq!(rt; found.as_str(), want, "in {src:?}");
-    }
-    Ok(())
+    ];
+    tell(&rt, rt.alloc(), Subject::Kinds, rows.as_slice())
 }
 
 #[test]
 fn refuses_characters(rt: HostRuntime) -> Result<(), Fail> {
-    for (src, want) in [
+    let rows = [
         ("a\0", "unknown start of token: `\0` at 0:1:1"),
         ("a:\n\né", "unknown start of token: `é` at 2:0:4"),
         ("a\u{feff}", "unknown start of token: `\u{feff}` at 0:1:1"),
@@ -160,16 +204,13 @@ fn refuses_characters(rt: HostRuntime) -> Result<(), Fail> {
         ("a -b", "unknown start of token: `-` at 0:2:2"),
         ("a & b", "unexpected character: `&` at 0:2:2"),
         ("a|", "unexpected character: `|` at 0:1:1"),
-    ] {
-        let found = refusal(&rt, src)?;
-        assert_eq!(rt; found.as_str(), want, "in {src:?}");
-    }
-    Ok(())
+    ];
+    tell(&rt, rt.alloc(), Subject::Refusal, rows.as_slice())
 }
 
 #[test]
 fn refuses_what_has_no_end(rt: HostRuntime) -> Result<(), Fail> {
-    for (src, want) in [
+    let rows = [
         ("x := 'a", "unterminated string at 0:5:5"),
         ("x := '''a'", "unterminated string at 0:5:5"),
         ("x := '''''", "unterminated string at 0:5:5"),
@@ -189,16 +230,13 @@ fn refuses_what_has_no_end(rt: HostRuntime) -> Result<(), Fail> {
         ),
         ("a:\n  b {{{c}\n", "unterminated interpolation at 1:9:12"),
         ("a:\n  {{# }}\n", "unterminated interpolation at 1:8:11"),
-    ] {
-        let found = refusal(&rt, src)?;
-        assert_eq!(rt; found.as_str(), want, "in {src:?}");
-    }
-    Ok(())
+    ];
+    tell(&rt, rt.alloc(), Subject::Refusal, rows.as_slice())
 }
 
 #[test]
 fn refuses_escapes_and_brackets(rt: HostRuntime) -> Result<(), Fail> {
-    for (src, want) in [
+    let rows = [
         ("a\\b", "invalid escape sequence: `\\b` at 0:1:1"),
         ("\\é", "invalid escape sequence: `\\é` at 0:0:0"),
         ("\\\r", "invalid escape sequence: `\\\r` at 0:0:0"),
@@ -216,16 +254,13 @@ fn refuses_escapes_and_brackets(rt: HostRuntime) -> Result<(), Fail> {
         ("}}", "unexpected closing delimiter: `}` at 0:0:0"),
         ("(f'{{ ) }}'", "unexpected closing delimiter: `)` at 0:6:6"),
         ("a:\n  {{}", "unexpected closing delimiter: `}` at 1:4:7"),
-    ] {
-        let found = refusal(&rt, src)?;
-        assert_eq!(rt; found.as_str(), want, "in {src:?}");
-    }
-    Ok(())
+    ];
+    tell(&rt, rt.alloc(), Subject::Refusal, rows.as_slice())
 }
 
 #[test]
 fn refuses_returns_and_indentation(rt: HostRuntime) -> Result<(), Fail> {
-    for (src, want) in [
+    let rows = [
         ("a\rb", "unpaired carriage return at 0:1:1"),
         ("a:\n  b\n\rc", "unpaired carriage return at 2:0:7"),
         ("a:\n \tb\n", "mixed leading whitespace at 1:0:3"),
@@ -233,16 +268,13 @@ fn refuses_returns_and_indentation(rt: HostRuntime) -> Result<(), Fail> {
         ("a:\n  b\n\tc\n", "inconsistent leading whitespace at 2:0:7"),
         ("a:\n  b\n c\n", "inconsistent leading whitespace at 2:0:7"),
         ("a:\n  b\n   \tc\n", ""),
-    ] {
-        let found = refusal(&rt, src)?;
-        assert_eq!(rt; found.as_str(), want, "in {src:?}");
-    }
-    Ok(())
+    ];
+    tell(&rt, rt.alloc(), Subject::Refusal, rows.as_slice())
 }
 
 #[test]
 fn takes_the_longest_mark(rt: HostRuntime) -> Result<(), Fail> {
-    for (src, want) in [
+    let rows = [
         (":::=::=", "::|:=|::|=||"),
         ("===~=!=!~!", "==|=~|=|!=|!~|!||"),
         ("&&||+++*/@$?,", "&&||||++|+|*|/|@|$|?|,||"),
@@ -251,35 +283,18 @@ fn takes_the_longest_mark(rt: HostRuntime) -> Result<(), Fail> {
         ("f'{{{{{{a}}}}b{{c}}'", "f'{{{{{{|a|}}}}b{{|c|}}'||"),
         ("a:\n  {{{{{b{{{c}}}}", "a|:|\n|  |{{{{{b|{{|{|c|}|}}|}|||"),
         ("a \\\n  b(\r\n )", "a| |\\\n|  |b|(|\r\n| |)||"),
-    ] {
-        let found = lexemes(&rt, src)?;
-        assert_eq!(rt; found.as_str(), want, "in {src:?}");
-    }
-    Ok(())
+    ];
+    tell(&rt, rt.alloc(), Subject::Lexemes, rows.as_slice())
 }
 
 #[test]
 fn places_tokens(rt: HostRuntime) -> Result<(), Fail> {
-    let src = "\u{feff}a 'é\n' é";
-    assert_eq!(rt;
-        refusal(&rt, src)?.as_str(),
-        "unknown start of token: `é` at 1:2:11"
-    );
-    let src = "\u{feff}# é\r\nb :\n\tc";
-    let tokens = Lexer::lex(rt.alloc(), "justfile", src)?;
-    let mut text = String::new(rt.alloc());
-    for token in &tokens {
-        let part = format!(in rt.alloc();
-            "{}:{}:{} {:?};",
-            token.line,
-            token.column,
-            token.offset,
-            token.lexeme()
-        )?;
-        text.push_str(part.as_str())?;
-    }
-    let want =
-        "0:0:0 \"\\u{feff}\";0:0:3 \"# é\";0:4:7 \"\\r\\n\";1:0:9 \"b\";1:1:10 \" \";1:2:11 \":\";1:3:12 \"\\n\";2:0:13 \"\\t\";2:1:14 \"c\";2:2:15 \"\";2:2:15 \"\";";
-    assert_eq!(rt; text.as_str(), want);
-    Ok(())
+    let rows = [
+        ("\u{feff}a 'é\n' é", "unknown start of token: `é` at 1:2:11"),
+        (
+            "\u{feff}# é\r\nb :\n\tc",
+            "0:0:0 \"\\u{feff}\";0:0:3 \"# é\";0:4:7 \"\\r\\n\";1:0:9 \"b\";1:1:10 \" \";1:2:11 \":\";1:3:12 \"\\n\";2:0:13 \"\\t\";2:1:14 \"c\";2:2:15 \"\";2:2:15 \"\";",
+        ),
+    ];
+    tell(&rt, rt.alloc(), Subject::Places, rows.as_slice())
 }

@@ -4,7 +4,7 @@ use just_host::{
     Answer, CommandJob, Confirmation, DotenvRequest, Entry, Host, HostFault, Pair, Question,
     ScriptJob, Status,
 };
-use just_run::{Action, Collected, Config, Outcome, Recorded, RunHost, drive};
+use just_run::{Action, Collected, Config, Fault, Outcome, Recorded, RunHost, drive};
 use justfile_syntax::{ExpandFault, Expander, Os, Sequence, Text};
 use semver::Version;
 use std::alloc::{AllocError, Global};
@@ -68,124 +68,236 @@ impl Expander for Unchanged {
     }
 }
 
-fn config(alloc: Global) -> Result<Config, AllocError> {
-    Ok(Config {
+/// What of the configuration differs between the tests.
+#[derive(Clone, Copy)]
+struct Flags {
+    dry_run: bool,
+    loquacious: bool,
+    no_dependencies: bool,
+    quiet: bool,
+}
+
+/// No command is shown.
+const QUIET: Flags = Flags {
+    dry_run: false,
+    loquacious: false,
+    no_dependencies: false,
+    quiet: true,
+};
+
+/// Each command is shown.
+const SHOWN: Flags = Flags {
+    dry_run: false,
+    loquacious: false,
+    no_dependencies: false,
+    quiet: false,
+};
+
+const DRY_RUN: Flags = Flags {
+    dry_run: true,
+    loquacious: false,
+    no_dependencies: false,
+    quiet: true,
+};
+
+const LOQUACIOUS: Flags = Flags {
+    dry_run: false,
+    loquacious: true,
+    no_dependencies: false,
+    quiet: true,
+};
+
+const NO_DEPENDENCIES: Flags = Flags {
+    dry_run: false,
+    loquacious: false,
+    no_dependencies: true,
+    quiet: true,
+};
+
+/// The text; the empty one where memory is refused.
+fn string(alloc: Global, text: &str) -> String {
+    match String::from_str(alloc, text) {
+        Ok(text) => text,
+        Err(_) => String::new(alloc),
+    }
+}
+
+fn config(alloc: Global, flags: Flags) -> Config {
+    Config {
         os: Os::Linux,
-        arch: String::from_str(alloc, "x86_64")?,
-        base: String::from_str(alloc, "/base")?,
-        working_directory: String::from_str(alloc, "/base")?,
-        invocation_directory: String::from_str(alloc, "/base")?,
-        dry_run: false,
+        arch: string(alloc, "x86_64"),
+        base: string(alloc, "/base"),
+        working_directory: string(alloc, "/base"),
+        invocation_directory: string(alloc, "/base"),
+        dry_run: flags.dry_run,
         yes: false,
-        no_dependencies: false,
-        quiet: false,
-        loquacious: false,
+        no_dependencies: flags.no_dependencies,
+        quiet: flags.quiet,
+        loquacious: flags.loquacious,
         unstable: false,
         jobs: None,
         shell: None,
         shell_args: None,
         recursion_limit: 256,
         version: Version::new(1, 58, 0),
+    }
+}
+
+/// The file `justfile`, where there is one.
+fn sources(alloc: Global, source: Option<&str>) -> Result<BTreeMap<String, String>, AllocError> {
+    let mut sources = BTreeMap::new(alloc);
+    if let Some(source) = source {
+        sources.insert(string(alloc, "justfile"), string(alloc, source))?;
+    }
+    Ok(sources)
+}
+
+fn roots(alloc: Global) -> Result<BTreeMap<Option<String>, String>, AllocError> {
+    let mut roots = BTreeMap::new(alloc);
+    roots.insert(None, string(alloc, "justfile"))?;
+    Ok(roots)
+}
+
+/// The words between white space.
+fn words(alloc: Global, text: &str) -> Result<Vec<String>, AllocError> {
+    let mut words = Vec::new(alloc);
+    for word in text.split_whitespace() {
+        words.push(string(alloc, word))?;
+    }
+    Ok(words)
+}
+
+/// What is driven: the file, where there is one, and the words.
+#[derive(Drop)]
+struct Given {
+    sources: BTreeMap<String, String>,
+    roots: BTreeMap<Option<String>, String>,
+    words: Vec<String>,
+}
+
+fn given(alloc: Global, source: Option<&str>, text: &str) -> Result<Given, AllocError> {
+    let sources = sources(alloc, source)?;
+    let roots = roots(alloc)?;
+    let words = words(alloc, text)?;
+    Ok(Given {
+        sources,
+        roots,
+        words,
     })
 }
 
-/// The entries, one behind the other.
-fn told(alloc: Global, entries: &[Entry]) -> Result<String, Fail> {
-    let mut told = String::new(alloc);
+/// Writes the entries, one behind the other.
+fn tell(text: &mut String, entries: &[Entry]) -> Result<(), AllocError> {
     for entry in entries {
-        match entry {
-            Entry::Line(job, _) => {
-                told.push_str(job.command.as_str())?;
-                told.push_str("; ")?;
-            }
-            Entry::Show(text) => {
-                told.push_str("show ")?;
-                told.push_str(text.as_str())?;
-                told.push_str("; ")?;
-            }
-            _ => told.push_str("another; ")?,
-        }
+        let (mark, told) = match entry {
+            Entry::Line(job, _) => ("", job.command.as_str()),
+            Entry::Show(shown) => ("show ", shown.as_str()),
+            _ => ("", "another"),
+        };
+        text.push_str(mark)?;
+        text.push_str(told)?;
+        text.push_str("; ")?;
     }
-    Ok(told)
+    Ok(())
 }
 
-/// Drives a justfile with words, and tells the entries, the answer and the status.
+/// The answer and its status.
+fn told(alloc: Global, answer: Result<Outcome, Fault<'_>>) -> Result<String, AllocError> {
+    match answer {
+        Ok(Outcome::Ran) => String::from_str(alloc, "ran"),
+        Err(fault) => {
+            let status = fault.status();
+            format!(in alloc; "{fault} ({status})")
+        }
+    }
+}
+
+/// Drives the file with the words, and tells the answer and its status.
 fn driven(
     alloc: Global,
     config: &Config,
-    source: Option<&str>,
-    words: &[&str],
-    command: &str,
-    status: Status,
-) -> Result<String, Fail> {
-    let mut sources = BTreeMap::new(alloc);
-    if let Some(source) = source {
-        sources.insert(
-            String::from_str(alloc, "justfile")?,
-            String::from_str(alloc, source)?,
-        )?;
-    }
-    let mut roots = BTreeMap::new(alloc);
-    roots.insert(None, String::from_str(alloc, "justfile")?)?;
-    let mut given = Vec::new(alloc);
-    for word in words {
-        given.push(String::from_str(alloc, word)?)?;
-    }
-    let mut host = Recorded::new(alloc, Scripted { command, status });
+    given: &Given,
+    host: &mut Recorded<Scripted<'_>>,
+) -> Result<String, AllocError> {
     let mut out = Collected::new(alloc);
     let answer = drive(
         alloc,
         config,
         &Unchanged,
-        &sources,
-        &roots,
-        given.as_slice(),
+        &given.sources,
+        &given.roots,
+        given.words.as_slice(),
         Action::Run,
-        &mut host,
+        host,
         &mut out,
     );
-    let mut text = told(alloc, host.entries())?;
-    match answer {
-        Ok(Outcome::Ran) => text.push_str("ran")?,
-        Err(fault) => {
-            let fault_status = fault.status();
-            let line = format!(in alloc; "{fault} ({fault_status})")?;
-            text.push_str(line.as_str())?;
-        }
-    }
+    told(alloc, answer)
+}
+
+/// The entries, the answer and its status.
+fn run(
+    alloc: Global,
+    flags: Flags,
+    given: &Given,
+    host: &mut Recorded<Scripted<'_>>,
+) -> Result<String, AllocError> {
+    let config = config(alloc, flags);
+    let answer = driven(alloc, &config, given, host)?;
+    let mut text = String::new(alloc);
+    tell(&mut text, host.entries())?;
+    text.push_str(answer.as_str())?;
     Ok(text)
 }
 
-/// Whether that is told where each command ends with code 0 and none is shown.
+/// Whether that is told of the file, if there is one, with the words.
 fn tells(
-    rt: &impl Abort,
     alloc: Global,
-    source: &str,
-    words: &[&str],
-    expected: &str,
-) -> Result<(), Fail> {
-    let mut config = config(alloc)?;
-    config.quiet = true;
-    let text = driven(alloc, &config, Some(source), words, "", Status::Code(0))?;
-    assert_eq!(rt; text.as_str(), expected);
+    flags: Flags,
+    source: Option<&str>,
+    words: &str,
+    scripted: Scripted<'_>,
+    want: &str,
+) -> Result<bool, AllocError> {
+    let given = given(alloc, source, words)?;
+    let mut host = Recorded::new(alloc, scripted);
+    Ok(run(alloc, flags, &given, &mut host)?.as_str() == want)
+}
+
+/// A host on which each command ends with code 0.
+fn succeeding() -> Scripted<'static> {
+    Scripted {
+        command: "",
+        status: Status::Code(0),
+    }
+}
+
+/// Holds each file with its words to what is told of it, where each command ends with code 0 and
+/// none is shown.
+fn tell_all(rt: &impl Abort, alloc: Global, rows: &[(&str, &str, &str)]) -> Result<(), Fail> {
+    for (source, words, want) in rows {
+        let holds = tells(alloc, QUIET, Some(source), words, succeeding(), want)?;
+        assert!(rt; holds, "in {source:?} of {words:?}");
+    }
     Ok(())
 }
 
-/// Whether that is told for `a: b`, where `b`'s first command ends so.
-fn fails(rt: &impl Abort, alloc: Global, status: Status, expected: &str) -> Result<(), Fail> {
-    let mut config = config(alloc)?;
-    config.quiet = true;
+/// Whether that is told of the file without words.
+fn shows(alloc: Global, flags: Flags, source: &str, want: &str) -> Result<bool, AllocError> {
+    tells(alloc, flags, Some(source), "", succeeding(), want)
+}
+
+/// Whether that is told of `a: b`, where the first command of `b` ends so.
+fn fails(alloc: Global, status: Status, want: &str) -> Result<bool, AllocError> {
     let source = "a: b\n  echo a\nb:\n  false\n  echo b\n";
-    let text = driven(
+    let command = "false";
+    tells(
         alloc,
-        &config,
+        QUIET,
         Some(source),
-        ["a"].as_slice(),
-        "false",
-        status,
-    )?;
-    assert_eq!(rt; text.as_str(), expected);
-    Ok(())
+        "a",
+        Scripted { command, status },
+        want,
+    )
 }
 
 const THREE: &str = "a: b c\n  echo a\nb: c\n  echo b\nc:\n  echo c\n";
@@ -194,290 +306,163 @@ const ALL: &str = "echo c; echo b; echo a; ran";
 
 #[test]
 fn dependencies_run_first_and_once(rt: HostRuntime) -> Result<(), Fail> {
-    tells(&rt, rt.alloc(), THREE, ["a"].as_slice(), ALL)?;
-    tells(&rt, rt.alloc(), THREE, [].as_slice(), ALL)?;
-    tells(&rt, rt.alloc(), THREE, ["c", "b", "a", "b"].as_slice(), ALL)?;
-    tells(
-        &rt,
-        rt.alloc(),
-        "a: b b\n  1\nb:\n  2\n",
-        [].as_slice(),
-        "2; 1; ran",
-    )
+    let rows = [
+        (THREE, "a", ALL),
+        (THREE, "", ALL),
+        (THREE, "c b a b", ALL),
+        ("a: b b\n  1\nb:\n  2\n", "", "2; 1; ran"),
+    ];
+    tell_all(&rt, rt.alloc(), rows.as_slice())
 }
 
 #[test]
 fn commands_are_shown(rt: HostRuntime) -> Result<(), Fail> {
-    let alloc = rt.alloc();
-    let config = config(alloc)?;
-    let text = "a:\n  1\n\n  2\n";
-    let shown = driven(
-        alloc,
-        &config,
-        Some(text),
-        [].as_slice(),
-        "",
-        Status::Code(0),
-    )?;
-    assert_eq!(rt; shown.as_str(), "show 1; 1; show 2; 2; ran");
+    let want = "show 1; 1; show 2; 2; ran";
+    assert!(rt; shows(rt.alloc(), SHOWN, "a:\n  1\n\n  2\n", want)?);
     Ok(())
 }
 
 #[test]
 fn dry_run_only_shows(rt: HostRuntime) -> Result<(), Fail> {
-    let alloc = rt.alloc();
-    let mut config = config(alloc)?;
-    config.quiet = true;
-    config.dry_run = true;
-    let dry = driven(
-        alloc,
-        &config,
-        Some(THREE),
-        [].as_slice(),
-        "",
-        Status::Code(0),
-    )?;
-    assert_eq!(rt; dry.as_str(), "show echo c; show echo b; show echo a; ran");
+    let want = "show echo c; show echo b; show echo a; ran";
+    assert!(rt; shows(rt.alloc(), DRY_RUN, THREE, want)?);
     Ok(())
 }
 
 #[test]
 fn loquacious_outdoes_quiet(rt: HostRuntime) -> Result<(), Fail> {
-    let alloc = rt.alloc();
-    let mut config = config(alloc)?;
-    config.quiet = true;
-    config.loquacious = true;
-    let loud = driven(
-        alloc,
-        &config,
-        Some("a:\n  1\n"),
-        [].as_slice(),
-        "",
-        Status::Code(0),
-    )?;
-    assert_eq!(rt; loud.as_str(), "show 1; 1; ran");
+    assert!(rt; shows(rt.alloc(), LOQUACIOUS, "a:\n  1\n", "show 1; 1; ran")?);
     Ok(())
 }
 
 #[test]
 fn no_dependencies_runs_the_named_alone(rt: HostRuntime) -> Result<(), Fail> {
-    let alloc = rt.alloc();
-    let mut config = config(alloc)?;
-    config.quiet = true;
-    config.no_dependencies = true;
-    let alone = driven(
-        alloc,
-        &config,
-        Some(THREE),
-        [].as_slice(),
-        "",
-        Status::Code(0),
-    )?;
-    assert_eq!(rt; alone.as_str(), "echo a; ran");
+    assert!(rt; shows(rt.alloc(), NO_DEPENDENCIES, THREE, "echo a; ran")?);
     Ok(())
 }
 
 #[test]
 fn first_failure_ends_the_run(rt: HostRuntime) -> Result<(), Fail> {
-    fails(
-        &rt,
-        rt.alloc(),
-        Status::Code(1),
-        "false; recipe `b` failed with exit code 1 (1)",
-    )?;
-    fails(
-        &rt,
-        rt.alloc(),
-        Status::Signal(9),
-        "false; recipe `b` was ended by signal 9 (137)",
-    )?;
-    fails(
-        &rt,
-        rt.alloc(),
-        Status::Signal(200),
-        "false; recipe `b` was ended by signal 200 (255)",
-    )?;
-    fails(
-        &rt,
-        rt.alloc(),
-        Status::NotStarted,
-        "false; recipe `b` could not start its command (1)",
-    )
+    for (status, want) in [
+        (
+            Status::Code(1),
+            "false; recipe `b` failed with exit code 1 (1)",
+        ),
+        (
+            Status::Signal(9),
+            "false; recipe `b` was ended by signal 9 (137)",
+        ),
+        (
+            Status::Signal(200),
+            "false; recipe `b` was ended by signal 200 (255)",
+        ),
+        (
+            Status::NotStarted,
+            "false; recipe `b` could not start its command (1)",
+        ),
+    ] {
+        assert!(rt; fails(rt.alloc(), status, want)?, "{want}");
+    }
+    Ok(())
 }
 
 #[test]
 fn unknown_words_are_named(rt: HostRuntime) -> Result<(), Fail> {
-    tells(&rt, rt.alloc(), "", [].as_slice(), "no recipes (1)")?;
-    tells(
-        &rt,
-        rt.alloc(),
-        THREE,
-        ["nope"].as_slice(),
-        "unknown recipe: `nope` (1)",
-    )?;
-    tells(
-        &rt,
-        rt.alloc(),
-        THREE,
-        ["a::b"].as_slice(),
-        "unknown module: `a::b` (1)",
-    )?;
-    tells(
-        &rt,
-        rt.alloc(),
-        THREE,
-        ["sub/a"].as_slice(),
-        "no root for word: `sub/` (1)",
-    )
+    let rows = [
+        ("", "", "no recipes (1)"),
+        (THREE, "nope", "unknown recipe: `nope` (1)"),
+        (THREE, "a::b", "unknown module: `a::b` (1)"),
+        (THREE, "sub/a", "no root for word: `sub/` (1)"),
+    ];
+    tell_all(&rt, rt.alloc(), rows.as_slice())
 }
 
 #[test]
 fn overrides_stand_before_the_first_argument(rt: HostRuntime) -> Result<(), Fail> {
-    tells(
-        &rt,
-        rt.alloc(),
-        THREE,
-        ["x=1", "a"].as_slice(),
-        "unknown override: `x` (1)",
-    )?;
-    tells(
-        &rt,
-        rt.alloc(),
-        THREE,
-        ["a", "x=1"].as_slice(),
-        "unknown recipe: `x=1` (1)",
-    )
+    let rows = [
+        (THREE, "x=1 a", "unknown override: `x` (1)"),
+        (THREE, "a x=1", "unknown recipe: `x=1` (1)"),
+    ];
+    tell_all(&rt, rt.alloc(), rows.as_slice())
 }
 
 #[test]
 fn circles_and_unknown_dependencies_are_named(rt: HostRuntime) -> Result<(), Fail> {
     let circle = "a: b\n  echo a\nb: a\n  echo b\n";
-    tells(
-        &rt,
-        rt.alloc(),
-        circle,
-        [].as_slice(),
-        "circular recipe: `a`, `b`, `a` (1)",
-    )?;
-    tells(
-        &rt,
-        rt.alloc(),
-        "a: a\n",
-        [].as_slice(),
-        "circular recipe: `a`, `a` (1)",
-    )?;
-    tells(
-        &rt,
-        rt.alloc(),
-        "a: b\n",
-        ["a"].as_slice(),
-        "unknown dependency: `a`, `b` (1)",
-    )?;
-    tells(
-        &rt,
-        rt.alloc(),
-        "a: b\n",
-        ["nope"].as_slice(),
-        "unknown dependency: `a`, `b` (1)",
-    )
+    let rows = [
+        (circle, "", "circular recipe: `a`, `b`, `a` (1)"),
+        ("a: a\n", "", "circular recipe: `a`, `a` (1)"),
+        ("a: b\n", "a", "unknown dependency: `a`, `b` (1)"),
+        ("a: b\n", "nope", "unknown dependency: `a`, `b` (1)"),
+    ];
+    tell_all(&rt, rt.alloc(), rows.as_slice())
 }
 
 #[test]
 fn faults_of_the_text_are_named(rt: HostRuntime) -> Result<(), Fail> {
-    tells(
-        &rt,
-        rt.alloc(),
-        "a:\nb:\na:\n",
-        [].as_slice(),
-        "redefinition: `a` (1)",
-    )?;
-    tells(
-        &rt,
-        rt.alloc(),
-        "a:\n  b\n    c\n",
-        [].as_slice(),
-        "extra leading whitespace (1)",
-    )?;
-    tells(
-        &rt,
-        rt.alloc(),
-        "a b\n",
-        [].as_slice(),
-        "unexpected token: `end of line` (1)",
-    )?;
-    tells(
-        &rt,
-        rt.alloc(),
-        "x := 'a' == 'b' == 'c'\na:\n",
-        [].as_slice(),
-        "unexpected token: `'=='` (1)",
-    )
+    let rows = [
+        ("a:\nb:\na:\n", "", "redefinition: `a` (1)"),
+        ("a:\n  b\n    c\n", "", "extra leading whitespace (1)"),
+        ("a b\n", "", "unexpected token: `end of line` (1)"),
+        (
+            "x := 'a' == 'b' == 'c'\na:\n",
+            "",
+            "unexpected token: `'=='` (1)",
+        ),
+    ];
+    tell_all(&rt, rt.alloc(), rows.as_slice())
 }
 
 #[test]
 fn rules_of_settings_and_attributes_are_named(rt: HostRuntime) -> Result<(), Fail> {
-    tells(
-        &rt,
-        rt.alloc(),
-        "set nope := 'a'\n",
-        [].as_slice(),
-        "unknown setting: `nope` (1)",
-    )?;
-    tells(
-        &rt,
-        rt.alloc(),
-        "set minimum-version := '1.59.0'\n",
-        [].as_slice(),
-        "minimum version: `1.59.0`, `1.58.0` (1)",
-    )?;
-    tells(
-        &rt,
-        rt.alloc(),
-        "[private, private]\na:\n",
-        [].as_slice(),
-        "duplicate attribute: `private` (1)",
-    )?;
-    tells(
-        &rt,
-        rt.alloc(),
-        "[parallel]\nx := 'a'\n",
-        [].as_slice(),
-        "invalid attribute: `parallel`, `x` (1)",
-    )
+    let rows = [
+        ("set nope := 'a'\n", "", "unknown setting: `nope` (1)"),
+        (
+            "set minimum-version := '1.59.0'\n",
+            "",
+            "minimum version: `1.59.0`, `1.58.0` (1)",
+        ),
+        (
+            "[private, private]\na:\n",
+            "",
+            "duplicate attribute: `private` (1)",
+        ),
+        (
+            "[parallel]\nx := 'a'\n",
+            "",
+            "invalid attribute: `parallel`, `x` (1)",
+        ),
+    ];
+    tell_all(&rt, rt.alloc(), rows.as_slice())
 }
 
 #[test]
 fn other_justfiles_are_told_apart(rt: HostRuntime) -> Result<(), Fail> {
-    let alloc = rt.alloc();
     let told = "not yet: `justfile` (1)";
-    tells(&rt, alloc, "a b:\n", [].as_slice(), told)?;
-    tells(&rt, alloc, "@a:\n", [].as_slice(), told)?;
-    tells(&rt, alloc, "a:\n  @b\n", [].as_slice(), told)?;
-    tells(&rt, alloc, "a:\n  b {{{{c\n", [].as_slice(), told)?;
-    tells(&rt, alloc, "x := 'a'\na:\n", [].as_slice(), told)?;
-    tells(&rt, alloc, "[private]\na:\n", [].as_slice(), told)?;
-    tells(&rt, alloc, "a: (b 'c')\nb:\n", [].as_slice(), told)?;
-    tells(&rt, alloc, "a: m::b\n", [].as_slice(), told)?;
-    tells(&rt, alloc, "a: && b\nb:\n", [].as_slice(), told)
+    let rows = [
+        ("a b:\n", "", told),
+        ("@a:\n", "", told),
+        ("a:\n  @b\n", "", told),
+        ("a:\n  b {{{{c\n", "", told),
+        ("x := 'a'\na:\n", "", told),
+        ("[private]\na:\n", "", told),
+        ("a: (b 'c')\nb:\n", "", told),
+        ("a: m::b\n", "", told),
+        ("a: && b\nb:\n", "", told),
+    ];
+    tell_all(&rt, rt.alloc(), rows.as_slice())
 }
 
 #[test]
 fn plain_forms_run(rt: HostRuntime) -> Result<(), Fail> {
     let source = "\u{feff}# one\n\na: (b)\n  echo a\n\nb:\n  echo b # c";
-    tells(
-        &rt,
-        rt.alloc(),
-        source,
-        [].as_slice(),
-        "echo b # c; echo a; ran",
-    )
+    let rows = [(source, "", "echo b # c; echo a; ran")];
+    tell_all(&rt, rt.alloc(), rows.as_slice())
 }
 
 #[test]
 fn missing_files_are_named(rt: HostRuntime) -> Result<(), Fail> {
-    let alloc = rt.alloc();
-    let config = config(alloc)?;
-    let missing = driven(alloc, &config, None, ["a"].as_slice(), "", Status::Code(0))?;
-    assert_eq!(rt; missing.as_str(), "missing root: `justfile` (1)");
+    let want = "missing root: `justfile` (1)";
+    assert!(rt; tells(rt.alloc(), QUIET, None, "a", succeeding(), want)?);
     Ok(())
 }

@@ -4,6 +4,7 @@ use just_plain::Recipe;
 use just_run::{Order, OrderFault};
 use justfile_syntax::{Name, Token, TokenKind};
 use std::alloc::{AllocError, Global};
+use std::process::Abort;
 use std::test::Fail;
 
 fn name(text: &str) -> Name<'_> {
@@ -36,120 +37,163 @@ fn recipes(alloc: Global, text: &str) -> Result<Vec<Recipe<'_>>, AllocError> {
     Ok(recipes)
 }
 
-/// The names in order, each with its priors; or the rule that is broken, with its names.
-fn shown(alloc: Global, text: &str) -> Result<String, AllocError> {
-    let recipes = recipes(alloc, text)?;
-    let mut out = String::new(alloc);
-    match Order::new(alloc, recipes.as_slice()) {
-        Ok(order) => {
-            for planned in order.planned() {
-                out.push_str(planned.recipe.name.lexeme())?;
-                for prior in &planned.priors {
-                    write!(out, " {prior}")?;
-                }
-                out.push_str(";")?;
-            }
+/// The names in order, each with its priors.
+fn order_text(alloc: Global, order: &Order<'_, '_>) -> Result<String, AllocError> {
+    let mut text = String::new(alloc);
+    for planned in order.planned() {
+        text.push_str(planned.recipe.name.lexeme())?;
+        for prior in &planned.priors {
+            write!(text, " {prior}")?;
         }
-        Err(OrderFault::OutOfMemory) => out.push_str("out of memory")?,
-        Err(OrderFault::Redefinition(name)) => {
-            out.push_str("redefinition ")?;
-            out.push_str(name.lexeme())?;
-        }
-        Err(OrderFault::UnknownDependency { recipe, dependency }) => {
-            out.push_str("unknown dependency ")?;
-            out.push_str(recipe.lexeme())?;
-            out.push_str(" ")?;
-            out.push_str(dependency.lexeme())?;
-        }
-        Err(OrderFault::CircularRecipe(names)) => {
-            out.push_str("circular recipe")?;
-            for name in names.as_slice() {
-                out.push_str(" ")?;
-                out.push_str(name.lexeme())?;
-            }
-        }
+        text.push_str(";")?;
     }
-    Ok(out)
+    Ok(text)
+}
+
+/// The names, each behind a space.
+fn circle_text(alloc: Global, names: &[Name<'_>]) -> Result<String, AllocError> {
+    let mut text = String::from_str(alloc, "circular recipe")?;
+    for name in names {
+        text.push_str(" ")?;
+        text.push_str(name.lexeme())?;
+    }
+    Ok(text)
+}
+
+/// The rule that is broken, with its names.
+fn fault_text(alloc: Global, fault: &OrderFault<'_>) -> Result<String, AllocError> {
+    match fault {
+        OrderFault::OutOfMemory => String::from_str(alloc, "out of memory"),
+        OrderFault::Redefinition(name) => format!(in alloc; "redefinition {name}"),
+        OrderFault::UnknownDependency { recipe, dependency } => {
+            format!(in alloc; "unknown dependency {recipe} {dependency}")
+        }
+        OrderFault::CircularRecipe(names) => circle_text(alloc, names.as_slice()),
+    }
+}
+
+/// The order of the recipes, or the rule that is broken.
+fn shown(alloc: Global, recipes: &[Recipe<'_>]) -> Result<String, AllocError> {
+    match Order::new(alloc, recipes) {
+        Ok(order) => order_text(alloc, &order),
+        Err(fault) => fault_text(alloc, &fault),
+    }
+}
+
+fn shows(alloc: Global, text: &str, want: &str) -> Result<bool, AllocError> {
+    let recipes = recipes(alloc, text)?;
+    Ok(shown(alloc, recipes.as_slice())?.as_str() == want)
+}
+
+/// Holds each text to what is shown of it.
+fn show_all(rt: &impl Abort, alloc: Global, rows: &[(&str, &str)]) -> Result<(), Fail> {
+    for (text, want) in rows {
+        assert!(rt; shows(alloc, text, want)?, "in {text:?}");
+    }
+    Ok(())
 }
 
 #[test]
 fn orders(rt: HostRuntime) -> Result<(), Fail> {
-    let alloc = rt.alloc();
-    assert_eq!(rt; shown(alloc, "")?.as_str(), "");
-    assert_eq!(rt; shown(alloc, "a:")?.as_str(), "a;");
-    assert_eq!(rt; shown(alloc, "a: b c\nb: c\nc:")?.as_str(), "c;b 0;a 1 0;");
-    assert_eq!(rt; shown(alloc, "a: b b\nb:")?.as_str(), "b;a 0 0;");
-    assert_eq!(rt; shown(alloc, "c:\na: c\nb: c a")?.as_str(), "c;a 0;b 0 1;");
-    assert_eq!(rt;
-        shown(alloc, "d: b c\nb: a\nc: a\na:")?.as_str(),
-        "a;b 0;c 0;d 1 2;"
-    );
-    Ok(())
+    let rows = [
+        ("", ""),
+        ("a:", "a;"),
+        ("a: b c\nb: c\nc:", "c;b 0;a 1 0;"),
+        ("a: b b\nb:", "b;a 0 0;"),
+        ("c:\na: c\nb: c a", "c;a 0;b 0 1;"),
+        ("d: b c\nb: a\nc: a\na:", "a;b 0;c 0;d 1 2;"),
+    ];
+    show_all(&rt, rt.alloc(), rows.as_slice())
 }
 
 #[test]
 fn refuses_circles(rt: HostRuntime) -> Result<(), Fail> {
-    let alloc = rt.alloc();
-    assert_eq!(rt;
-        shown(alloc, "a: b\nb: a")?.as_str(),
-        "circular recipe a b a"
-    );
-    assert_eq!(rt; shown(alloc, "a: a")?.as_str(), "circular recipe a a");
-    assert_eq!(rt;
-        shown(alloc, "a: b\nb: c d\nc:\nd: b")?.as_str(),
-        "circular recipe b d b"
-    );
-    Ok(())
+    let rows = [
+        ("a: b\nb: a", "circular recipe a b a"),
+        ("a: a", "circular recipe a a"),
+        ("a: b\nb: c d\nc:\nd: b", "circular recipe b d b"),
+    ];
+    show_all(&rt, rt.alloc(), rows.as_slice())
 }
 
 #[test]
 fn refuses_unknown_dependencies(rt: HostRuntime) -> Result<(), Fail> {
-    let alloc = rt.alloc();
-    assert_eq!(rt; shown(alloc, "a: b")?.as_str(), "unknown dependency a b");
-    assert_eq!(rt;
-        shown(alloc, "a: b\nb: c a")?.as_str(),
-        "unknown dependency b c"
-    );
-    Ok(())
+    let rows = [
+        ("a: b", "unknown dependency a b"),
+        ("a: b\nb: c a", "unknown dependency b c"),
+    ];
+    show_all(&rt, rt.alloc(), rows.as_slice())
 }
 
 #[test]
 fn refuses_redefinitions(rt: HostRuntime) -> Result<(), Fail> {
-    let alloc = rt.alloc();
-    assert_eq!(rt; shown(alloc, "a:\nb:\na: b")?.as_str(), "redefinition a");
-    assert_eq!(rt; shown(alloc, "a: x\na: x")?.as_str(), "redefinition a");
-    Ok(())
+    let rows = [
+        ("a:\nb:\na: b", "redefinition a"),
+        ("a: x\na: x", "redefinition a"),
+    ];
+    show_all(&rt, rt.alloc(), rows.as_slice())
+}
+
+/// Whether each name has that place in the order.
+fn are_places(order: &Order<'_, '_>, rows: &[(&str, Option<usize>)]) -> bool {
+    for (name, place) in rows {
+        if order.place(name) != *place {
+            return false;
+        }
+    }
+    true
+}
+
+/// Whether the recipes have an order of that length, in which each name has that place.
+fn has_order(
+    alloc: Global,
+    recipes: &[Recipe<'_>],
+    length: usize,
+    rows: &[(&str, Option<usize>)],
+) -> bool {
+    match Order::new(alloc, recipes) {
+        Ok(order) => order.planned().len() == length && are_places(&order, rows),
+        Err(_) => false,
+    }
+}
+
+fn has_places(
+    alloc: Global,
+    text: &str,
+    length: usize,
+    rows: &[(&str, Option<usize>)],
+) -> Result<bool, AllocError> {
+    let recipes = recipes(alloc, text)?;
+    Ok(has_order(alloc, recipes.as_slice(), length, rows))
 }
 
 #[test]
 fn knows_places(rt: HostRuntime) -> Result<(), Fail> {
-    let alloc = rt.alloc();
-    let recipes = recipes(alloc, "a: b c\nb: c\nc:")?;
-    let order = Order::new(alloc, recipes.as_slice())
-        .ok()
-        .ok_or("no order")?;
-    assert_eq!(rt; order.place("a"), Some(2));
-    assert_eq!(rt; order.place("b"), Some(1));
-    assert_eq!(rt; order.place("c"), Some(0));
-    assert_eq!(rt; order.place("d"), None);
-    assert_eq!(rt; order.place(""), None);
+    let rows = [
+        ("a", Some(2)),
+        ("b", Some(1)),
+        ("c", Some(0)),
+        ("d", None),
+        ("", None),
+    ];
+    assert!(rt; has_places(rt.alloc(), "a: b c\nb: c\nc:", 3, rows.as_slice())?);
     Ok(())
+}
+
+/// So many recipes, each of which depends on the next, and one that depends on none.
+fn chain(alloc: Global, times: u32) -> Result<String, AllocError> {
+    let mut text = String::new(alloc);
+    for i in 0..times {
+        write!(text, "r{i}: r{}\n", i as u64 + 1)?;
+    }
+    write!(text, "r{times}:")?;
+    Ok(text)
 }
 
 #[test]
 fn follows_long_chains(rt: HostRuntime) -> Result<(), Fail> {
-    let alloc = rt.alloc();
-    let mut text = String::new(alloc);
-    for i in 0..100_000_u32 {
-        write!(text, "r{}: r{}\n", i, i + 1)?;
-    }
-    text.push_str("r100000:")?;
-    let recipes = recipes(alloc, text.as_str())?;
-    let order = Order::new(alloc, recipes.as_slice())
-        .ok()
-        .ok_or("no order")?;
-    assert_eq!(rt; order.planned().len(), 100_001);
-    assert_eq!(rt; order.place("r0"), Some(100_000));
-    assert_eq!(rt; order.place("r100000"), Some(0));
+    let text = chain(rt.alloc(), 100_000)?;
+    let rows = [("r0", Some(100_000)), ("r100000", Some(0))];
+    assert!(rt; has_places(rt.alloc(), text.as_str(), 100_001, rows.as_slice())?);
     Ok(())
 }

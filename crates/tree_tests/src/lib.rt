@@ -1,8 +1,10 @@
-//! Tests of small texts and names, strings, trees, variables and attributes.
+//! Tests of small texts and names, strings, trees, variables, attributes and excerpts.
 #![tactic(auto)]
 
 #[cfg(test)]
 mod attributes;
+#[cfg(test)]
+mod excerpts;
 #[cfg(test)]
 mod strings;
 #[cfg(test)]

@@ -5,8 +5,9 @@ use just_strings::{
     StringDelimiter, StringKind, StringLiteral, StringPrefix, command_text, cook_part, is_shebang,
     unindent,
 };
-use just_text::{ExpandFault, Expander, Text, TokenKind};
+use just_text::{CompileError, ExpandFault, Expander, Text, TokenKind};
 use std::alloc::{AllocError, Global};
+use std::process::Abort;
 use std::test::Fail;
 
 /// Puts `<` and `>` round a text, and refuses the empty one.
@@ -28,21 +29,53 @@ impl Expander for Brackets {
     }
 }
 
-/// What a string stands for, or its refusal.
-fn cooked(alloc: Global, src: &str) -> Result<Text, AllocError> {
-    match StringLiteral::cook(alloc, token(src, TokenKind::StringToken), &Brackets) {
-        Ok(literal) => Ok(literal.cooked),
-        Err(error) => Ok(Text::from_string(format!(in alloc; "{error}")?)),
+/// What a string or a part stands for, or its refusal.
+fn told(alloc: Global, outcome: Result<Text, CompileError<'_>>) -> Result<Text, AllocError> {
+    match outcome {
+        Ok(text) => Ok(text),
+        Err(error) => Ok(Text::from_string(error.to_string(alloc)?)),
     }
 }
 
-/// What a part of a format string of this start stands for, or its refusal.
-fn cooked_part(alloc: Global, start: &str, part: &str) -> Result<Text, AllocError> {
+/// What a string stands for.
+fn cooked<'src>(alloc: Global, src: &'src str) -> Result<Text, CompileError<'src>> {
+    let literal = StringLiteral::cook(alloc, token(src, TokenKind::StringToken), &Brackets)?;
+    Ok(literal.cooked)
+}
+
+fn cooks_to(alloc: Global, src: &str, want: &str) -> Result<bool, AllocError> {
+    Ok(told(alloc, cooked(alloc, src))?.as_str() == want)
+}
+
+/// Whether a part of a format string of this start stands for that, or is refused so.
+fn part_cooks_to(alloc: Global, start: &str, part: &str, want: &str) -> Result<bool, AllocError> {
     let kind = StringKind::of_lexeme(start);
-    match cook_part(alloc, kind, token(part, TokenKind::FormatStringContinue)) {
-        Ok(text) => Ok(text),
-        Err(error) => Ok(Text::from_string(format!(in alloc; "{error}")?)),
+    let place = token(part, TokenKind::FormatStringContinue);
+    Ok(told(alloc, cook_part(alloc, kind, place))?.as_str() == want)
+}
+
+fn unindents_to(alloc: Global, text: &str, want: &str) -> Result<bool, AllocError> {
+    Ok(unindent(alloc, text)?.as_str() == want)
+}
+
+fn is_command(alloc: Global, lexeme: &str, want: &str) -> Result<bool, AllocError> {
+    Ok(command_text(alloc, lexeme)?.as_str() == want)
+}
+
+/// Holds each string to what it stands for, or to its refusal.
+fn cook_all(rt: &impl Abort, alloc: Global, rows: &[(&str, &str)]) -> Result<(), Fail> {
+    for (src, want) in rows {
+        assert!(rt; cooks_to(alloc, src, want)?, "of {src:?}");
     }
+    Ok(())
+}
+
+/// Holds each part behind a start to what it stands for, or to its refusal.
+fn cook_parts(rt: &impl Abort, alloc: Global, rows: &[(&str, &str, &str)]) -> Result<(), Fail> {
+    for (start, part, want) in rows {
+        assert!(rt; part_cooks_to(alloc, start, part, want)?, "of {part:?}");
+    }
+    Ok(())
 }
 
 #[test]
@@ -60,15 +93,14 @@ fn unindents(rt: HostRuntime) -> Result<(), Fail> {
         ("  ", ""),
         (" é\n  ü", "é\n ü"),
     ] {
-        let unindented = unindent(rt.alloc(), text)?;
-        assert_eq!(rt; unindented.as_str(), want, "of {text:?}");
+        assert!(rt; unindents_to(rt.alloc(), text, want)?, "of {text:?}");
     }
     Ok(())
 }
 
 #[test]
 fn cooks(rt: HostRuntime) -> Result<(), Fail> {
-    for (src, want) in [
+    let rows = [
         (r"''", ""),
         (r#""""#, ""),
         ("''''''", ""),
@@ -87,16 +119,13 @@ fn cooks(rt: HostRuntime) -> Result<(), Fail> {
         (r"x'a\n'", r"<a\n>"),
         (r#"x"a\n""#, "<a\n>"),
         ("x'''\n  a\n  '''", "<a\n>"),
-    ] {
-        let text = cooked(rt.alloc(), src)?;
-        assert_eq!(rt; text.as_str(), want, "of {src:?}");
-    }
-    Ok(())
+    ];
+    cook_all(&rt, rt.alloc(), rows.as_slice())
 }
 
 #[test]
 fn refuses(rt: HostRuntime) -> Result<(), Fail> {
-    for (src, want) in [
+    let rows = [
         ("x''", "shell expansion: `empty`"),
         // Escapes that are none, up to the last character read.
         (r#""a\qb""#, r"invalid escape sequence: `\q`"),
@@ -109,28 +138,33 @@ fn refuses(rt: HostRuntime) -> Result<(), Fail> {
         (r#""\u{}a""#, r"invalid escape sequence: `\u{}`"),
         (r#""\u{41""#, r"invalid escape sequence: `\u{41`"),
         (r#"x"\q""#, r"invalid escape sequence: `\q`"),
-    ] {
-        let text = cooked(rt.alloc(), src)?;
-        assert_eq!(rt; text.as_str(), want, "of {src:?}");
-    }
-    Ok(())
+    ];
+    cook_all(&rt, rt.alloc(), rows.as_slice())
+}
+
+/// Whether the literal is that of `x"""a"""`.
+fn is_expanded_block(literal: &StringLiteral<'_>) -> bool {
+    literal.kind.mark() == "\"\"\""
+        && literal.kind.prefix == StringPrefix::Expand
+        && literal.kind.delimiter == StringDelimiter::QuoteDouble
+}
+
+/// Whether the string is `x"""a"""` and prints as it is spelled.
+fn tells(alloc: Global, src: &str) -> Result<bool, Fail> {
+    let token = token(src, TokenKind::StringToken);
+    let literal = StringLiteral::cook(alloc, token, &Brackets)?;
+    Ok(is_expanded_block(&literal) && literal.to_string(alloc)?.as_str() == src)
 }
 
 #[test]
 fn tells_the_token(rt: HostRuntime) -> Result<(), Fail> {
-    let token = token(r#"x"""a""""#, TokenKind::StringToken);
-    let literal = StringLiteral::cook(rt.alloc(), token, &Brackets)?;
-    let printed = format!(in rt.alloc(); "{literal}")?;
-    assert_eq!(rt; printed.as_str(), token.lexeme());
-    assert_eq!(rt; literal.kind.mark(), "\"\"\"");
-    assert!(rt; literal.kind.prefix == StringPrefix::Expand);
-    assert!(rt; literal.kind.delimiter == StringDelimiter::QuoteDouble);
+    assert!(rt; tells(rt.alloc(), r#"x"""a""""#)?);
     Ok(())
 }
 
 #[test]
 fn cooks_parts(rt: HostRuntime) -> Result<(), Fail> {
-    for (start, part, want) in [
+    let rows = [
         ("f'a'", "f'a'", "a"),
         ("f''", "f''", ""),
         ("f'{{", "f'{{", ""),
@@ -152,11 +186,8 @@ fn cooks_parts(rt: HostRuntime) -> Result<(), Fail> {
             r#"f"\u{1{{"#,
             r"invalid escape sequence: `\u{1`",
         ),
-    ] {
-        let text = cooked_part(rt.alloc(), start, part)?;
-        assert_eq!(rt; text.as_str(), want, "of {part:?}");
-    }
-    Ok(())
+    ];
+    cook_parts(&rt, rt.alloc(), rows.as_slice())
 }
 
 #[test]
@@ -167,8 +198,7 @@ fn takes_commands(rt: HostRuntime) -> Result<(), Fail> {
         ("```\n  a\n    `b`\n  ```", "a\n  `b`\n"),
         ("``````", ""),
     ] {
-        let command = command_text(rt.alloc(), lexeme)?;
-        assert_eq!(rt; command.as_str(), want, "of {lexeme:?}");
+        assert!(rt; is_command(rt.alloc(), lexeme, want)?, "of {lexeme:?}");
     }
     assert!(rt; is_shebang("#!sh"));
     assert!(rt; !is_shebang("# !sh"));

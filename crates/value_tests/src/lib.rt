@@ -1,12 +1,16 @@
-//! Tests of values, lists, paths, words and constants.
+//! Tests of values, lists, paths, words and constants, and of hosts over records.
 #![tactic(auto)]
 
 #[cfg(test)]
 mod constants;
 #[cfg(test)]
+mod faults;
+#[cfg(test)]
 mod lists;
 #[cfg(test)]
 mod paths;
+#[cfg(test)]
+mod records;
 #[cfg(test)]
 mod tokens;
 #[cfg(test)]

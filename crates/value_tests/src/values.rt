@@ -3,7 +3,7 @@
 use crate::tokens::{texts, token};
 use just_expression_tree::ListOperator;
 use just_text::TokenKind;
-use just_value::Value;
+use just_value::{Value, ValueFault};
 use std::alloc::{AllocError, Global};
 use std::test::Fail;
 
@@ -11,7 +11,15 @@ fn value(alloc: Global, listed: &str) -> Result<Value, AllocError> {
     Ok(Value::from(texts(alloc, listed)?))
 }
 
-/// What the operator gives of the two lists, as it is printed; a refusal by its text.
+/// The value as it is printed, or the text of the refusal.
+fn told(alloc: Global, outcome: Result<Value, ValueFault<'_>>) -> Result<String, AllocError> {
+    match outcome {
+        Ok(value) => value.to_string(alloc),
+        Err(fault) => fault.to_string(alloc),
+    }
+}
+
+/// What the operator gives of the two lists.
 fn applied(
     alloc: Global,
     left: &str,
@@ -20,10 +28,40 @@ fn applied(
 ) -> Result<String, AllocError> {
     let left = value(alloc, left)?;
     let right = value(alloc, right)?;
-    match left.apply(alloc, &right, operator, token("+", TokenKind::Plus)) {
-        Ok(value) => format!(in alloc; "{value}"),
-        Err(fault) => format!(in alloc; "{fault}"),
-    }
+    let place = token("+", TokenKind::Plus);
+    told(alloc, left.apply(alloc, &right, operator, place))
+}
+
+fn joins(alloc: Global, listed: &str, want: &str) -> Result<bool, AllocError> {
+    Ok(value(alloc, listed)?.join(alloc)?.as_str() == want)
+}
+
+fn prints(alloc: Global, listed: &str, want: &str) -> Result<bool, AllocError> {
+    Ok(value(alloc, listed)?.to_string(alloc)?.as_str() == want)
+}
+
+fn gives(
+    alloc: Global,
+    left: &str,
+    operator: ListOperator,
+    right: &str,
+    want: &str,
+) -> Result<bool, AllocError> {
+    Ok(applied(alloc, left, operator, right)?.as_str() == want)
+}
+
+fn is_nothing_truthy(alloc: Global) -> bool {
+    Value::new(alloc).is_truthy()
+}
+
+fn is_text_truthy(alloc: Global, text: &str) -> Result<bool, AllocError> {
+    Ok(Value::from_text(alloc, text)?.is_truthy())
+}
+
+/// Whether the truth gives these elements.
+fn is_truth(alloc: Global, truth: bool, listed: &str) -> Result<bool, AllocError> {
+    let truth = Value::from_bool(alloc, truth)?;
+    Ok(truth == value(alloc, listed)? && truth.is_empty() == listed.is_empty())
 }
 
 #[test]
@@ -34,8 +72,7 @@ fn elements_are_joined(rt: HostRuntime) -> Result<(), Fail> {
         ("foo bar;baz;", "foo bar baz"),
         (";;", " "),
     ] {
-        let joined = value(rt.alloc(), listed)?.join(rt.alloc())?;
-        assert_eq!(rt; joined.as_str(), want);
+        assert!(rt; joins(rt.alloc(), listed, want)?, "{listed:?}");
     }
     Ok(())
 }
@@ -43,10 +80,10 @@ fn elements_are_joined(rt: HostRuntime) -> Result<(), Fail> {
 #[test]
 fn a_value_with_an_element_is_truthy(rt: HostRuntime) -> Result<(), Fail> {
     let alloc = rt.alloc();
-    assert!(rt; !Value::new(alloc).is_truthy());
-    assert!(rt; Value::from_text(alloc, "")?.is_truthy());
-    assert!(rt; Value::from_bool(alloc, true)? == value(alloc, "true;")?);
-    assert!(rt; Value::from_bool(alloc, false)?.is_empty());
+    assert!(rt; !is_nothing_truthy(alloc));
+    assert!(rt; is_text_truthy(alloc, "")?);
+    assert!(rt; is_truth(alloc, true, "true;")?);
+    assert!(rt; is_truth(alloc, false, "")?);
     Ok(())
 }
 
@@ -58,53 +95,70 @@ fn values_are_printed(rt: HostRuntime) -> Result<(), Fail> {
         ("foo;bar;", "[\"foo\", \"bar\"]"),
         ("\\;\n;\t\r\"é;", "[\"\\\\\", \"\\n\", \"\\t\\r\\\"é\"]"),
     ] {
-        let printed = value(rt.alloc(), listed)?.to_string(rt.alloc())?;
-        assert_eq!(rt; printed.as_str(), want);
+        assert!(rt; prints(rt.alloc(), listed, want)?, "{listed:?}");
     }
     Ok(())
 }
 
 #[test]
 fn operators_go_pairwise(rt: HostRuntime) -> Result<(), Fail> {
-    for (left, right, want) in [
-        ("a;b;", "c;d;", "[\"ac\", \"bd\"]"),
-        ("a;", "b;c;", "[\"ab\", \"ac\"]"),
-        ("a;", "", "operator `+` cannot be applied to empty lists"),
-        ("", "a;", "operator `+` cannot be applied to empty lists"),
-    ] {
-        let told = applied(rt.alloc(), left, ListOperator::Concatenate, right)?;
-        assert_eq!(rt; told.as_str(), want);
-    }
-    for (left, right, want) in [
-        ("a;b;", "c;d;", "[\"a/c\", \"b/d\"]"),
-        ("a;b;", "c;", "[\"a/c\", \"b/c\"]"),
-        ("", "", "[]"),
+    let plus = ListOperator::Concatenate;
+    let slash = ListOperator::Join;
+    for (left, operator, right, want) in [
+        ("a;b;", plus, "c;d;", "[\"ac\", \"bd\"]"),
+        ("a;", plus, "b;c;", "[\"ab\", \"ac\"]"),
+        (
+            "a;",
+            plus,
+            "",
+            "operator `+` cannot be applied to empty lists",
+        ),
+        (
+            "",
+            plus,
+            "a;",
+            "operator `+` cannot be applied to empty lists",
+        ),
+        ("a;b;", slash, "c;d;", "[\"a/c\", \"b/d\"]"),
+        ("a;b;", slash, "c;", "[\"a/c\", \"b/c\"]"),
+        ("", slash, "", "[]"),
         (
             "a;b;",
+            slash,
             "c;d;e;",
             "operator `/` cannot be applied to lists of different lengths: [\"a\", \"b\"] / [\"c\", \"d\", \"e\"]",
         ),
     ] {
-        let told = applied(rt.alloc(), left, ListOperator::Join, right)?;
-        assert_eq!(rt; told.as_str(), want);
+        assert!(rt;
+            gives(rt.alloc(), left, operator, right, want)?,
+            "{left:?} {right:?}"
+        );
     }
     Ok(())
 }
 
-#[test]
-fn elements_are_kept_in_order(rt: HostRuntime) -> Result<(), Fail> {
-    let alloc = rt.alloc();
+fn letters(alloc: Global) -> Result<Value, AllocError> {
     let mut letters = value(alloc, "a;")?;
     letters.push(String::from_str(alloc, "b")?)?;
-    let copy = letters.clone()?;
-    assert!(rt; copy == letters);
-    assert_eq!(rt; letters.len(), 2);
-    assert!(rt; value(alloc, "a;")? < letters);
+    Ok(letters)
+}
+
+fn copies(alloc: Global, letters: &Value) -> Result<Vec<String>, AllocError> {
     let mut copies = Vec::new(alloc);
-    for text in &letters {
+    for text in letters {
         copies.push(text.clone()?)?;
     }
-    assert!(rt; Value::from_iter(alloc, copies.into_iter())? == letters);
+    Ok(copies)
+}
+
+/// Whether copies of the elements make the same value.
+fn is_collected(alloc: Global, letters: &Value) -> Result<bool, AllocError> {
+    let copies = copies(alloc, letters)?;
+    Ok(Value::from_iter(alloc, copies.into_iter())? == *letters)
+}
+
+/// How many elements the value lends and then gives.
+fn counted(letters: Value) -> u64 {
     let mut count = 0u64;
     for _text in letters.iter() {
         count = count.wrapping_add(1);
@@ -112,7 +166,33 @@ fn elements_are_kept_in_order(rt: HostRuntime) -> Result<(), Fail> {
     for _text in letters {
         count = count.wrapping_add(1);
     }
-    assert_eq!(rt; count, 4);
-    assert_eq!(rt; copy.into_elements().len(), 2);
+    count
+}
+
+/// Whether a copy is equal and has two elements.
+fn is_copied(letters: &Value) -> Result<bool, AllocError> {
+    let copy = letters.clone()?;
+    Ok(copy == *letters && copy.into_elements().len() == 2)
+}
+
+/// Whether the first of the letters comes before both.
+fn comes_before(alloc: Global, letters: &Value) -> Result<bool, AllocError> {
+    Ok(value(alloc, "a;")? < *letters)
+}
+
+fn are_kept(alloc: Global, letters: &Value) -> Result<bool, AllocError> {
+    Ok(
+        letters.len() == 2
+            && is_copied(letters)?
+            && comes_before(alloc, letters)?
+            && is_collected(alloc, letters)?,
+    )
+}
+
+#[test]
+fn elements_are_kept_in_order(rt: HostRuntime) -> Result<(), Fail> {
+    let letters = letters(rt.alloc())?;
+    assert!(rt; are_kept(rt.alloc(), &letters)?);
+    assert_eq!(rt; counted(letters), 4);
     Ok(())
 }

@@ -1,6 +1,7 @@
 //! Excerpts as they are printed.
-use super::*;
-use just_text::TokenKind;
+
+use just_excerpt::Excerpt;
+use just_text::{Token, TokenKind};
 use std::alloc::Global;
 use std::test::Fail;
 
@@ -177,16 +178,19 @@ fn marks_the_end_of_an_empty_text(rt: HostRuntime) -> Result<(), Fail> {
     Ok(())
 }
 
+/// Whether the first line of what is printed of the token is that.
+fn begins_with(alloc: Global, token: &Token, expected: &str) -> Result<bool, Fail> {
+    let printed = format!(in alloc; "{}", Excerpt(token))?;
+    Ok(match printed.as_str().split_once('\n') {
+        Some((first, _)) => first == expected,
+        None => false,
+    })
+}
+
 #[test]
 fn numbers_do_not_end_at_the_largest(rt: HostRuntime) -> Result<(), Fail> {
     let token = part("x", 0, 1, usize::MAX, usize::MAX).ok_or("cut inside a character")?;
-    let printed = format!(in rt.alloc(); "{}", Excerpt(&token))?;
-    let (place, _) = printed.as_str().split_once('\n').ok_or("one line alone")?;
-    let number = "18446744073709551616";
-    let expected = format!(in rt.alloc();
-        "{:20}--> justfile:{}:{}",
-        "", number, "18446744073709551616"
-    )?;
-    assert_eq!(rt; place, expected.as_str());
+    let expected = "                    --> justfile:18446744073709551616:18446744073709551616";
+    assert!(rt; begins_with(rt.alloc(), &token, expected)?);
     Ok(())
 }
