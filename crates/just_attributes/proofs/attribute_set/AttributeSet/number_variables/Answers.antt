@@ -8,9 +8,9 @@ use Rattle.just_attributes.proofs.attribute_set.AttributeSet.number_variables.Go
 pub invariant_of-self : goal.invariant_of-self
 invariant_of-self g c = record {
   in_order =
-    stays_in_order c.loop-index.self.items.items _
-    (map-set_same written_item c.loop-index.self.items.items c.loop-index.index c.number_variables.new.self c.index_mut.result.now (c.number_variables.ensures ∙ ap written_item c.index_mut.ensures.value))
-    c.loop-index.self.in_order;
+      stays_in_order c.loop-index.self.items.items _
+      (map-set_same written_item c.loop-index.self.items.items c.loop-index.index c.number_variables.new.self c.index_mut.result.now (c.number_variables.ensures ∙ ap written_item c.index_mut.ensures.value))
+      c.loop-index.self.in_order;
 }
 
 pub loop-index-preserved : goal.loop-index-preserved
