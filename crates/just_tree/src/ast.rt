@@ -64,14 +64,15 @@ impl<'src> Item<'src> {
     fn print_attributes<W: fmt::Write>(&self, f: &mut fmt::Formatter<W>) -> fmt::Result
         ensures { WritesOnOk W.write_str_gives f.old result (attributes_text (spec.attributes_of (spec.item_shape self.now))) f.new }
     {
-        match self {
-            Item::Alias(alias) => print_attributes(f, &alias.attributes),
-            Item::Assignment(assignment) => print_attributes(f, &assignment.attributes),
-            Item::Module(module) => print_attributes(f, &module.attributes),
-            Item::Recipe(recipe) => print_attributes(f, &recipe.attributes),
-            Item::Set(set) => print_attributes(f, &set.attributes),
-            _ => Ok(()),
-        }
+        let attributes = match self {
+            Item::Alias(alias) => &alias.attributes,
+            Item::Assignment(assignment) => &assignment.attributes,
+            Item::Module(module) => &module.attributes,
+            Item::Recipe(recipe) => &recipe.attributes,
+            Item::Set(set) => &set.attributes,
+            _ => return Ok(()),
+        };
+        print_attributes(f, attributes)
     }
 
     /// Writes the item behind its attributes, bodies with this indentation, and no newline at its
