@@ -5,7 +5,7 @@ use std::test::Fail;
 
 #[test]
 fn reads_names(rt: HostRuntime) -> Result<(), Fail> {
-    let rows = [
+    const ROWS: &[(&str, &str)] = &[
         ("[private,]\na:", "[private]\na:\n"),
         (
             "[linux, macos]\n[no-cd]\na:",
@@ -23,12 +23,12 @@ fn reads_names(rt: HostRuntime) -> Result<(), Fail> {
         ("[linux]\nset quiet\n", "[linux]\nset quiet := true\n"),
         ("[doc('d')]\nmod m\n", "[doc('d')]\nmod m\n"),
     ];
-    tell(&rt, rt.alloc(), rows.as_slice())
+    tell(&rt, rt.alloc(), ROWS)
 }
 
 #[test]
 fn puts_attributes_in_order(rt: HostRuntime) -> Result<(), Fail> {
-    let rows = [
+    const ROWS: &[(&str, &str)] = &[
         (
             "[private,linux]\nb:\n  echo b\n",
             "[linux]\n[private]\nb:\n    echo b\n",
@@ -46,12 +46,12 @@ fn puts_attributes_in_order(rt: HostRuntime) -> Result<(), Fail> {
             "[arg('b', short='d')]\n[arg('c', long)]\na b c:\n",
         ),
     ];
-    tell(&rt, rt.alloc(), rows.as_slice())
+    tell(&rt, rt.alloc(), ROWS)
 }
 
 #[test]
 fn reads_arguments(rt: HostRuntime) -> Result<(), Fail> {
-    let rows = [
+    const ROWS: &[(&str, &str)] = &[
         ("[doc: 'b']\na:", "[doc('b')]\na:\n"),
         ("[doc('b',)]\na:", "[doc('b')]\na:\n"),
         ("[confirm('b' + c)]\na:", "[confirm('b' + c)]\na:\n"),
@@ -68,12 +68,12 @@ fn reads_arguments(rt: HostRuntime) -> Result<(), Fail> {
             "[arg('b', long, value='x')]\na c='d' b:\n",
         ),
     ];
-    tell(&rt, rt.alloc(), rows.as_slice())
+    tell(&rt, rt.alloc(), ROWS)
 }
 
 #[test]
 fn refuses_lines(rt: HostRuntime) -> Result<(), Fail> {
-    let rows = [
+    const ROWS: &[(&str, &str)] = &[
         ("[nope]\na:\n", "unknown attribute: `nope`"),
         ("[group]\na:\n", "attribute argument count: `group`, `0`"),
         (
@@ -92,12 +92,12 @@ fn refuses_lines(rt: HostRuntime) -> Result<(), Fail> {
         ("[private]\n\na:\n", "unexpected token: `end of line`"),
         ("[private]\n", "unexpected token: `end of file`"),
     ];
-    tell(&rt, rt.alloc(), rows.as_slice())
+    tell(&rt, rt.alloc(), ROWS)
 }
 
 #[test]
 fn refuses_what_does_not_fit_its_item(rt: HostRuntime) -> Result<(), Fail> {
-    let rows = [
+    const ROWS: &[(&str, &str)] = &[
         ("[linux, linux]\na:\n", "duplicate attribute: `linux`"),
         ("[cache]\na := 'b'\n", "invalid attribute: `cache`, `a`"),
         ("[private]\nimport 'a'\n", "unexpected token: `identifier`"),
@@ -115,5 +115,5 @@ fn refuses_what_does_not_fit_its_item(rt: HostRuntime) -> Result<(), Fail> {
         ),
         ("[arg('b', wide)]\na b:", "invalid attribute: `arg`, `a`"),
     ];
-    tell(&rt, rt.alloc(), rows.as_slice())
+    tell(&rt, rt.alloc(), ROWS)
 }

@@ -7,7 +7,7 @@ use std::test::Fail;
 
 #[test]
 fn reads_operators_and_calls(rt: HostRuntime) -> Result<(), Fail> {
-    let rows = [
+    const ROWS: &[(&str, &str)] = &[
         ("x := 'a' + \"b\" / c", "x := 'a' + \"b\" / c\n"),
         ("x := / a / b", "x := / a / b\n"),
         ("x := ! a == b", "x := !a == b\n"),
@@ -18,12 +18,12 @@ fn reads_operators_and_calls(rt: HostRuntime) -> Result<(), Fail> {
         ("x := assert(a, 'm')", "x := assert(a, 'm')\n"),
         ("x := assert(a, 'm',)", "x := assert(a, 'm')\n"),
     ];
-    tell(&rt, rt.alloc(), rows.as_slice())
+    tell(&rt, rt.alloc(), ROWS)
 }
 
 #[test]
 fn reads_brackets_and_strings(rt: HostRuntime) -> Result<(), Fail> {
-    let rows = [
+    const ROWS: &[(&str, &str)] = &[
         ("x := []", "x := []\n"),
         ("x := [a, 'b',]", "x := [a, 'b']\n"),
         ("x := ( a )", "x := (a)\n"),
@@ -43,12 +43,12 @@ fn reads_brackets_and_strings(rt: HostRuntime) -> Result<(), Fail> {
         ),
         ("x := `ls`", "x := `ls`\n"),
     ];
-    tell(&rt, rt.alloc(), rows.as_slice())
+    tell(&rt, rt.alloc(), ROWS)
 }
 
 #[test]
 fn refuses(rt: HostRuntime) -> Result<(), Fail> {
-    let rows = [
+    const ROWS: &[(&str, &str)] = &[
         ("x := a +", "unexpected token: `end of file`"),
         ("x := if\n", "unexpected token: `end of line`"),
         ("x := f(a b)", "unexpected token: `identifier`"),
@@ -59,7 +59,7 @@ fn refuses(rt: HostRuntime) -> Result<(), Fail> {
         ("x := a == b == c", "unexpected token: `'=='`"),
         ("x := `#!x`", "backtick shebang"),
     ];
-    tell(&rt, rt.alloc(), rows.as_slice())
+    tell(&rt, rt.alloc(), ROWS)
 }
 
 /// An assignment of a variable behind so many exclamation marks.
@@ -87,26 +87,50 @@ fn grouped(alloc: Global, times: usize) -> Result<String, AllocError> {
     Ok(src)
 }
 
+/// Whether a text is read, rather than refused for its depth; none where it is neither.
+fn is_read(told: &str, is_whole: bool) -> Option<bool> {
+    let is_refused = told.starts_with("parsing recursion depth exceeded");
+    if is_whole == is_refused {
+        None
+    } else {
+        Some(is_whole)
+    }
+}
+
+fn reads_grouped(alloc: Global, times: usize) -> Result<Option<bool>, AllocError> {
+    let src = grouped(alloc, times)?;
+    let mut numerator = Numerator::new(29);
+    let told = told(alloc, &mut numerator, src.as_str())?;
+    Ok(is_read(told.as_str(), told.starts_with("x := ((")))
+}
+
+fn reads_negated(alloc: Global, times: usize) -> Result<Option<bool>, AllocError> {
+    let src = negated(alloc, times)?;
+    let mut numerator = Numerator::new(29);
+    let told = told(alloc, &mut numerator, src.as_str())?;
+    Ok(is_read(told.as_str(), told.ends_with("!!a\n")))
+}
+
 #[test]
 fn reads_groups_inside_one_another(rt: HostRuntime) -> Result<(), Fail> {
-    for (times, want) in [(200usize, true), (255, true), (256, false), (300, false)] {
-        let src = grouped(rt.alloc(), times)?;
-        let mut numerator = Numerator::new(29);
-        let told = told(rt.alloc(), &mut numerator, src.as_str())?;
-        assert!(rt; told.starts_with("x := ((") == want);
-        assert!(rt; told.starts_with("parsing recursion depth exceeded") != want);
+    const ROWS: &[(usize, bool)] = &[(200, true), (255, true), (256, false), (300, false)];
+    for (times, want) in ROWS {
+        assert!(rt;
+            reads_grouped(rt.alloc(), *times)? == Some(*want),
+            "{times}"
+        );
     }
     Ok(())
 }
 
 #[test]
 fn reads_256_levels(rt: HostRuntime) -> Result<(), Fail> {
-    for (times, want) in [(255usize, true), (256, false)] {
-        let src = negated(rt.alloc(), times)?;
-        let mut numerator = Numerator::new(29);
-        let told = told(rt.alloc(), &mut numerator, src.as_str())?;
-        assert!(rt; told.ends_with("!!a\n") == want);
-        assert!(rt; told.starts_with("parsing recursion depth exceeded") != want);
+    const ROWS: &[(usize, bool)] = &[(255, true), (256, false)];
+    for (times, want) in ROWS {
+        assert!(rt;
+            reads_negated(rt.alloc(), *times)? == Some(*want),
+            "{times}"
+        );
     }
     Ok(())
 }

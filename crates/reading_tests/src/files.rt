@@ -6,7 +6,7 @@ use std::test::Fail;
 
 #[test]
 fn reads_files(rt: HostRuntime) -> Result<(), Fail> {
-    let rows = [
+    const ROWS: &[(&str, &str)] = &[
         ("", ""),
         ("\u{feff}a:\n", "a:\n"),
         ("\n\n\n# one  \na := 'b'", "\n\n# one\na := 'b'\n"),
@@ -16,7 +16,7 @@ fn reads_files(rt: HostRuntime) -> Result<(), Fail> {
             "import 'b'\nmod? m\nunexport x\n",
         ),
     ];
-    tell(&rt, rt.alloc(), rows.as_slice())
+    tell(&rt, rt.alloc(), ROWS)
 }
 
 #[test]

@@ -5,7 +5,7 @@ use std::test::Fail;
 
 #[test]
 fn reads_recipes_named_by_words_of_items(rt: HostRuntime) -> Result<(), Fail> {
-    let rows = [
+    const ROWS: &[(&str, &str)] = &[
         ("alias:\n  echo x\n", "alias:\n    echo x\n"),
         ("import x:", "import x:\n"),
         ("set x:", "set x:\n"),
@@ -13,12 +13,12 @@ fn reads_recipes_named_by_words_of_items(rt: HostRuntime) -> Result<(), Fail> {
         ("export x:", "export x:\n"),
         ("unexport x y:", "unexport x y:\n"),
     ];
-    tell(&rt, rt.alloc(), rows.as_slice())
+    tell(&rt, rt.alloc(), ROWS)
 }
 
 #[test]
 fn reads_assignments(rt: HostRuntime) -> Result<(), Fail> {
-    let rows = [
+    const ROWS: &[(&str, &str)] = &[
         ("alias := 'a'", "alias := 'a'\n"),
         ("export := 'a'", "export := 'a'\n"),
         ("export export := 'a'\n", "export export := 'a'\n"),
@@ -26,12 +26,12 @@ fn reads_assignments(rt: HostRuntime) -> Result<(), Fail> {
         ("export eager x := y", "export eager x := y\n"),
         ("eager export x := y", "export eager x := y\n"),
     ];
-    tell(&rt, rt.alloc(), rows.as_slice())
+    tell(&rt, rt.alloc(), ROWS)
 }
 
 #[test]
 fn reads_other_items(rt: HostRuntime) -> Result<(), Fail> {
-    let rows = [
+    const ROWS: &[(&str, &str)] = &[
         ("alias a := b::c", "alias a := b::c\n"),
         (
             "set lists\nf(a, b,) := a\n",
@@ -52,12 +52,12 @@ fn reads_other_items(rt: HostRuntime) -> Result<(), Fail> {
             "set minimum-version := '1.9.0'\n",
         ),
     ];
-    tell(&rt, rt.alloc(), rows.as_slice())
+    tell(&rt, rt.alloc(), ROWS)
 }
 
 #[test]
 fn refuses(rt: HostRuntime) -> Result<(), Fail> {
-    let rows = [
+    const ROWS: &[(&str, &str)] = &[
         ("export export x := 'a'\n", "unexpected token: `':='`"),
         ("alias 'p'", "unexpected token: `string`"),
         ("a b := c", "unexpected token: `':='`"),
@@ -71,5 +71,5 @@ fn refuses(rt: HostRuntime) -> Result<(), Fail> {
         ),
         ("set shells := []\n", "unknown setting: `shells`"),
     ];
-    tell(&rt, rt.alloc(), rows.as_slice())
+    tell(&rt, rt.alloc(), ROWS)
 }

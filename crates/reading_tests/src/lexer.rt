@@ -116,7 +116,7 @@ fn tell(
 
 #[test]
 fn reads_tokens(rt: HostRuntime) -> Result<(), Fail> {
-    let rows = [
+    const ROWS: &[(&str, &str)] = &[
         ("", "."),
         ("a: b c\n  echo a\nb:\n", "i:wiwin>tn<i:n."),
         ("a:\r\n  b\r\n", "i:n>tn<."),
@@ -138,12 +138,12 @@ fn reads_tokens(rt: HostRuntime) -> Result<(), Fail> {
         ("a:\n  \r\n\n", "i:nwnn."),
         ("# \r {{ \0", "#."),
     ];
-    tell(&rt, rt.alloc(), Subject::Kinds, rows.as_slice())
+    tell(&rt, rt.alloc(), Subject::Kinds, ROWS)
 }
 
 #[test]
 fn reads_strings_and_brackets(rt: HostRuntime) -> Result<(), Fail> {
-    let rows = [
+    const ROWS: &[(&str, &str)] = &[
         // Strings, commands and what is in them.
         ("a := \"\\u{110000}\\q\"\n", "iw:=wsn."),
         ("a := 'b' + \"\\\"\"\n", "iw:=wsw+wsn."),
@@ -161,12 +161,12 @@ fn reads_strings_and_brackets(rt: HostRuntime) -> Result<(), Fail> {
         ("a (b:)\n  c\n", "iw(i:)n>in."),
         ("(# :\n  )\n", "(#ww)n."),
     ];
-    tell(&rt, rt.alloc(), Subject::Kinds, rows.as_slice())
+    tell(&rt, rt.alloc(), Subject::Kinds, ROWS)
 }
 
 #[test]
 fn reads_expressions(rt: HostRuntime) -> Result<(), Fail> {
-    let rows = [
+    const ROWS: &[(&str, &str)] = &[
         // Expressions in bodies.
         ("a:\n  b {{c}} d }}\n", "i:n>t{{i}}tn<."),
         ("a:\n  {{{{{b{{{c}}}}\n", "i:n>t{{{i}}}tn<."),
@@ -188,12 +188,12 @@ fn reads_expressions(rt: HostRuntime) -> Result<(), Fail> {
         ("\u{feff}# a\n  b\n", "^#n>in."),
         ("\u{feff}  a", "^>i."),
     ];
-    tell(&rt, rt.alloc(), Subject::Kinds, rows.as_slice())
+    tell(&rt, rt.alloc(), Subject::Kinds, ROWS)
 }
 
 #[test]
 fn refuses_characters(rt: HostRuntime) -> Result<(), Fail> {
-    let rows = [
+    const ROWS: &[(&str, &str)] = &[
         ("a\0", "unknown start of token: `\0` at 0:1:1"),
         ("a:\n\né", "unknown start of token: `é` at 2:0:4"),
         ("a\u{feff}", "unknown start of token: `\u{feff}` at 0:1:1"),
@@ -205,12 +205,12 @@ fn refuses_characters(rt: HostRuntime) -> Result<(), Fail> {
         ("a & b", "unexpected character: `&` at 0:2:2"),
         ("a|", "unexpected character: `|` at 0:1:1"),
     ];
-    tell(&rt, rt.alloc(), Subject::Refusal, rows.as_slice())
+    tell(&rt, rt.alloc(), Subject::Refusal, ROWS)
 }
 
 #[test]
 fn refuses_what_has_no_end(rt: HostRuntime) -> Result<(), Fail> {
-    let rows = [
+    const ROWS: &[(&str, &str)] = &[
         ("x := 'a", "unterminated string at 0:5:5"),
         ("x := '''a'", "unterminated string at 0:5:5"),
         ("x := '''''", "unterminated string at 0:5:5"),
@@ -231,12 +231,12 @@ fn refuses_what_has_no_end(rt: HostRuntime) -> Result<(), Fail> {
         ("a:\n  b {{{c}\n", "unterminated interpolation at 1:9:12"),
         ("a:\n  {{# }}\n", "unterminated interpolation at 1:8:11"),
     ];
-    tell(&rt, rt.alloc(), Subject::Refusal, rows.as_slice())
+    tell(&rt, rt.alloc(), Subject::Refusal, ROWS)
 }
 
 #[test]
 fn refuses_escapes_and_brackets(rt: HostRuntime) -> Result<(), Fail> {
-    let rows = [
+    const ROWS: &[(&str, &str)] = &[
         ("a\\b", "invalid escape sequence: `\\b` at 0:1:1"),
         ("\\é", "invalid escape sequence: `\\é` at 0:0:0"),
         ("\\\r", "invalid escape sequence: `\\\r` at 0:0:0"),
@@ -255,12 +255,12 @@ fn refuses_escapes_and_brackets(rt: HostRuntime) -> Result<(), Fail> {
         ("(f'{{ ) }}'", "unexpected closing delimiter: `)` at 0:6:6"),
         ("a:\n  {{}", "unexpected closing delimiter: `}` at 1:4:7"),
     ];
-    tell(&rt, rt.alloc(), Subject::Refusal, rows.as_slice())
+    tell(&rt, rt.alloc(), Subject::Refusal, ROWS)
 }
 
 #[test]
 fn refuses_returns_and_indentation(rt: HostRuntime) -> Result<(), Fail> {
-    let rows = [
+    const ROWS: &[(&str, &str)] = &[
         ("a\rb", "unpaired carriage return at 0:1:1"),
         ("a:\n  b\n\rc", "unpaired carriage return at 2:0:7"),
         ("a:\n \tb\n", "mixed leading whitespace at 1:0:3"),
@@ -269,12 +269,12 @@ fn refuses_returns_and_indentation(rt: HostRuntime) -> Result<(), Fail> {
         ("a:\n  b\n c\n", "inconsistent leading whitespace at 2:0:7"),
         ("a:\n  b\n   \tc\n", ""),
     ];
-    tell(&rt, rt.alloc(), Subject::Refusal, rows.as_slice())
+    tell(&rt, rt.alloc(), Subject::Refusal, ROWS)
 }
 
 #[test]
 fn takes_the_longest_mark(rt: HostRuntime) -> Result<(), Fail> {
-    let rows = [
+    const ROWS: &[(&str, &str)] = &[
         (":::=::=", "::|:=|::|=||"),
         ("===~=!=!~!", "==|=~|=|!=|!~|!||"),
         ("&&||+++*/@$?,", "&&||||++|+|*|/|@|$|?|,||"),
@@ -284,17 +284,17 @@ fn takes_the_longest_mark(rt: HostRuntime) -> Result<(), Fail> {
         ("a:\n  {{{{{b{{{c}}}}", "a|:|\n|  |{{{{{b|{{|{|c|}|}}|}|||"),
         ("a \\\n  b(\r\n )", "a| |\\\n|  |b|(|\r\n| |)||"),
     ];
-    tell(&rt, rt.alloc(), Subject::Lexemes, rows.as_slice())
+    tell(&rt, rt.alloc(), Subject::Lexemes, ROWS)
 }
 
 #[test]
 fn places_tokens(rt: HostRuntime) -> Result<(), Fail> {
-    let rows = [
+    const ROWS: &[(&str, &str)] = &[
         ("\u{feff}a 'é\n' é", "unknown start of token: `é` at 1:2:11"),
         (
             "\u{feff}# é\r\nb :\n\tc",
             "0:0:0 \"\\u{feff}\";0:0:3 \"# é\";0:4:7 \"\\r\\n\";1:0:9 \"b\";1:1:10 \" \";1:2:11 \":\";1:3:12 \"\\n\";2:0:13 \"\\t\";2:1:14 \"c\";2:2:15 \"\";2:2:15 \"\";",
         ),
     ];
-    tell(&rt, rt.alloc(), Subject::Places, rows.as_slice())
+    tell(&rt, rt.alloc(), Subject::Places, ROWS)
 }

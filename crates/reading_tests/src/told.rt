@@ -32,12 +32,15 @@ pub(crate) fn told(
     }
 }
 
-/// Whether that is told of each file.
+fn tells(alloc: Global, src: &str, want: &str) -> Result<bool, AllocError> {
+    let mut numerator = Numerator::new(29);
+    Ok(told(alloc, &mut numerator, src)?.as_str() == want)
+}
+
+/// Holds each file to what is told of it.
 pub(crate) fn tell(rt: &impl Abort, alloc: Global, rows: &[(&str, &str)]) -> Result<(), Fail> {
     for (src, want) in rows {
-        let mut numerator = Numerator::new(29);
-        let found = told(alloc, &mut numerator, src)?;
-        assert_eq!(rt; found.as_str(), *want, "in {src:?}");
+        assert!(rt; tells(alloc, src, want)?, "in {src:?}");
     }
     Ok(())
 }

@@ -304,15 +304,21 @@ const THREE: &str = "a: b c\n  echo a\nb: c\n  echo b\nc:\n  echo c\n";
 
 const ALL: &str = "echo c; echo b; echo a; ran";
 
+const CIRCLE: &str = "a: b\n  echo a\nb: a\n  echo b\n";
+
+const NOT_YET: &str = "not yet: `justfile` (1)";
+
+const FORMS: &str = "\u{feff}# one\n\na: (b)\n  echo a\n\nb:\n  echo b # c";
+
 #[test]
 fn dependencies_run_first_and_once(rt: HostRuntime) -> Result<(), Fail> {
-    let rows = [
+    const ROWS: &[(&str, &str, &str)] = &[
         (THREE, "a", ALL),
         (THREE, "", ALL),
         (THREE, "c b a b", ALL),
         ("a: b b\n  1\nb:\n  2\n", "", "2; 1; ran"),
     ];
-    tell_all(&rt, rt.alloc(), rows.as_slice())
+    tell_all(&rt, rt.alloc(), ROWS)
 }
 
 #[test]
@@ -368,39 +374,38 @@ fn first_failure_ends_the_run(rt: HostRuntime) -> Result<(), Fail> {
 
 #[test]
 fn unknown_words_are_named(rt: HostRuntime) -> Result<(), Fail> {
-    let rows = [
+    const ROWS: &[(&str, &str, &str)] = &[
         ("", "", "no recipes (1)"),
         (THREE, "nope", "unknown recipe: `nope` (1)"),
         (THREE, "a::b", "unknown module: `a::b` (1)"),
         (THREE, "sub/a", "no root for word: `sub/` (1)"),
     ];
-    tell_all(&rt, rt.alloc(), rows.as_slice())
+    tell_all(&rt, rt.alloc(), ROWS)
 }
 
 #[test]
 fn overrides_stand_before_the_first_argument(rt: HostRuntime) -> Result<(), Fail> {
-    let rows = [
+    const ROWS: &[(&str, &str, &str)] = &[
         (THREE, "x=1 a", "unknown override: `x` (1)"),
         (THREE, "a x=1", "unknown recipe: `x=1` (1)"),
     ];
-    tell_all(&rt, rt.alloc(), rows.as_slice())
+    tell_all(&rt, rt.alloc(), ROWS)
 }
 
 #[test]
 fn circles_and_unknown_dependencies_are_named(rt: HostRuntime) -> Result<(), Fail> {
-    let circle = "a: b\n  echo a\nb: a\n  echo b\n";
-    let rows = [
-        (circle, "", "circular recipe: `a`, `b`, `a` (1)"),
+    const ROWS: &[(&str, &str, &str)] = &[
+        (CIRCLE, "", "circular recipe: `a`, `b`, `a` (1)"),
         ("a: a\n", "", "circular recipe: `a`, `a` (1)"),
         ("a: b\n", "a", "unknown dependency: `a`, `b` (1)"),
         ("a: b\n", "nope", "unknown dependency: `a`, `b` (1)"),
     ];
-    tell_all(&rt, rt.alloc(), rows.as_slice())
+    tell_all(&rt, rt.alloc(), ROWS)
 }
 
 #[test]
 fn faults_of_the_text_are_named(rt: HostRuntime) -> Result<(), Fail> {
-    let rows = [
+    const ROWS: &[(&str, &str, &str)] = &[
         ("a:\nb:\na:\n", "", "redefinition: `a` (1)"),
         ("a:\n  b\n    c\n", "", "extra leading whitespace (1)"),
         ("a b\n", "", "unexpected token: `end of line` (1)"),
@@ -410,12 +415,12 @@ fn faults_of_the_text_are_named(rt: HostRuntime) -> Result<(), Fail> {
             "unexpected token: `'=='` (1)",
         ),
     ];
-    tell_all(&rt, rt.alloc(), rows.as_slice())
+    tell_all(&rt, rt.alloc(), ROWS)
 }
 
 #[test]
 fn rules_of_settings_and_attributes_are_named(rt: HostRuntime) -> Result<(), Fail> {
-    let rows = [
+    const ROWS: &[(&str, &str, &str)] = &[
         ("set nope := 'a'\n", "", "unknown setting: `nope` (1)"),
         (
             "set minimum-version := '1.59.0'\n",
@@ -433,31 +438,29 @@ fn rules_of_settings_and_attributes_are_named(rt: HostRuntime) -> Result<(), Fai
             "invalid attribute: `parallel`, `x` (1)",
         ),
     ];
-    tell_all(&rt, rt.alloc(), rows.as_slice())
+    tell_all(&rt, rt.alloc(), ROWS)
 }
 
 #[test]
 fn other_justfiles_are_told_apart(rt: HostRuntime) -> Result<(), Fail> {
-    let told = "not yet: `justfile` (1)";
-    let rows = [
-        ("a b:\n", "", told),
-        ("@a:\n", "", told),
-        ("a:\n  @b\n", "", told),
-        ("a:\n  b {{{{c\n", "", told),
-        ("x := 'a'\na:\n", "", told),
-        ("[private]\na:\n", "", told),
-        ("a: (b 'c')\nb:\n", "", told),
-        ("a: m::b\n", "", told),
-        ("a: && b\nb:\n", "", told),
+    const ROWS: &[(&str, &str, &str)] = &[
+        ("a b:\n", "", NOT_YET),
+        ("@a:\n", "", NOT_YET),
+        ("a:\n  @b\n", "", NOT_YET),
+        ("a:\n  b {{{{c\n", "", NOT_YET),
+        ("x := 'a'\na:\n", "", NOT_YET),
+        ("[private]\na:\n", "", NOT_YET),
+        ("a: (b 'c')\nb:\n", "", NOT_YET),
+        ("a: m::b\n", "", NOT_YET),
+        ("a: && b\nb:\n", "", NOT_YET),
     ];
-    tell_all(&rt, rt.alloc(), rows.as_slice())
+    tell_all(&rt, rt.alloc(), ROWS)
 }
 
 #[test]
 fn plain_forms_run(rt: HostRuntime) -> Result<(), Fail> {
-    let source = "\u{feff}# one\n\na: (b)\n  echo a\n\nb:\n  echo b # c";
-    let rows = [(source, "", "echo b # c; echo a; ran")];
-    tell_all(&rt, rt.alloc(), rows.as_slice())
+    const ROWS: &[(&str, &str, &str)] = &[(FORMS, "", "echo b # c; echo a; ran")];
+    tell_all(&rt, rt.alloc(), ROWS)
 }
 
 #[test]

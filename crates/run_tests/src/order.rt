@@ -95,7 +95,7 @@ fn show_all(rt: &impl Abort, alloc: Global, rows: &[(&str, &str)]) -> Result<(),
 
 #[test]
 fn orders(rt: HostRuntime) -> Result<(), Fail> {
-    let rows = [
+    const ROWS: &[(&str, &str)] = &[
         ("", ""),
         ("a:", "a;"),
         ("a: b c\nb: c\nc:", "c;b 0;a 1 0;"),
@@ -103,35 +103,35 @@ fn orders(rt: HostRuntime) -> Result<(), Fail> {
         ("c:\na: c\nb: c a", "c;a 0;b 0 1;"),
         ("d: b c\nb: a\nc: a\na:", "a;b 0;c 0;d 1 2;"),
     ];
-    show_all(&rt, rt.alloc(), rows.as_slice())
+    show_all(&rt, rt.alloc(), ROWS)
 }
 
 #[test]
 fn refuses_circles(rt: HostRuntime) -> Result<(), Fail> {
-    let rows = [
+    const ROWS: &[(&str, &str)] = &[
         ("a: b\nb: a", "circular recipe a b a"),
         ("a: a", "circular recipe a a"),
         ("a: b\nb: c d\nc:\nd: b", "circular recipe b d b"),
     ];
-    show_all(&rt, rt.alloc(), rows.as_slice())
+    show_all(&rt, rt.alloc(), ROWS)
 }
 
 #[test]
 fn refuses_unknown_dependencies(rt: HostRuntime) -> Result<(), Fail> {
-    let rows = [
+    const ROWS: &[(&str, &str)] = &[
         ("a: b", "unknown dependency a b"),
         ("a: b\nb: c a", "unknown dependency b c"),
     ];
-    show_all(&rt, rt.alloc(), rows.as_slice())
+    show_all(&rt, rt.alloc(), ROWS)
 }
 
 #[test]
 fn refuses_redefinitions(rt: HostRuntime) -> Result<(), Fail> {
-    let rows = [
+    const ROWS: &[(&str, &str)] = &[
         ("a:\nb:\na: b", "redefinition a"),
         ("a: x\na: x", "redefinition a"),
     ];
-    show_all(&rt, rt.alloc(), rows.as_slice())
+    show_all(&rt, rt.alloc(), ROWS)
 }
 
 /// Whether each name has that place in the order.
@@ -169,14 +169,14 @@ fn has_places(
 
 #[test]
 fn knows_places(rt: HostRuntime) -> Result<(), Fail> {
-    let rows = [
+    const ROWS: &[(&str, Option<usize>)] = &[
         ("a", Some(2)),
         ("b", Some(1)),
         ("c", Some(0)),
         ("d", None),
         ("", None),
     ];
-    assert!(rt; has_places(rt.alloc(), "a: b c\nb: c\nc:", 3, rows.as_slice())?);
+    assert!(rt; has_places(rt.alloc(), "a: b c\nb: c\nc:", 3, ROWS)?);
     Ok(())
 }
 
@@ -193,7 +193,7 @@ fn chain(alloc: Global, times: u32) -> Result<String, AllocError> {
 #[test]
 fn follows_long_chains(rt: HostRuntime) -> Result<(), Fail> {
     let text = chain(rt.alloc(), 100_000)?;
-    let rows = [("r0", Some(100_000)), ("r100000", Some(0))];
-    assert!(rt; has_places(rt.alloc(), text.as_str(), 100_001, rows.as_slice())?);
+    const ROWS: &[(&str, Option<usize>)] = &[("r0", Some(100_000)), ("r100000", Some(0))];
+    assert!(rt; has_places(rt.alloc(), text.as_str(), 100_001, ROWS)?);
     Ok(())
 }

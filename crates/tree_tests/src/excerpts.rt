@@ -45,7 +45,7 @@ fn are_printed(alloc: Global, src: &str, cases: &[Case]) -> Result<bool, Fail> {
 
 #[test]
 fn marks_parts_of_lines(rt: HostRuntime) -> Result<(), Fail> {
-    let cases = [
+    const CASES: &[Case<'static>] = &[
         ((3, 1), (0, 3), " --> justfile:1:4\n  |\n1 | a: b\n  |    ^"),
         ((5, 3), (1, 0), " --> justfile:2:1\n  |\n2 | b c:\n  | ^^^"),
         ((10, 1), (2, 0), " --> justfile:3:1\n  |\n3 | d\n  | ^"),
@@ -56,13 +56,13 @@ fn marks_parts_of_lines(rt: HostRuntime) -> Result<(), Fail> {
             " --> justfile:1:5\n  |\n1 | a: b\n  |     ^",
         ),
     ];
-    assert!(rt; are_printed(rt.alloc(), "a: b\nb c:\nd", &cases)?);
+    assert!(rt; are_printed(rt.alloc(), "a: b\nb c:\nd", CASES)?);
     Ok(())
 }
 
 #[test]
 fn prints_tabs_as_spaces(rt: HostRuntime) -> Result<(), Fail> {
-    let cases = [
+    const CASES: &[Case<'static>] = &[
         (
             (3, 1),
             (0, 3),
@@ -80,13 +80,13 @@ fn prints_tabs_as_spaces(rt: HostRuntime) -> Result<(), Fail> {
         ),
         ((7, 0), (1, 0), " --> justfile:2:1\n  |\n2 | \n  | ^"),
     ];
-    assert!(rt; are_printed(rt.alloc(), "\tx\ty z\n", &cases)?);
+    assert!(rt; are_printed(rt.alloc(), "\tx\ty z\n", CASES)?);
     Ok(())
 }
 
 #[test]
 fn marks_wide_characters(rt: HostRuntime) -> Result<(), Fail> {
-    let cases = [
+    const CASES: &[Case<'static>] = &[
         (
             (5, 8),
             (0, 5),
@@ -98,13 +98,13 @@ fn marks_wide_characters(rt: HostRuntime) -> Result<(), Fail> {
             " --> justfile:1:15\n  |\n1 | a := '漢字' b\n  |             ^",
         ),
     ];
-    assert!(rt; are_printed(rt.alloc(), "a := '漢字' b", &cases)?);
+    assert!(rt; are_printed(rt.alloc(), "a := '漢字' b", CASES)?);
     Ok(())
 }
 
 #[test]
 fn marks_combined_characters(rt: HostRuntime) -> Result<(), Fail> {
-    let cases = [
+    const CASES: &[Case<'static>] = &[
         (
             (3, 1),
             (0, 3),
@@ -121,41 +121,41 @@ fn marks_combined_characters(rt: HostRuntime) -> Result<(), Fail> {
             " --> justfile:1:2\n  |\n1 | e\u{301}x\n  |  ^",
         ),
     ];
-    assert!(rt; are_printed(rt.alloc(), "e\u{301}x\n", &cases)?);
+    assert!(rt; are_printed(rt.alloc(), "e\u{301}x\n", CASES)?);
     Ok(())
 }
 
 #[test]
 fn marks_the_first_of_lines(rt: HostRuntime) -> Result<(), Fail> {
-    let cases = [(
+    const CASES: &[Case<'static>] = &[(
         (5, 6),
         (0, 5),
         " --> justfile:1:6\n  |\n1 | x := 'a\n  |      ^^",
     )];
-    assert!(rt; are_printed(rt.alloc(), "x := 'a\nbc'\n", &cases)?);
+    assert!(rt; are_printed(rt.alloc(), "x := 'a\nbc'\n", CASES)?);
     Ok(())
 }
 
 #[test]
 fn ends_lines_before_a_carriage_return(rt: HostRuntime) -> Result<(), Fail> {
-    let cases = [
+    const CASES: &[Case<'static>] = &[
         ((4, 6), (1, 0), " --> justfile:2:1\n  |\n2 | 'c\n  | ^^"),
         ((2, 2), (0, 2), " --> justfile:1:3\n  |\n1 | ab\n  |   ^"),
     ];
-    assert!(rt; are_printed(rt.alloc(), "ab\r\n'c\r\nd'\r\n", &cases)?);
+    assert!(rt; are_printed(rt.alloc(), "ab\r\n'c\r\nd'\r\n", CASES)?);
     Ok(())
 }
 
 #[test]
 fn leaves_out_a_byte_order_mark(rt: HostRuntime) -> Result<(), Fail> {
-    let cases = [((5, 1), (0, 2), " --> justfile:1:3\n  |\n1 | a b\n  |   ^")];
-    assert!(rt; are_printed(rt.alloc(), "\u{feff}a b", &cases)?);
+    const CASES: &[Case<'static>] = &[((5, 1), (0, 2), " --> justfile:1:3\n  |\n1 | a b\n  |   ^")];
+    assert!(rt; are_printed(rt.alloc(), "\u{feff}a b", CASES)?);
     Ok(())
 }
 
 #[test]
 fn widens_for_longer_numbers(rt: HostRuntime) -> Result<(), Fail> {
-    let cases = [
+    const CASES: &[Case<'static>] = &[
         (
             (9, 1),
             (9, 0),
@@ -167,14 +167,14 @@ fn widens_for_longer_numbers(rt: HostRuntime) -> Result<(), Fail> {
             "   --> justfile:100:3\n    |\n100 | x y\n    |   ^",
         ),
     ];
-    assert!(rt; are_printed(rt.alloc(), "\n\n\n\n\n\n\n\n\nx y", &cases)?);
+    assert!(rt; are_printed(rt.alloc(), "\n\n\n\n\n\n\n\n\nx y", CASES)?);
     Ok(())
 }
 
 #[test]
 fn marks_the_end_of_an_empty_text(rt: HostRuntime) -> Result<(), Fail> {
-    let cases = [((0, 0), (0, 0), " --> justfile:1:1\n  |\n1 | \n  | ^")];
-    assert!(rt; are_printed(rt.alloc(), "", &cases)?);
+    const CASES: &[Case<'static>] = &[((0, 0), (0, 0), " --> justfile:1:1\n  |\n1 | \n  | ^")];
+    assert!(rt; are_printed(rt.alloc(), "", CASES)?);
     Ok(())
 }
 

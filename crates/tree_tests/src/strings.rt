@@ -80,7 +80,7 @@ fn cook_parts(rt: &impl Abort, alloc: Global, rows: &[(&str, &str, &str)]) -> Re
 
 #[test]
 fn unindents(rt: HostRuntime) -> Result<(), Fail> {
-    for (text, want) in [
+    const ROWS: &[(&str, &str)] = &[
         ("", ""),
         ("a\n\tb", "a\n\tb"),
         ("\n  foo\n    bar\n", "foo\n  bar\n"),
@@ -92,7 +92,8 @@ fn unindents(rt: HostRuntime) -> Result<(), Fail> {
         (" \n \n ", "\n"),
         ("  ", ""),
         (" é\n  ü", "é\n ü"),
-    ] {
+    ];
+    for (text, want) in ROWS {
         assert!(rt; unindents_to(rt.alloc(), text, want)?, "of {text:?}");
     }
     Ok(())
@@ -100,7 +101,7 @@ fn unindents(rt: HostRuntime) -> Result<(), Fail> {
 
 #[test]
 fn cooks(rt: HostRuntime) -> Result<(), Fail> {
-    let rows = [
+    const ROWS: &[(&str, &str)] = &[
         (r"''", ""),
         (r#""""#, ""),
         ("''''''", ""),
@@ -120,12 +121,12 @@ fn cooks(rt: HostRuntime) -> Result<(), Fail> {
         (r#"x"a\n""#, "<a\n>"),
         ("x'''\n  a\n  '''", "<a\n>"),
     ];
-    cook_all(&rt, rt.alloc(), rows.as_slice())
+    cook_all(&rt, rt.alloc(), ROWS)
 }
 
 #[test]
 fn refuses(rt: HostRuntime) -> Result<(), Fail> {
-    let rows = [
+    const ROWS: &[(&str, &str)] = &[
         ("x''", "shell expansion: `empty`"),
         // Escapes that are none, up to the last character read.
         (r#""a\qb""#, r"invalid escape sequence: `\q`"),
@@ -139,7 +140,7 @@ fn refuses(rt: HostRuntime) -> Result<(), Fail> {
         (r#""\u{41""#, r"invalid escape sequence: `\u{41`"),
         (r#"x"\q""#, r"invalid escape sequence: `\q`"),
     ];
-    cook_all(&rt, rt.alloc(), rows.as_slice())
+    cook_all(&rt, rt.alloc(), ROWS)
 }
 
 /// Whether the literal is that of `x"""a"""`.
@@ -164,7 +165,7 @@ fn tells_the_token(rt: HostRuntime) -> Result<(), Fail> {
 
 #[test]
 fn cooks_parts(rt: HostRuntime) -> Result<(), Fail> {
-    let rows = [
+    const ROWS: &[(&str, &str, &str)] = &[
         ("f'a'", "f'a'", "a"),
         ("f''", "f''", ""),
         ("f'{{", "f'{{", ""),
@@ -187,17 +188,18 @@ fn cooks_parts(rt: HostRuntime) -> Result<(), Fail> {
             r"invalid escape sequence: `\u{1`",
         ),
     ];
-    cook_parts(&rt, rt.alloc(), rows.as_slice())
+    cook_parts(&rt, rt.alloc(), ROWS)
 }
 
 #[test]
 fn takes_commands(rt: HostRuntime) -> Result<(), Fail> {
-    for (lexeme, want) in [
+    const ROWS: &[(&str, &str)] = &[
         ("``", ""),
         (r"`echo '\n'`", r"echo '\n'"),
         ("```\n  a\n    `b`\n  ```", "a\n  `b`\n"),
         ("``````", ""),
-    ] {
+    ];
+    for (lexeme, want) in ROWS {
         assert!(rt; is_command(rt.alloc(), lexeme, want)?, "of {lexeme:?}");
     }
     assert!(rt; is_shebang("#!sh"));

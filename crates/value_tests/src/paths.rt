@@ -5,6 +5,7 @@ use just_value::path::{
     extension, file_name, file_stem, join, parent_directory, without_extension,
 };
 use std::alloc::{AllocError, Global};
+use std::process::Abort;
 use std::test::Fail;
 
 /// The answer, or the text of the refusal.
@@ -26,9 +27,25 @@ fn part(alloc: Global, which: &str, path: &str) -> Result<String, AllocError> {
     }
 }
 
+fn is_part(alloc: Global, which: &str, path: &str, want: &str) -> Result<bool, AllocError> {
+    Ok(part(alloc, which, path)?.as_str() == want)
+}
+
+fn joins_to(alloc: Global, left: &str, right: &str, want: &str) -> Result<bool, AllocError> {
+    Ok(join(alloc, left, right)?.as_str() == want)
+}
+
+/// Holds each part of a path to its text or its refusal.
+fn tell(rt: &impl Abort, alloc: Global, rows: &[(&str, &str, &str)]) -> Result<(), Fail> {
+    for (which, path, want) in rows {
+        assert!(rt; is_part(alloc, which, path, want)?, "{which} of {path:?}");
+    }
+    Ok(())
+}
+
 #[test]
 fn names_are_told(rt: HostRuntime) -> Result<(), Fail> {
-    for (which, path, want) in [
+    const ROWS: &[(&str, &str, &str)] = &[
         ("name", "a/b.tar.gz", "b.tar.gz"),
         ("stem", "a/b.tar.gz", "b.tar"),
         ("extension", "a/b.tar.gz", "gz"),
@@ -43,15 +60,13 @@ fn names_are_told(rt: HostRuntime) -> Result<(), Fail> {
         ("stem", "...", ".."),
         ("extension", "...", ""),
         ("stem", "/", "could not extract file stem from `/`"),
-    ] {
-        assert_eq!(rt; part(rt.alloc(), which, path)?.as_str(), want);
-    }
-    Ok(())
+    ];
+    tell(&rt, rt.alloc(), ROWS)
 }
 
 #[test]
 fn parents_are_told(rt: HostRuntime) -> Result<(), Fail> {
-    for (which, path, want) in [
+    const ROWS: &[(&str, &str, &str)] = &[
         ("parent", "a", "."),
         ("parent", "a//b", "a"),
         ("parent", "//a", "/"),
@@ -60,21 +75,23 @@ fn parents_are_told(rt: HostRuntime) -> Result<(), Fail> {
         ("rest", "a/b.c", "a/b"),
         ("rest", "/", "could not extract parent from `/`"),
         ("rest", "a/..", "could not extract file stem from `a/..`"),
-    ] {
-        assert_eq!(rt; part(rt.alloc(), which, path)?.as_str(), want);
-    }
-    Ok(())
+    ];
+    tell(&rt, rt.alloc(), ROWS)
 }
 
 #[test]
 fn paths_are_joined(rt: HostRuntime) -> Result<(), Fail> {
-    for (left, right, want) in [
+    const ROWS: &[(&str, &str, &str)] = &[
         ("a", "/b", "/b"),
         ("a/", "b", "a/b"),
         ("", "b", "b"),
         ("a", "", "a/"),
-    ] {
-        assert_eq!(rt; join(rt.alloc(), left, right)?.as_str(), want);
+    ];
+    for (left, right, want) in ROWS {
+        assert!(rt;
+            joins_to(rt.alloc(), left, right, want)?,
+            "{left:?} {right:?}"
+        );
     }
     Ok(())
 }

@@ -66,12 +66,13 @@ fn is_truth(alloc: Global, truth: bool, listed: &str) -> Result<bool, AllocError
 
 #[test]
 fn elements_are_joined(rt: HostRuntime) -> Result<(), Fail> {
-    for (listed, want) in [
+    const ROWS: &[(&str, &str)] = &[
         ("", ""),
         (";", ""),
         ("foo bar;baz;", "foo bar baz"),
         (";;", " "),
-    ] {
+    ];
+    for (listed, want) in ROWS {
         assert!(rt; joins(rt.alloc(), listed, want)?, "{listed:?}");
     }
     Ok(())
@@ -89,12 +90,13 @@ fn a_value_with_an_element_is_truthy(rt: HostRuntime) -> Result<(), Fail> {
 
 #[test]
 fn values_are_printed(rt: HostRuntime) -> Result<(), Fail> {
-    for (listed, want) in [
+    const ROWS: &[(&str, &str)] = &[
         ("", "[]"),
         ("foo;", "\"foo\""),
         ("foo;bar;", "[\"foo\", \"bar\"]"),
         ("\\;\n;\t\r\"é;", "[\"\\\\\", \"\\n\", \"\\t\\r\\\"é\"]"),
-    ] {
+    ];
+    for (listed, want) in ROWS {
         assert!(rt; prints(rt.alloc(), listed, want)?, "{listed:?}");
     }
     Ok(())
@@ -102,35 +104,36 @@ fn values_are_printed(rt: HostRuntime) -> Result<(), Fail> {
 
 #[test]
 fn operators_go_pairwise(rt: HostRuntime) -> Result<(), Fail> {
-    let plus = ListOperator::Concatenate;
-    let slash = ListOperator::Join;
-    for (left, operator, right, want) in [
-        ("a;b;", plus, "c;d;", "[\"ac\", \"bd\"]"),
-        ("a;", plus, "b;c;", "[\"ab\", \"ac\"]"),
+    const PLUS: ListOperator = ListOperator::Concatenate;
+    const SLASH: ListOperator = ListOperator::Join;
+    const ROWS: &[(&str, ListOperator, &str, &str)] = &[
+        ("a;b;", PLUS, "c;d;", "[\"ac\", \"bd\"]"),
+        ("a;", PLUS, "b;c;", "[\"ab\", \"ac\"]"),
         (
             "a;",
-            plus,
+            PLUS,
             "",
             "operator `+` cannot be applied to empty lists",
         ),
         (
             "",
-            plus,
+            PLUS,
             "a;",
             "operator `+` cannot be applied to empty lists",
         ),
-        ("a;b;", slash, "c;d;", "[\"a/c\", \"b/d\"]"),
-        ("a;b;", slash, "c;", "[\"a/c\", \"b/c\"]"),
-        ("", slash, "", "[]"),
+        ("a;b;", SLASH, "c;d;", "[\"a/c\", \"b/d\"]"),
+        ("a;b;", SLASH, "c;", "[\"a/c\", \"b/c\"]"),
+        ("", SLASH, "", "[]"),
         (
             "a;b;",
-            slash,
+            SLASH,
             "c;d;e;",
             "operator `/` cannot be applied to lists of different lengths: [\"a\", \"b\"] / [\"c\", \"d\", \"e\"]",
         ),
-    ] {
+    ];
+    for (left, operator, right, want) in ROWS {
         assert!(rt;
-            gives(rt.alloc(), left, operator, right, want)?,
+            gives(rt.alloc(), left, *operator, right, want)?,
             "{left:?} {right:?}"
         );
     }

@@ -4,6 +4,7 @@ use crate::tokens::texts;
 use just_text::Text;
 use just_value::{Override, Positional};
 use std::alloc::Global;
+use std::process::Abort;
 use std::test::Fail;
 
 fn write_overrides(text: &mut String, overrides: &[Override]) -> Result<(), Fail> {
@@ -39,41 +40,43 @@ fn gives(alloc: Global, words: &str, want: &str) -> Result<bool, Fail> {
     Ok(told(alloc, &positional)?.as_str() == want)
 }
 
+/// Holds the words to what is told of them.
+fn tell(rt: &impl Abort, alloc: Global, rows: &[(&str, &str)]) -> Result<(), Fail> {
+    for (words, want) in rows {
+        assert!(rt; gives(alloc, words, want)?, "{words:?}");
+    }
+    Ok(())
+}
+
 #[test]
 fn overrides_come_first(rt: HostRuntime) -> Result<(), Fail> {
-    for (words, want) in [
+    const ROWS: &[(&str, &str)] = &[
         ("foo=bar;bar=foo;.;garnor;", "[foo=bar][bar=foo]<.>(garnor)"),
         ("foo=bar;/;garnor;", "[foo=bar]</>(garnor)"),
         ("=x;", "[=x]"),
         ("a/b=c;", "[a/b=c]"),
         ("a=b=c;", "[a=b=c]"),
-    ] {
-        assert!(rt; gives(rt.alloc(), words, want)?, "{words:?}");
-    }
-    Ok(())
+    ];
+    tell(&rt, rt.alloc(), ROWS)
 }
 
 #[test]
 fn a_search_directory_is_told(rt: HostRuntime) -> Result<(), Fail> {
-    for (words, want) in [
+    const ROWS: &[(&str, &str)] = &[
         ("the-dir/;baz;", "<the-dir/>(baz)"),
         ("..;a=b;", "<..>(a=b)"),
         ("x/y;", "<x/>(y)"),
         ("x/y/z;.;", "<x/y/>(z)(.)"),
-    ] {
-        assert!(rt; gives(rt.alloc(), words, want)?, "{words:?}");
-    }
-    Ok(())
+    ];
+    tell(&rt, rt.alloc(), ROWS)
 }
 
 #[test]
 fn all_words_behind_an_argument_are_arguments(rt: HostRuntime) -> Result<(), Fail> {
-    for (words, want) in [
+    const ROWS: &[(&str, &str)] = &[
         ("baz;foo=bar;bar/;", "(baz)(foo=bar)(bar/)"),
         (";a=b;", "()(a=b)"),
         ("", ""),
-    ] {
-        assert!(rt; gives(rt.alloc(), words, want)?, "{words:?}");
-    }
-    Ok(())
+    ];
+    tell(&rt, rt.alloc(), ROWS)
 }
