@@ -1,0 +1,5 @@
+pub mod Needs
+pub mod Marked
+pub mod Turns
+pub mod Order
+pub mod Search
