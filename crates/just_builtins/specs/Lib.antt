@@ -1,0 +1,3 @@
+pub mod Shells
+pub mod Facts
+pub mod Folders

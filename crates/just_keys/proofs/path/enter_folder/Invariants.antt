@@ -1,0 +1,11 @@
+use Rattle.std.proofs.Common.{length}
+use denote.Text.{Utf8}
+use denote.Shadow.{shadow}
+use Rattle.just_keys.proofs.path.enter_folder.Given as goal
+
+-- the rest is text
+abbrev pub invariant-loop-part : goal.invariant-loop-part
+invariant-loop-part l = shadow (Utf8 l.rest)
+
+abbrev pub decreases-loop-part : goal.decreases-loop-part
+decreases-loop-part l = length l.rest

@@ -1,0 +1,30 @@
+//! Values of expressions, variables, parameters and body lines, and of constants and settings.
+#![tactic(auto)]
+
+mod assignments;
+mod constants;
+mod evaluator;
+mod functions;
+mod interpreter;
+mod line;
+mod operations;
+mod parameters;
+mod refusals;
+mod sets;
+
+pub use assignments::{evaluate_assignments, open_assignments};
+pub use constants::{ConstEvaluator, evaluate_const_assignments};
+pub use evaluator::Evaluator;
+pub use just_builtins::{
+    ArgumentCount, AssignmentRef, Error, ExecutionContext, Function, FunctionRef, ModuleView,
+    SetRef, Settings, find_function, line_job, run_command,
+};
+pub use just_host::{
+    Answer, CommandJob, Config, Confirmation, DotenvRequest, Entry, Host, HostFault, MachineFact,
+    Pair, Question, Recorded, RunHost, ScriptJob, Status,
+};
+pub use just_value::{
+    Bindings, Bound, CONSTANT_COUNT, ConstError, ConstEvalError, Enclosure, Frame, List, Override,
+    Positional, Scope, StringContext, Ticked, Value, ValueFault, constants, encode_uri_component,
+};
+pub use parameters::{BoundParameters, evaluate_parameters};
