@@ -65,12 +65,11 @@ impl<'src> AttributeItem<'src> {
         }
     }
 
-    /// Gives the variables in the attribute their numbers, those of an `env` the environment's. Takes
-    /// no memory.
-    pub(crate) fn number_variables<N: NumberVariables>(&mut self, numbers: &N, environment: &N)
+    /// Gives the variables in the attribute their numbers. Takes no memory.
+    pub(crate) fn number_variables<N: NumberVariables>(&mut self, numbers: &N)
         ensures { written_item self.new ≡ written_item self.old }
     {
-        number_attribute(&mut self.attribute, numbers, environment);
+        number_attribute(&mut self.attribute, numbers);
     }
 
     /// The attribute's arguments as they are printed, without parentheses.

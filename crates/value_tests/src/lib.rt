@@ -1,4 +1,4 @@
-//! Tests of values, lists, paths, words and constants, and of hosts over records.
+//! Tests of values, lists, paths, words and constants, of hosts over records, and of orders.
 #![tactic(auto)]
 
 #[cfg(test)]
@@ -7,6 +7,8 @@ mod constants;
 mod faults;
 #[cfg(test)]
 mod lists;
+#[cfg(test)]
+mod orders;
 #[cfg(test)]
 mod paths;
 #[cfg(test)]

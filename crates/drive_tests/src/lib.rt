@@ -1,9 +1,0 @@
-//! Tests of what is handed over, asked and answered, for small justfiles of the whole language.
-#![tactic(auto)]
-
-#[cfg(test)]
-mod driven;
-#[cfg(test)]
-mod scripted;
-#[cfg(test)]
-mod told;

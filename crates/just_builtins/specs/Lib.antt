@@ -1,3 +1,0 @@
-pub mod Shells
-pub mod Facts
-pub mod Folders

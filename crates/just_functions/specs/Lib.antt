@@ -1,4 +1,0 @@
-pub mod Names
-pub mod Arguments
-pub mod Parts
-pub mod Values
