@@ -65,11 +65,12 @@ impl<'src> AttributeItem<'src> {
         }
     }
 
-    /// Gives the variables in the attribute their numbers. Takes no memory.
-    pub(crate) fn number_variables<N: NumberVariables>(&mut self, numbers: &N)
+    /// Gives the variables in the attribute their numbers, those of an `env` the environment's. Takes
+    /// no memory.
+    pub(crate) fn number_variables<N: NumberVariables>(&mut self, numbers: &N, environment: &N)
         ensures { written_item self.new ≡ written_item self.old }
     {
-        number_attribute(&mut self.attribute, numbers);
+        number_attribute(&mut self.attribute, numbers, environment);
     }
 
     /// The attribute's arguments as they are printed, without parentheses.

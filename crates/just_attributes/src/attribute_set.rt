@@ -105,12 +105,13 @@ impl<'src> AttributeSet<'src> {
         self.contains(AttributeKind::Private)
     }
 
-    /// Gives the variables in the attributes their numbers. Takes no memory.
-    pub fn number_variables<N: NumberVariables>(&mut self, numbers: &N)
+    /// Gives the variables in the attributes their numbers, those of an `env` the environment's. Takes
+    /// no memory.
+    pub fn number_variables<N: NumberVariables>(&mut self, numbers: &N, environment: &N)
         ensures { map spec.written_item (items_of self.new) ≡ map spec.written_item (items_of self.old) }
     {
         for index in 0..self.items.len() {
-            self.items[index].number_variables(numbers);
+            self.items[index].number_variables(numbers, environment);
         }
     }
 

@@ -17,22 +17,23 @@ pub trait NumberVariables {
         ensures { shape_of expression.new ≡ shape_of expression.old };
 }
 
-/// Gives the variables of the expressions in the attribute their numbers.
-pub fn number_attribute<N: NumberVariables>(attribute: &mut Attribute, numbers: &N)
+/// Gives the variables of the expressions in the attribute their numbers, those of an `env` the
+/// environment's.
+pub fn number_attribute<N: NumberVariables>(attribute: &mut Attribute, numbers: &N, environment: &N)
     ensures { attribute_shape attribute.new ≡ attribute_shape attribute.old }
 {
-    number_front(attribute, numbers);
-    number_value(attribute, numbers);
+    number_front(attribute, numbers, environment);
+    number_value(attribute, environment);
 }
 
 /// The same of all expressions but the value of an `env`.
-fn number_front<N: NumberVariables>(attribute: &mut Attribute, numbers: &N)
+fn number_front<N: NumberVariables>(attribute: &mut Attribute, numbers: &N, environment: &N)
     ensures { attribute_shape attribute.new ≡ attribute_shape attribute.old }
 {
     match attribute {
         Attribute::Arg(options) => number_if_there(&mut options.value, numbers),
         Attribute::Confirm(prompt) => number_if_there(prompt, numbers),
-        Attribute::Env { key, .. } => numbers.number(key),
+        Attribute::Env { key, .. } => environment.number(key),
         Attribute::Script(Some(interpreter)) => number_interpreter(interpreter, numbers),
         _ => {}
     }

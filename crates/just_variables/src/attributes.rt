@@ -13,14 +13,21 @@ impl NumberVariables for Scope<'_, '_> {
     }
 }
 
-/// Gives each variable in the expressions of these attributes the context's number for its name,
-/// else the bindings' number, else none. Nothing else changes. Takes no memory.
+/// Gives each variable in the expressions of these attributes the context's number for its name, or
+/// the environment's in an `env`, else the bindings' number, else none. Nothing else changes. Takes no
+/// memory.
 pub fn resolve_attributes<'a, 'src>(
     attributes: &mut AttributeSet,
     context: &'a ExpressionContext<'src>,
+    environment: &'a ExpressionContext<'src>,
     bindings: &'a ExpressionContext<'src>,
 )
     ensures { map written_item (items_of attributes.new) ≡ map written_item (items_of attributes.old) }
 {
-    attributes.number_variables(&Scope { context, bindings });
+    let inside = Scope { context, bindings };
+    let outside = Scope {
+        context: environment,
+        bindings,
+    };
+    attributes.number_variables(&inside, &outside);
 }

@@ -33,8 +33,9 @@ impl<'src> ExpressionContext<'src> {
         self.numbers.get(name).copied()
     }
 
-    /// Gives the name this number, and leaves the other names as they are.
-    fn set(&mut self, name: &'src str, number: Number) -> Result<(), AllocError>
+    /// Gives the name this number, and leaves the other names as they are. Refused only where memory
+    /// is.
+    pub fn set(&mut self, name: &'src str, number: Number) -> Result<(), AllocError>
         ensures { OnOk result ((other : List ℕ) → number_in self.new other ≡ (if bytes_eq name.entry.now other then Some number else number_in self.old other)) }
     {
         match self.numbers.insert(name, number) {

@@ -58,10 +58,12 @@ fn are_numbered(attribute: Option<&Attribute>, key_number: Number, value_number:
     }
 }
 
-/// Whether `env(x, y)` gets its numbers where one context knows `x` and the other `y`.
+/// Whether `env(x, y)` gets its numbers where the environment knows `x` and the bindings know `y`; the
+/// context's number of `x` is not for it.
 fn numbers_a_pair(alloc: Global) -> Result<bool, AllocError> {
-    let [a, b, _] = numbers();
-    let context = ExpressionContext::from_names(alloc, &[(name("x"), a)])?;
+    let [a, b, c] = numbers();
+    let context = ExpressionContext::from_names(alloc, &[(name("x"), c)])?;
+    let environment = ExpressionContext::from_names(alloc, &[(name("x"), a)])?;
     let bindings = ExpressionContext::from_names(alloc, &[(name("y"), b)])?;
     let env = Attribute::Env {
         key: variable("x"),
@@ -71,7 +73,7 @@ fn numbers_a_pair(alloc: Global) -> Result<bool, AllocError> {
     let mut items = Vec::new(alloc);
     items.push(item)?;
     let mut attributes = AttributeSet::from_items(items)?;
-    resolve_attributes(&mut attributes, &context, &bindings);
+    resolve_attributes(&mut attributes, &context, &environment, &bindings);
     Ok(are_numbered(attributes.get(AttributeKind::Env), a, b))
 }
 
