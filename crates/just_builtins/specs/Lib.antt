@@ -1,0 +1,5 @@
+pub mod Shells
+pub mod Facts
+pub mod Folders
+pub mod Errors
+pub mod Environments

@@ -1,0 +1,58 @@
+//! The recipes that aliases stand for.
+use crate::fault::DependencyFault;
+use crate::recipe_resolver::{Named, RecipeResolver};
+use just_compilation::{Compilation, ModuleNode};
+use just_text::Namepath;
+use just_tree::Alias;
+use std::alloc::Global;
+
+/// An alias, and the place of its recipe.
+#[derive(Clone, Copy)]
+pub struct ResolvedAlias<'src, 'a> {
+    pub alias: &'a Alias<'src, Namepath<'src>>,
+    pub recipe: usize,
+}
+
+/// That the alias stands for no recipe.
+fn unknown<'a, 'src>(alias: &'a Alias<'src, Namepath<'src>>) -> DependencyFault<'a, 'src> {
+    DependencyFault::UnknownAliasTarget {
+        alias: alias.name,
+        target: &alias.target,
+    }
+}
+
+fn alias_rank<'a, 'src>(
+    resolver: &RecipeResolver<'src, '_, '_>,
+    ranks: &[usize],
+    module: usize,
+    alias: &'a Alias<'src, Namepath<'src>>,
+) -> Result<usize, DependencyFault<'a, 'src>> {
+    match resolver.named(module, &alias.target) {
+        Named::Recipe(place) => match ranks.get(place) {
+            Some(rank) => Ok(*rank),
+            None => Err(unknown(alias)),
+        },
+        Named::Module => Err(DependencyFault::ModuleAsRecipe(&alias.target)),
+        Named::Nothing => Err(unknown(alias)),
+    }
+}
+
+/// The module's aliases in byte order of their names, each with the rank of its recipe. Refused where
+/// one stands for a module or for nothing, and where memory is.
+pub fn resolved_aliases<'a, 'src>(
+    alloc: Global,
+    compilation: &'a Compilation<'src>,
+    resolver: &RecipeResolver<'src, '_, '_>,
+    ranks: &[usize],
+    module: usize,
+    node: &ModuleNode<'src>,
+) -> Result<Vec<ResolvedAlias<'src, 'a>>, DependencyFault<'a, 'src>> {
+    let mut aliases = Vec::new(alloc);
+    for place in &node.aliases {
+        if let Some(alias) = compilation.alias(*place) {
+            let recipe = alias_rank(resolver, ranks, module, alias)?;
+            aliases.push(ResolvedAlias { alias, recipe })?;
+        }
+    }
+    Ok(aliases)
+}

@@ -1,0 +1,16 @@
+//! Recipes by names: how many values they take, what they depend on, and what aliases stand for.
+#![tactic(auto)]
+
+pub mod aliases;
+pub mod fault;
+pub mod lookup;
+pub mod needs;
+pub mod recipe_node;
+pub mod recipe_resolver;
+
+pub use aliases::{ResolvedAlias, resolved_aliases};
+pub use fault::DependencyFault;
+pub use lookup::{find, find_module, find_submodule, recipe_number};
+pub use needs::{all_needs, ranks};
+pub use recipe_node::{RecipeNode, ValueCount, add_place, recipe_nodes, recipe_places};
+pub use recipe_resolver::RecipeResolver;

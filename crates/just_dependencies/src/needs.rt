@@ -1,0 +1,55 @@
+//! What recipes depend on, by places.
+use crate::fault::DependencyFault;
+use crate::recipe_node::RecipeNode;
+use crate::recipe_resolver::RecipeResolver;
+use std::alloc::{AllocError, Global};
+
+/// What the recipe depends on, by places: the priors, then the subsequents.
+fn needs_of<'a, 'src>(
+    alloc: Global,
+    resolver: &RecipeResolver<'src, 'a, '_>,
+    node: RecipeNode<'src, 'a>,
+) -> Result<Vec<usize>, DependencyFault<'a, 'src>> {
+    let recipe = node.recipe;
+    let mut needs = Vec::new(alloc);
+    resolver.add_places(
+        &mut needs,
+        node.module,
+        recipe.name,
+        recipe.priors.as_slice(),
+    )?;
+    resolver.add_places(
+        &mut needs,
+        node.module,
+        recipe.name,
+        recipe.subsequents.as_slice(),
+    )?;
+    Ok(needs)
+}
+
+/// For each recipe that is kept the places of those that it depends on: the priors in order, then the
+/// subsequents. Refused where a dependency names no recipe, a module, or a recipe that takes another
+/// number of values; and where memory is.
+pub fn all_needs<'a, 'src>(
+    alloc: Global,
+    resolver: &RecipeResolver<'src, 'a, '_>,
+) -> Result<Vec<Vec<usize>>, DependencyFault<'a, 'src>> {
+    let mut all = Vec::new(alloc);
+    for node in resolver.nodes {
+        all.push(needs_of(alloc, resolver, *node)?)?;
+    }
+    Ok(all)
+}
+
+/// At each place the place that it has in the order; 0 where the order doesn't have it. Refused only
+/// where memory is.
+pub fn ranks(alloc: Global, order: &[usize]) -> Result<Vec<usize>, AllocError> {
+    let mut ranks = vec![in alloc; 0; order.len()]?;
+    for rank in 0..order.len() {
+        let place = order[rank];
+        if place < ranks.len() {
+            ranks[place] = rank;
+        }
+    }
+    Ok(ranks)
+}

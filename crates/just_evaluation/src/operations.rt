@@ -1,0 +1,140 @@
+//! What operators and contexts make of values.
+ghost use Rattle.std.specs.Prelude.{◌≡◌, ◌∷◌, ◌++◌, [], IfOk, codes, if◌then◌else◌};
+ghost use Rattle.std.specs.String.{string_bytes};
+ghost use Rattle.just_value.specs.Values.{joined};
+
+use just_builtins::Error;
+use just_expression_tree::{ConditionalOperator, ListOperator};
+use just_host::HostFault;
+use just_strings::unindent;
+use just_text::{Name, Text, Token};
+use just_value::{ConstEvalError, StringContext, Value};
+use std::alloc::{AllocError, Global};
+
+/// The values of an operator's two sides.
+#[derive(Drop)]
+pub(crate) struct Sides {
+    pub(crate) left: Value,
+    pub(crate) right: Value,
+}
+
+/// `true` alone, or the empty list.
+pub(crate) fn truth_value<'src>(alloc: Global, truth: bool) -> Result<Value, Error<'src>>
+    ensures { IfOk result (λ v. v ≡ (if truth then codes "true" ∷ [] else [])) }
+{
+    Ok(Value::from_bool(alloc, truth)?)
+}
+
+/// What a command printed, or why it printed nothing, at its token.
+pub(crate) fn output_value<'src>(
+    alloc: Global,
+    output: Result<Text, HostFault>,
+    token: Token<'src>,
+) -> Result<Value, Error<'src>> {
+    match output {
+        Ok(text) => Ok(Value::from_string(alloc, text.into_string())?),
+        Err(fault) => Err(Error::Backtick { fault, token }),
+    }
+}
+
+/// What an assertion gives whose condition holds: its value under `lists`, else the empty text.
+pub(crate) fn asserted<'src>(
+    alloc: Global,
+    lists: bool,
+    condition: Value,
+) -> Result<Value, Error<'src>>
+    ensures { IfOk result (λ v. v ≡ (if lists then condition else [] ∷ [])) }
+{
+    if lists {
+        Ok(condition)
+    } else {
+        Ok(Value::from_text(alloc, "")?)
+    }
+}
+
+/// What the operator gives of the two sides.
+pub(crate) fn applied<'src>(
+    alloc: Global,
+    sides: &Sides,
+    operator: ListOperator,
+    token: Token<'src>,
+) -> Result<Value, Error<'src>> {
+    Ok(sides.left.apply(alloc, &sides.right, operator, token)?)
+}
+
+/// What `/` gives without a left side: the empty text stands there.
+pub(crate) fn joined_to_nothing<'src>(
+    alloc: Global,
+    right: Value,
+    token: Token<'src>,
+) -> Result<Value, Error<'src>> {
+    let left = Value::from_text(alloc, "")?;
+    applied(alloc, &Sides { left, right }, ListOperator::Join, token)
+}
+
+/// What the comparison says of the two sides.
+pub(crate) fn compared<'src>(
+    sides: &Sides,
+    operator: ConditionalOperator,
+    token: Token<'src>,
+) -> Result<bool, Error<'src>> {
+    match operator {
+        ConditionalOperator::Equality => Ok(sides.left == sides.right),
+        ConditionalOperator::Inequality => Ok(sides.left != sides.right),
+        ConditionalOperator::RegexMatch | ConditionalOperator::RegexMismatch => {
+            Err(Error::Const(ConstEvalError::PatternLeftOut { operator, token }))
+        }
+    }
+}
+
+/// Puts the joined value and the part of a format string behind the text.
+pub(crate) fn push_joined(
+    alloc: Global,
+    text: &mut String,
+    value: &Value,
+    part: &str,
+) -> Result<(), AllocError> {
+    let joined = value.join(alloc)?;
+    text.push_str(joined.as_str())?;
+    text.push_str(part)
+}
+
+/// A format string's value, unindented if it has three marks.
+pub(crate) fn laid_out<'src>(
+    alloc: Global,
+    tripled: bool,
+    text: String,
+) -> Result<Value, Error<'src>> {
+    if tripled {
+        let text = unindent(alloc, text.as_str())?;
+        Ok(Value::from_string(alloc, text.into_string())?)
+    } else {
+        Ok(Value::from_string(alloc, text)?)
+    }
+}
+
+/// The value as an argument of the built-in function, which takes one text or any value there.
+pub(crate) fn argument<'src>(
+    value: Value,
+    is_text: bool,
+    name: Name<'src>,
+) -> Result<Value, Error<'src>> {
+    if is_text && value.len() != 1 {
+        let context = StringContext::Function(name);
+        return Err(Error::Const(ConstEvalError::ListInStringContext { context, value }));
+    }
+    Ok(value)
+}
+
+/// The one element of the value.
+pub(crate) fn only_text<'src>(
+    alloc: Global,
+    value: Value,
+    context: StringContext<'src>,
+) -> Result<String, Error<'src>> {
+    if value.len() == 1 {
+        Ok(value.join(alloc)?)
+    } else {
+        Err(Error::Const(ConstEvalError::ListInStringContext { context, value }))
+    }
+}

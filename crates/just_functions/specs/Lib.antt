@@ -1,0 +1,4 @@
+pub mod Names
+pub mod Arguments
+pub mod Parts
+pub mod Values

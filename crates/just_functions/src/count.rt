@@ -1,0 +1,102 @@
+//! How many arguments the built-in functions take, and which of these are texts.
+ghost use Rattle.std.specs.Prelude.{◌≡◌, ◌≤◌, ◌↔◌, IsTrue};
+ghost use Rattle.just_functions.specs.Arguments as spec;
+
+use crate::function::Function;
+
+/// How many arguments a function takes.
+#[derive(Clone, Copy)]
+pub struct ArgumentCount {
+    pub least: usize,
+    pub most: usize,
+}
+
+impl ArgumentCount {
+    /// So many, and no other number.
+    fn exactly(count: usize) -> ArgumentCount
+        ensures { result ≡ spec.exactly count }
+    {
+        ArgumentCount {
+            least: count,
+            most: count,
+        }
+    }
+
+    /// Whether there may be so many arguments.
+    pub fn takes(self, count: usize) -> bool
+        ensures { IsTrue result ↔ (self.least ≤ count) × (count ≤ self.most) }
+    {
+        self.least <= count && count <= self.most
+    }
+}
+
+impl Function {
+    /// How many arguments the function takes.
+    pub fn expected_arguments(self) -> ArgumentCount
+        ensures { result ≡ spec.expected self }
+    {
+        match self {
+            Function::Bool
+            | Function::Canonicalize
+            | Function::Capitalize
+            | Function::EncodeUriComponent
+            | Function::EnvVar
+            | Function::Error
+            | Function::Extension
+            | Function::FileName
+            | Function::FileStem
+            | Function::Len
+            | Function::Lowercase
+            | Function::ParentDirectory
+            | Function::PathExists
+            | Function::Quote
+            | Function::Read
+            | Function::Require
+            | Function::Show
+            | Function::Trim
+            | Function::TrimEnd
+            | Function::TrimStart
+            | Function::Uppercase
+            | Function::Which
+            | Function::WithoutExtension => ArgumentCount::exactly(1),
+            Function::Append
+            | Function::EnvVarOrDefault
+            | Function::Prepend
+            | Function::TrimEndMatch
+            | Function::TrimEndMatches
+            | Function::TrimStartMatch
+            | Function::TrimStartMatches => ArgumentCount::exactly(2),
+            Function::Replace => ArgumentCount::exactly(3),
+            Function::Env | Function::JoinList | Function::Split => {
+                ArgumentCount { least: 1, most: 2 }
+            }
+            Function::Shell => ArgumentCount {
+                least: 1,
+                most: usize::MAX,
+            },
+            Function::Join => ArgumentCount {
+                least: 2,
+                most: usize::MAX,
+            },
+            _ => ArgumentCount::exactly(0),
+        }
+    }
+
+    /// Whether the argument at this place, from 0, is one text; else it is any value.
+    pub fn takes_text(self, index: usize) -> bool
+        ensures { result ≡ spec.takes_text self index }
+    {
+        match self {
+            Function::Bool
+            | Function::Env
+            | Function::EnvVar
+            | Function::EnvVarOrDefault
+            | Function::Len
+            | Function::Quote
+            | Function::Show => false,
+            Function::Append | Function::Prepend => index == 0,
+            Function::JoinList => index != 0,
+            _ => true,
+        }
+    }
+}

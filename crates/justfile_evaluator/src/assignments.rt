@@ -1,0 +1,71 @@
+//! The variables of a module.
+use just_builtins::{Error, ExecutionContext};
+use just_evaluation::Evaluator;
+use just_host::{Host, Recorded};
+use just_text::Number;
+use just_tree::Assignment;
+use just_value::{Scope, Value};
+use std::alloc::Global;
+use std::collections::BTreeSet;
+
+/// What the variable stands for: the text that overrides it, else its expression's value.
+fn assigned_value<'src, H: Host + Drop>(
+    alloc: Global,
+    host: &mut Recorded<H>,
+    context: &ExecutionContext<'_, 'src>,
+    scope: &Scope<'_, 'src>,
+    assignment: &Assignment<'src>,
+) -> Result<Value, Error<'src>> {
+    if let Some(text) = context.overrides.get(&assignment.number) {
+        return Ok(Value::from_text(alloc, text.as_str())?);
+    }
+    Evaluator::opening(context, scope).evaluate_value(alloc, host, &assignment.value)
+}
+
+/// Whether the number is among those that are read, or no numbers are given.
+fn is_read(references: Option<&BTreeSet<Number>>, number: Number) -> bool {
+    match references {
+        Some(references) => references.contains(&number),
+        None => true,
+    }
+}
+
+/// Evaluates the module's variables in their order into the scope's innermost frame: those of these
+/// numbers alone where numbers are given, and none that is bound already. The context's scope is the
+/// one around that frame. A refused one leaves those before it bound.
+pub fn open_assignments<'src, H: Host + Drop>(
+    alloc: Global,
+    host: &mut Recorded<H>,
+    context: &ExecutionContext<'_, 'src>,
+    scope: &mut Scope<'_, 'src>,
+    references: Option<&BTreeSet<Number>>,
+) -> Result<(), Error<'src>> {
+    for lent in context.module.evaluation_order {
+        let assignment = lent.assignment;
+        let number = assignment.number;
+        if is_read(references, number) && scope.binding(number).is_none() {
+            let value = assigned_value(alloc, host, context, &*scope, assignment)?;
+            let export = assignment.export || context.module.settings.export;
+            scope.bind_value(assignment.name, number, export, value)?;
+        }
+    }
+    Ok(())
+}
+
+/// The module's frame inside the context's scope, which is that of the constants: its variables in
+/// their order, those of these numbers alone where numbers are given.
+pub fn evaluate_assignments<'a, 'src, H: Host + Drop>(
+    alloc: Global,
+    host: &mut Recorded<H>,
+    context: &ExecutionContext<'a, 'src>,
+    references: Option<&BTreeSet<Number>>,
+) -> Result<Scope<'a, 'src>, Error<'src>> {
+    let mut scope = context.scope.child(alloc)?;
+    match open_assignments(alloc, host, context, &mut scope, references) {
+        Ok(()) => Ok(scope),
+        Err(error) => {
+            drop(scope);
+            Err(error)
+        }
+    }
+}

@@ -1,0 +1,275 @@
+//! What a recipe's parameters stand for.
+use just_attribute_tree::Attribute;
+use just_attributes::AttributeItem;
+use just_builtins::{Error, ExecutionContext};
+use just_evaluation::{Evaluator, internal};
+use just_expression_tree::Expression;
+use just_host::{Host, Pair, Recorded};
+use just_text::{Name, Text};
+use just_tree::{Parameter, ParameterKind, Recipe};
+use just_value::{Scope, StringContext, Value};
+use std::alloc::{AllocError, Global};
+
+/// What a recipe is given beside the frame of its parameters.
+#[derive(Drop)]
+pub struct BoundParameters {
+    /// The parameters' values as words.
+    pub positional: Vec<String>,
+    /// What `env` attributes give to commands. Of pairs of one name the last counts.
+    pub env: Vec<Pair>,
+}
+
+/// Where parameters are evaluated.
+#[derive(Clone, Copy)]
+struct Site<'a, 'src> {
+    context: &'a ExecutionContext<'a, 'src>,
+    is_dependency: bool,
+    recipe: Name<'src>,
+}
+
+impl<'a, 'src> Site<'a, 'src> {
+    /// Evaluates in the frame so far.
+    fn evaluator(&self, env: &'a [Pair], scope: &'a Scope<'a, 'src>) -> Evaluator<'a, 'src> {
+        Evaluator::new(
+            self.context,
+            env,
+            self.is_dependency,
+            Some(self.recipe),
+            scope,
+        )
+    }
+}
+
+/// The pair that an `env` attribute gives; none where its value is empty.
+fn env_pair<'src, H: Host + Drop>(
+    alloc: Global,
+    host: &mut Recorded<H>,
+    evaluator: &Evaluator<'_, 'src>,
+    key: &Expression<'src>,
+    value: &Expression<'src>,
+    name: Name<'src>,
+) -> Result<Option<Pair>, Error<'src>> {
+    let context = StringContext::EnvKey(name.token);
+    let key = evaluator.evaluate_string(alloc, host, key, context)?;
+    let value = evaluator.evaluate_value(alloc, host, value)?;
+    if value.is_empty() {
+        return Ok(None);
+    }
+    let value = value.join(alloc)?;
+    Ok(Some(Pair {
+        name: Text::from_string(key),
+        value: Text::from_string(value),
+    }))
+}
+
+/// The pair that the attribute gives, if it is `env` and its value is not empty.
+fn attribute_pair<'src, H: Host + Drop>(
+    alloc: Global,
+    host: &mut Recorded<H>,
+    site: &Site<'_, 'src>,
+    env: &[Pair],
+    scope: &Scope<'_, 'src>,
+    item: &AttributeItem<'src>,
+) -> Result<Option<Pair>, Error<'src>> {
+    let Attribute::Env { key, value } = &item.attribute else {
+        return Ok(None);
+    };
+    let evaluator = site.evaluator(env, scope);
+    env_pair(alloc, host, &evaluator, key, value, item.name)
+}
+
+/// The pairs of all `env` attributes in order. Each is evaluated with the pairs before it.
+fn attribute_pairs<'src, H: Host + Drop, D>(
+    alloc: Global,
+    host: &mut Recorded<H>,
+    site: &Site<'_, 'src>,
+    scope: &Scope<'_, 'src>,
+    recipe: &Recipe<'src, D>,
+) -> Result<Vec<Pair>, Error<'src>> {
+    let mut env = Vec::new(alloc);
+    for item in recipe.attributes.iter() {
+        if let Some(pair) = attribute_pair(alloc, host, site, env.as_slice(), scope, item)? {
+            env.push(pair)?;
+        }
+    }
+    Ok(env)
+}
+
+/// The value so often, one behind the other.
+fn repeated(alloc: Global, value: &Value, times: usize) -> Result<Value, AllocError> {
+    let mut list = Value::new(alloc);
+    for _ in 0..times {
+        let copy = value.clone()?;
+        list.append(copy)?;
+    }
+    Ok(list)
+}
+
+/// The value of a parameter that is given no element: its default, or the empty list where it takes
+/// any number.
+fn default_value<'src, H: Host + Drop>(
+    alloc: Global,
+    host: &mut Recorded<H>,
+    evaluator: &Evaluator<'_, 'src>,
+    parameter: &Parameter<'src>,
+    recipe: Name<'src>,
+) -> Result<Value, Error<'src>> {
+    if let Some(default) = &parameter.default {
+        return evaluator.evaluate_value(alloc, host, default);
+    }
+    if parameter.kind == ParameterKind::Star || parameter.flag {
+        return Ok(Value::new(alloc));
+    }
+    Err(Error::EmptyListArgument {
+        recipe,
+        parameter: parameter.name,
+    })
+}
+
+/// What the parameter stands for, by its group of elements: the default where there is none; outside
+/// a dependency what the option stands for, once for each element; else the group.
+fn parameter_value<'src, H: Host + Drop>(
+    alloc: Global,
+    host: &mut Recorded<H>,
+    site: &Site<'_, 'src>,
+    env: &[Pair],
+    scope: &Scope<'_, 'src>,
+    parameter: &Parameter<'src>,
+    group: &Value,
+) -> Result<Value, Error<'src>> {
+    let evaluator = site.evaluator(env, scope);
+    if group.is_empty() {
+        return default_value(alloc, host, &evaluator, parameter, site.recipe);
+    }
+    match &parameter.value {
+        Some(value) if !site.is_dependency => {
+            let value = evaluator.evaluate_value(alloc, host, value)?;
+            Ok(repeated(alloc, &value, group.len())?)
+        }
+        _ => Ok(group.clone()?),
+    }
+}
+
+/// Puts the value's elements, or its join, behind the words.
+fn push_positional(
+    alloc: Global,
+    positional: &mut Vec<String>,
+    value: &Value,
+    each: bool,
+) -> Result<(), AllocError> {
+    if each {
+        for element in value.elements() {
+            positional.push(element.clone()?)?;
+        }
+        Ok(())
+    } else {
+        Ok(positional.push(value.join(alloc)?)?)
+    }
+}
+
+/// What the name is bound to: the value under `lists`, else its join.
+fn bound_value(alloc: Global, lists: bool, value: Value) -> Result<Value, AllocError> {
+    if lists {
+        Ok(value)
+    } else {
+        Value::from_string(alloc, value.join(alloc)?)
+    }
+}
+
+/// Refuses a value whose number of elements the check refuses.
+fn check_count<'src, F: Fn(&Parameter, usize) -> bool>(
+    recipe: Name<'src>,
+    parameter: &Parameter<'src>,
+    found: usize,
+    check: &F,
+) -> Result<(), Error<'src>>
+    requires { F.IsAlwaysCallable check.now }
+{
+    if check(parameter, found) {
+        return Ok(());
+    }
+    Err(Error::ValueCount {
+        recipe,
+        parameter: parameter.name,
+        found,
+    })
+}
+
+/// Binds the value in the frame, and puts it behind the words.
+fn bind_parameter<'src>(
+    alloc: Global,
+    scope: &mut Scope<'_, 'src>,
+    positional: &mut Vec<String>,
+    parameter: &Parameter<'src>,
+    lists: bool,
+    value: Value,
+) -> Result<(), AllocError> {
+    let each = parameter.kind.is_variadic() || parameter.multiple;
+    push_positional(alloc, positional, &value, each)?;
+    let value = bound_value(alloc, lists, value)?;
+    scope.bind_value(parameter.name, parameter.number, parameter.export, value)
+}
+
+/// Binds the parameters in order, each in the frame of those before it.
+fn bind_parameters<'src, H: Host + Drop, F: Fn(&Parameter, usize) -> bool>(
+    alloc: Global,
+    host: &mut Recorded<H>,
+    site: &Site<'_, 'src>,
+    env: &[Pair],
+    scope: &mut Scope<'_, 'src>,
+    parameters: &[Parameter<'src>],
+    groups: &[Value],
+    check: &F,
+) -> Result<Vec<String>, Error<'src>>
+    requires { F.IsAlwaysCallable check.now }
+{
+    let lists = site.context.module.settings.lists;
+    let mut positional = Vec::new(alloc);
+    for (parameter, group) in parameters.iter().zip(groups) {
+        let value = parameter_value(alloc, host, site, env, &*scope, parameter, group)?;
+        check_count(site.recipe, parameter, value.len(), check)?;
+        bind_parameter(alloc, scope, &mut positional, parameter, lists, value)?;
+    }
+    Ok(positional)
+}
+
+/// Evaluates the recipe's `env` attributes, then binds its parameters by their groups of elements in
+/// the scope's innermost frame, which is empty: each parameter sees those before it. The check says
+/// whether a parameter may stand for so many elements.
+///
+/// Refused, beside what its expressions are refused for, as `Internal` where there are not as many
+/// groups as parameters, as `EmptyListArgument` where a parameter that needs an element gets none,
+/// and as `ValueCount` where the check refuses a parameter.
+pub fn evaluate_parameters<'src, H: Host + Drop, D, F: Fn(&Parameter, usize) -> bool>(
+    alloc: Global,
+    host: &mut Recorded<H>,
+    groups: &[Value],
+    context: &ExecutionContext<'_, 'src>,
+    is_dependency: bool,
+    recipe: &Recipe<'src, D>,
+    scope: &mut Scope<'_, 'src>,
+    check: &F,
+) -> Result<BoundParameters, Error<'src>>
+    requires { F.IsAlwaysCallable check.now }
+{
+    let site = Site {
+        context,
+        is_dependency,
+        recipe: recipe.name,
+    };
+    let env = attribute_pairs(alloc, host, &site, &*scope, recipe)?;
+    if groups.len() != recipe.parameters.len() {
+        return Err(internal(alloc, "arguments do not match parameter count"));
+    }
+    let positional = bind_parameters(
+        alloc,
+        host,
+        &site,
+        env.as_slice(),
+        scope,
+        &recipe.parameters,
+        groups,
+        check,
+    )?;
+    Ok(BoundParameters { positional, env })
+}
