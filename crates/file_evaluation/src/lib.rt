@@ -1,0 +1,13 @@
+//! Justfiles of one file, evaluated without a run: for trying and for tests.
+#![tactic(auto)]
+
+mod file;
+mod host;
+mod module;
+mod numbers;
+mod questions;
+mod recipe;
+
+pub use host::{Reply, Scripted};
+pub use module::{Asked, evaluated_file};
+pub use recipe::Given;
