@@ -1,7 +1,8 @@
 //! Commands that a shell runs.
-ghost use Rattle.std.specs.Prelude.{◌≡◌, IfOk, map, option_map};
+ghost use Rattle.std.specs.Prelude.{◌≡◌, ◌∷◌, IfOk, map, option_map};
 ghost use Rattle.std.specs.String.{string_bytes};
 ghost use Rattle.just_builtins.specs.Environments.{IsEnvironmentIn};
+ghost use Rattle.just_builtins.specs.Shells.{shell_words};
 
 use crate::asked::ask_text;
 use crate::context::ExecutionContext;
@@ -22,6 +23,7 @@ pub fn line_job(
     command: &str,
     positional: &[String],
 ) -> Result<CommandJob, AllocError>
+    ensures shell { IfOk result (λ job. job.shell ≡ shell_words (option_map string_bytes context.now.config.now.shell) (option_map (λ arguments. map string_bytes arguments.items) context.now.config.now.shell_args) (option_map (λ i. i.command ∷ i.arguments.items) context.now.module.now.settings.now.shell)) }
     ensures command { IfOk result (λ job. job.command ≡ command.now) }
     ensures positional { IfOk result (λ job. job.positional ≡ map string_bytes positional.now) }
     ensures folder { IfOk result (λ job. job.folder ≡ option_map (λ f. f.now) folder.entry) }

@@ -1,6 +1,7 @@
 //! What an evaluation in a module rests on.
-ghost use Rattle.std.specs.Prelude.{◌≡◌, Contains, IfOk, IfSome, if◌then◌else◌, map};
+ghost use Rattle.std.specs.Prelude.{◌≡◌, All, Contains, IfNone, IfOk, IfSome, if◌then◌else◌, map};
 ghost use Rattle.std.specs.String.{string_bytes};
+ghost use Rattle.just_text.specs.Tokens.{lexeme};
 ghost use Rattle.just_builtins.specs.Environments.{IsEnvironmentIn};
 ghost use Rattle.just_builtins.specs.Folders.{folder_below};
 
@@ -67,12 +68,14 @@ pub struct ExecutionContext<'run, 'src> {
     pub root: &'run str,
 }
 
-/// The function of this name.
+/// The first function of this name among those that are given, none where no function has it.
 pub fn find_function<'a, 'src>(
     functions: &'a [FunctionRef<'a, 'src>],
     name: &str,
 ) -> Option<&'a FunctionDefinition<'src>>
-    ensures { IfSome result (λ f. Contains (map (λ f. f.definition.now) functions.now) f.now) }
+    ensures among { IfSome result (λ f. Contains (map (λ f. f.definition.now) functions.now) f.now) }
+    ensures named { IfSome result (λ f. lexeme f.now.name.token ≡ name.now) }
+    ensures none { IfNone result (All (λ f. ¬ (lexeme f.definition.now.name.token ≡ name.now)) functions.now) }
 {
     for function in functions {
         if function.definition.name.lexeme() == name {

@@ -2,6 +2,8 @@
 //! variables and attributes, and the parser.
 #![tactic(auto)]
 
+mod printer;
+
 pub use just_attribute_tree::{
     ArgumentOptions, Attribute, AttributeArguments, AttributeKind, Interpreter, LongName, Setting,
     kind_from_name,
@@ -28,3 +30,4 @@ pub use just_tree::{
     UnstableFeature,
 };
 pub use just_variables::{ExpressionContext, resolve_attributes, resolve_variables};
+pub use printer::print;

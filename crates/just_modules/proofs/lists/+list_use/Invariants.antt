@@ -1,0 +1,22 @@
+-- What falls from call to call.
+use Rattle.std.proofs.Common.{◌+◌, ◌*◌, max}
+use Rattle.just_expression_tree.specs.declared.expression.Expression.{size-Expression}
+use Rattle.just_modules.proofs.lists.+list_use.Given as goal
+
+abbrev pub decreases-in_expression : goal.decreases-in_expression
+decreases-in_expression l = 4 * goal.size-in_expression l
+
+abbrev pub decreases-in_both : goal.decreases-in_both
+decreases-in_both l = 4 * max (size-Expression l.lhs.now) (size-Expression l.rhs.now) + 1
+
+abbrev pub decreases-in_condition : goal.decreases-in_condition
+decreases-in_condition l = 4 * goal.size-in_condition l + 2
+
+abbrev pub decreases-in_optional : goal.decreases-in_optional
+decreases-in_optional l = 4 * goal.size-in_optional l + 1
+
+abbrev pub decreases-in_row : goal.decreases-in_row
+decreases-in_row l = 4 * goal.size-in_row l + 1
+
+abbrev pub decreases-in_holes : goal.decreases-in_holes
+decreases-in_holes l = 4 * goal.size-in_holes l + 1

@@ -1,0 +1,178 @@
+//! What the files of a module define.
+
+use crate::files::ModuleFiles;
+use just_compilation::{ModuleNode, Place};
+use just_sources::items_of;
+use justfile_syntax::{Item, Name, Os};
+use std::alloc::{AllocError, Global};
+
+/// Names of one space are told apart from one another.
+#[derive(Clone, Copy, Debug, PartialEq, Eq, PartialOrd, Ord)]
+pub enum Space {
+    /// Recipes, aliases and submodules.
+    Common,
+    Disabled,
+    Function,
+    Set,
+    Unexport,
+    Variable,
+}
+
+/// What a name stands for.
+#[derive(Clone, Copy, Debug, PartialEq, Eq, PartialOrd, Ord)]
+pub enum Kind {
+    Alias,
+    /// A recipe that an operating system disables.
+    Disabled,
+    Function,
+    /// The submodule at this place of all modules.
+    Module(usize),
+    Recipe,
+    Set,
+    Unexport,
+    Variable,
+}
+
+/// A definition in its order among all of a module: by space, by name, and in reading order.
+#[derive(Clone, Copy, PartialEq, Eq, PartialOrd, Ord)]
+pub struct Definition<'src> {
+    pub space: Space,
+    pub text: &'src str,
+    pub place: Place,
+    pub kind: Kind,
+    pub name: Name<'src>,
+}
+
+/// The space that names of a kind belong to.
+fn space_of(kind: Kind) -> Space {
+    match kind {
+        Kind::Alias | Kind::Module(_) | Kind::Recipe => Space::Common,
+        Kind::Disabled => Space::Disabled,
+        Kind::Function => Space::Function,
+        Kind::Set => Space::Set,
+        Kind::Unexport => Space::Unexport,
+        Kind::Variable => Space::Variable,
+    }
+}
+
+impl<'src> Definition<'src> {
+    fn new(kind: Kind, name: Name<'src>, place: Place) -> Definition<'src> {
+        Definition {
+            space: space_of(kind),
+            text: name.lexeme(),
+            place,
+            kind,
+            name,
+        }
+    }
+
+    /// Whether both are of one name and one space.
+    pub fn is_of(&self, other: &Definition<'src>) -> bool {
+        self.space == other.space && self.text == other.text
+    }
+}
+
+/// A name and what it stands for.
+#[derive(Clone, Copy)]
+struct Named<'src> {
+    kind: Kind,
+    name: Name<'src>,
+}
+
+/// What an item defines under this operating system, but for submodules.
+fn named<'src>(item: &Item<'src>, os: Os) -> Option<Named<'src>> {
+    let (kind, name) = match item {
+        Item::Alias(alias) => (Kind::Alias, alias.name),
+        Item::Assignment(assignment) if assignment.attributes.is_enabled(os) => {
+            (Kind::Variable, assignment.name)
+        }
+        Item::Function(function) => (Kind::Function, function.name),
+        Item::Recipe(recipe) if recipe.attributes.is_enabled(os) => (Kind::Recipe, recipe.name),
+        Item::Recipe(recipe) => (Kind::Disabled, recipe.name),
+        Item::Set(set) if set.attributes.is_enabled(os) => (Kind::Set, set.name),
+        Item::Unexport(unexport) => (Kind::Unexport, unexport.name),
+        _ => return None,
+    };
+    Some(Named { kind, name })
+}
+
+/// Puts what the item at the place defines behind what was found.
+fn add_item<'src>(
+    found: &mut Vec<Definition<'src>>,
+    item: &Item<'src>,
+    place: Place,
+    os: Os,
+) -> Result<(), AllocError> {
+    if let Some(named) = named(item, os) {
+        found.push(Definition::new(named.kind, named.name, place))?;
+    }
+    Ok(())
+}
+
+/// Puts what the items of the file at the place define behind what was found.
+fn add_items<'src>(
+    found: &mut Vec<Definition<'src>>,
+    items: &[Item<'src>],
+    file: usize,
+    os: Os,
+) -> Result<(), AllocError> {
+    for item in 0..items.len() {
+        add_item(found, &items[item], Place { file, item }, os)?;
+    }
+    Ok(())
+}
+
+/// Puts what the files define behind what was found.
+fn add_files<'src>(
+    found: &mut Vec<Definition<'src>>,
+    files: ModuleFiles<'_, 'src>,
+    os: Os,
+) -> Result<(), AllocError> {
+    for place in files.first..files.end {
+        if place < files.all.len() {
+            add_items(found, items_of(&files.all[place]), place, os)?;
+        }
+    }
+    Ok(())
+}
+
+/// The submodule at the place of all modules, if there is one.
+fn submodule<'src>(modules: &[ModuleNode<'src>], module: usize) -> Option<Definition<'src>> {
+    if module >= modules.len() {
+        return None;
+    }
+    match (modules[module].name, modules[module].item) {
+        (Some(name), Some(place)) => Some(Definition::new(Kind::Module(module), name, place)),
+        _ => None,
+    }
+}
+
+/// Puts the submodules at the places of all modules behind what was found.
+fn add_submodules<'src>(
+    found: &mut Vec<Definition<'src>>,
+    modules: &[ModuleNode<'src>],
+    submodules: &[usize],
+) -> Result<(), AllocError> {
+    for module in submodules {
+        if let Some(definition) = submodule(modules, *module) {
+            found.push(definition)?;
+        }
+    }
+    Ok(())
+}
+
+/// What the files of a module and its submodules, which stand at these places of all modules, define, in
+/// order. Refused only where memory is.
+pub fn definitions<'src>(
+    alloc: Global,
+    files: ModuleFiles<'_, 'src>,
+    modules: &[ModuleNode<'src>],
+    submodules: &[usize],
+    os: Os,
+) -> Result<Vec<Definition<'src>>, AllocError> {
+    let mut found = Vec::new(alloc);
+    add_files(&mut found, files, os)?;
+    add_submodules(&mut found, modules, submodules)?;
+    found.sort()?;
+    Ok(found)
+}

@@ -1,0 +1,17 @@
+//! What modules keep of their files, and which rules they break.
+#![tactic(auto)]
+
+pub mod compiler;
+mod definition;
+mod files;
+mod keep;
+mod lists;
+mod rules;
+mod truths;
+
+pub use compiler::Compiler;
+pub use just_compilation::{
+    Compilation, Error, File, ModuleNode, Place, Source, Target, path_token,
+};
+pub use just_keys::{Modulepath, Table, folder_from, is_clean, key_from};
+pub use just_sources::Parsed;

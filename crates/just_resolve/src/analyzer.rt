@@ -1,0 +1,45 @@
+//! From modules to what is known of them.
+use crate::analysis::Analysis;
+use crate::error::Error;
+use crate::known_values::known_values;
+use crate::module_variables::module_variables;
+use crate::overrides::resolve_overrides;
+use crate::recipe_table::recipe_table;
+use just_compilation::Compilation;
+use just_host::Config;
+use just_value::Override;
+use std::alloc::Global;
+
+/// Resolves justfiles.
+#[derive(Clone, Copy, Debug)]
+pub struct Analyzer;
+
+impl Analyzer {
+    /// What is known of the modules, whose variables have their numbers; the words give these values
+    /// for variables, of which the last for one variable counts.
+    ///
+    /// Refused where a value is given for no variable; where an expression reads a name that stands
+    /// for nothing, or calls no function or one with another number of arguments; where variables
+    /// read each other in a circle; where a setting is no constant or has no value; where a
+    /// dependency names no recipe, or one that takes another number of values, also one of a recipe
+    /// that is disabled; where a dependency or an alias names a module; where recipes depend on each
+    /// other in a circle; and where memory is. Of recipes and variables those that are kept count.
+    pub fn analyze<'a, 'src>(
+        alloc: Global,
+        compilation: &'a Compilation<'src>,
+        config: &Config,
+        overrides: &[Override],
+    ) -> Result<Analysis<'src, 'a>, Error<'src>> {
+        let overrides = resolve_overrides(alloc, compilation, overrides)?;
+        let variables = module_variables(alloc, compilation, &overrides)?;
+        let base = config.base.as_str();
+        let values = known_values(alloc, compilation, base, &variables, overrides)?;
+        let table = recipe_table(alloc, compilation, variables.reads.as_slice())?;
+        Ok(Analysis {
+            compilation,
+            variables,
+            values,
+            table,
+        })
+    }
+}

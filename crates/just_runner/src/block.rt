@@ -1,0 +1,203 @@
+//! What a block of dependencies calls.
+ghost use Rattle.std.specs.Prelude.{◌<◌, length};
+
+use crate::call::Call;
+use crate::fault::RunFault;
+use crate::plan::Runner;
+use crate::site::Site;
+use just_host::{Recorded, RunHost};
+use just_tree::{DependencyArgument, Parameter, UnresolvedDependency};
+use just_value::Value;
+use justfile_evaluator::Error;
+use std::alloc::{AllocError, Global};
+use std::mem;
+
+/// A dependency's recipe, by its place, and that recipe's parameters.
+#[derive(Clone, Copy)]
+struct Callee<'a, 'src> {
+    place: usize,
+    parameters: &'a [Parameter<'src>],
+}
+
+/// The value of a dependency's argument.
+fn argument_value<'src, H: RunHost + Drop>(
+    alloc: Global,
+    host: &mut Recorded<H>,
+    site: &Site<'_, 'src>,
+    argument: &DependencyArgument<'src>,
+) -> Result<Value, Error<'src>> {
+    let evaluator = site.evaluator();
+    evaluator.evaluate_value(alloc, host, &argument.expression)
+}
+
+/// The values of a dependency's arguments.
+fn arguments<'src, H: RunHost + Drop>(
+    alloc: Global,
+    host: &mut Recorded<H>,
+    site: &Site<'_, 'src>,
+    arguments: &[DependencyArgument<'src>],
+) -> Result<Vec<Value>, Error<'src>> {
+    let mut values = Vec::new(alloc);
+    for argument in arguments {
+        values.push(argument_value(alloc, host, site, argument)?)?;
+    }
+    Ok(values)
+}
+
+/// All elements of the values.
+fn concatenated(alloc: Global, values: &[Value]) -> Result<Value, AllocError> {
+    let mut all = Value::new(alloc);
+    for value in values {
+        all.append(value.clone()?)?;
+    }
+    Ok(all)
+}
+
+/// The group of the parameter at this place: its argument's value, all that remain for one that
+/// takes any number, or nothing.
+fn group(
+    alloc: Global,
+    values: &[Value],
+    place: usize,
+    is_variadic: bool,
+) -> Result<Value, AllocError> {
+    if place >= values.len() {
+        return Ok(Value::new(alloc));
+    }
+    if is_variadic {
+        concatenated(alloc, &values[place..])
+    } else {
+        values[place].clone()
+    }
+}
+
+/// The groups of all parameters.
+fn groups(
+    alloc: Global,
+    parameters: &[Parameter],
+    values: &[Value],
+) -> Result<Vec<Value>, AllocError> {
+    let mut groups = Vec::new(alloc);
+    for (place, parameter) in parameters.iter().enumerate() {
+        groups.push(group(alloc, values, place, parameter.kind.is_variadic())?)?;
+    }
+    Ok(groups)
+}
+
+/// Puts the call with these arguments behind the others.
+fn push_call(
+    alloc: Global,
+    calls: &mut Vec<Call>,
+    callee: Callee,
+    values: &[Value],
+) -> Result<(), AllocError> {
+    let groups = groups(alloc, callee.parameters, values)?;
+    let recipe = callee.place;
+    Ok(calls.push(Call { recipe, groups })?)
+}
+
+/// Puts a call for each element behind the others, in which it stands for the argument at this
+/// place.
+fn push_each(
+    alloc: Global,
+    calls: &mut Vec<Call>,
+    callee: Callee,
+    values: &mut [Value],
+    star: usize,
+    elements: &[String],
+) -> Result<(), AllocError>
+    requires { star < length values.old }
+{
+    for element in elements {
+        values[star] = Value::from_text(alloc, element.as_str())?;
+        push_call(alloc, calls, callee, &*values)?;
+    }
+    Ok(())
+}
+
+/// Puts a call for each element of the argument at this place behind the others.
+fn push_starred(
+    alloc: Global,
+    calls: &mut Vec<Call>,
+    callee: Callee,
+    values: &mut [Value],
+    star: usize,
+) -> Result<(), AllocError> {
+    if star >= values.len() {
+        return Ok(());
+    }
+    let starred = mem::replace(&mut values[star], Value::new(alloc));
+    push_each(alloc, calls, callee, values, star, starred.elements())
+}
+
+/// Puts the calls of a dependency behind the others.
+fn push_dependency<'src, H: RunHost + Drop>(
+    alloc: Global,
+    host: &mut Recorded<H>,
+    site: &Site<'_, 'src>,
+    calls: &mut Vec<Call>,
+    callee: Callee<'_, 'src>,
+    dependency: &UnresolvedDependency<'src>,
+) -> Result<(), RunFault<'src>> {
+    let written = dependency.arguments.as_slice();
+    let mut values = arguments(alloc, host, site, written)?;
+    Ok(push_calls(
+        alloc,
+        calls,
+        callee,
+        values.as_mut_slice(),
+        starred_place(written),
+    )?)
+}
+
+/// The place of the argument that is starred, if one is.
+fn starred_place(arguments: &[DependencyArgument]) -> Option<usize> {
+    arguments.iter().position(|argument| argument.starred)
+}
+
+/// Puts the calls with these arguments behind the others.
+fn push_calls(
+    alloc: Global,
+    calls: &mut Vec<Call>,
+    callee: Callee,
+    values: &mut [Value],
+    star: Option<usize>,
+) -> Result<(), AllocError> {
+    match star {
+        Some(star) => push_starred(alloc, calls, callee, values, star),
+        None => push_call(alloc, calls, callee, &*values),
+    }
+}
+
+/// The calls of dependencies, all of whose arguments are evaluated in order; the places are those
+/// of their recipes.
+pub(crate) fn block<'src, H: RunHost + Drop>(
+    alloc: Global,
+    host: &mut Recorded<H>,
+    runner: &Runner<'_, 'src>,
+    site: &Site<'_, 'src>,
+    dependencies: &[UnresolvedDependency<'src>],
+    places: &[usize],
+) -> Result<Vec<Call>, RunFault<'src>> {
+    let mut calls = Vec::new(alloc);
+    for (dependency, place) in dependencies.iter().zip(places) {
+        let Some(callee) = callee_at(runner, *place) else {
+            return Err(RunFault::internal(alloc, "dependency without a recipe"));
+        };
+        push_dependency(alloc, host, site, &mut calls, callee, dependency)?;
+    }
+    Ok(calls)
+}
+
+/// The recipe at the place, if there are one and its module.
+fn callee_at<'m, 'src>(runner: &Runner<'m, 'src>, place: usize) -> Option<Callee<'m, 'src>> {
+    let recipes = runner.recipes;
+    if place >= recipes.len() || recipes[place].module >= runner.contexts.len() {
+        return None;
+    }
+    let recipe = recipes[place].recipe;
+    Some(Callee {
+        place,
+        parameters: recipe.parameters.as_slice(),
+    })
+}

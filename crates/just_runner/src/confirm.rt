@@ -1,0 +1,59 @@
+//! Confirmations.
+use crate::fault::RunFault;
+use crate::site::Site;
+use just_attribute_tree::{Attribute, AttributeKind};
+use just_expression_tree::Expression;
+use just_host::{Confirmation, Recorded, RunHost};
+use just_text::Name;
+use justfile_evaluator::Error;
+use std::alloc::{AllocError, Global};
+
+/// The prompt's text.
+fn prompt_text<'src, H: RunHost + Drop>(
+    alloc: Global,
+    host: &mut Recorded<H>,
+    site: &Site<'_, 'src>,
+    prompt: &Expression<'src>,
+) -> Result<String, Error<'src>> {
+    let evaluator = site.evaluator();
+    let value = evaluator.evaluate_value(alloc, host, prompt)?;
+    Ok(value.join(alloc)?)
+}
+
+/// What is asked where no prompt is given.
+fn plain_prompt(alloc: Global, recipe: Name) -> Result<String, AllocError> {
+    format!(in alloc; "Run recipe `{recipe}`?")
+}
+
+/// What the user is asked, if anything.
+fn prompt<'src, H: RunHost + Drop>(
+    alloc: Global,
+    host: &mut Recorded<H>,
+    site: &Site<'_, 'src>,
+) -> Result<Option<String>, Error<'src>> {
+    match site.recipe.attributes.get(AttributeKind::Confirm) {
+        Some(Attribute::Confirm(Some(prompt))) => {
+            Ok(Some(prompt_text(alloc, host, site, prompt)?))
+        }
+        Some(_) => Ok(Some(plain_prompt(alloc, site.recipe.name)?)),
+        None => Ok(None),
+    }
+}
+
+/// Asks the user whether the recipe runs, where it wants to be confirmed.
+pub(crate) fn confirm<'src, H: RunHost + Drop>(
+    alloc: Global,
+    host: &mut Recorded<H>,
+    site: &Site<'_, 'src>,
+) -> Result<(), RunFault<'src>> {
+    if site.context.config.yes {
+        return Ok(());
+    }
+    let Some(prompt) = prompt(alloc, host, site)? else {
+        return Ok(());
+    };
+    match host.confirm(prompt.as_str()) {
+        Confirmation::Yes => Ok(()),
+        Confirmation::No | Confirmation::Failed => Err(RunFault::NotConfirmed(site.recipe.name)),
+    }
+}

@@ -1,0 +1,270 @@
+//! The loop over what is still to do.
+ghost use Rattle.std.specs.Prelude.{◌≡◌, ◌<◌, ◌+◌, ◌∷◌, [], OnOk, IfOk};
+ghost use Rattle.just_runner.specs.Todo.{Calls, Body, After};
+ghost use Rattle.just_runner.specs.Weight.{weight, AreBelow};
+
+use crate::call::{Call, Done, Pending};
+use crate::enter::{begin, end, entered};
+use crate::fault::RunFault;
+use crate::frame::{Entered, Frame};
+use crate::plan::{Placed, Runner};
+use crate::stack::Stack;
+use just_host::{Recorded, RunHost};
+use just_value::Value;
+use std::alloc::{AllocError, Global};
+use std::mem;
+
+/// The calls, if all are of recipes before that place.
+fn ranked<'src>(alloc: Global, calls: Vec<Call>, place: usize) -> Result<Pending, RunFault<'src>>
+    ensures { IfOk result (AreBelow place) }
+{
+    let _count = calls.len();
+    if calls.iter().any(|call| call.recipe >= place) {
+        return Err(RunFault::internal(alloc, "dependency behind its recipe"));
+    }
+    Ok(Pending::new(calls))
+}
+
+/// A call of no recipe, or of one whose module is none.
+fn lost_recipe<'src>(alloc: Global) -> RunFault<'src> {
+    RunFault::internal(alloc, "call without a recipe")
+}
+
+/// What the recipe is entered with.
+fn boxed<'m, 'src, H: RunHost + Drop>(
+    alloc: Global,
+    host: &mut Recorded<H>,
+    placed: &Placed<'m, 'src>,
+    groups: &[Value],
+    is_dependency: bool,
+) -> Result<Box<Entered<'m, 'src>>, RunFault<'src>> {
+    let entered = entered(alloc, host, placed, groups, is_dependency)?;
+    Ok(Box::new(alloc, entered)?)
+}
+
+/// Confirms the recipe at the place, and gives the calls before its body.
+fn priors<'src, H: RunHost + Drop>(
+    alloc: Global,
+    host: &mut Recorded<H>,
+    runner: &Runner<'_, 'src>,
+    placed: &Placed<'_, 'src>,
+    entered: &Entered<'_, 'src>,
+    place: usize,
+) -> Result<Pending, RunFault<'src>>
+    ensures { IfOk result (AreBelow place) }
+{
+    let calls = begin(alloc, host, runner, placed, entered)?;
+    ranked(alloc, calls, place)
+}
+
+/// Enters the call's recipe, which is this one.
+fn enter_placed<'m, 'src, H: RunHost + Drop>(
+    alloc: Global,
+    host: &mut Recorded<H>,
+    runner: &Runner<'m, 'src>,
+    placed: &Placed<'m, 'src>,
+    call: &Call,
+    is_dependency: bool,
+) -> Result<(Box<Entered<'m, 'src>>, Pending), RunFault<'src>>
+    ensures { IfOk result (λ r. AreBelow call.now.recipe r.1) }
+{
+    let groups = call.groups.as_slice();
+    let entered = boxed(alloc, host, placed, groups, is_dependency)?;
+    let priors = priors(alloc, host, runner, placed, &entered, call.recipe)?;
+    Ok((entered, priors))
+}
+
+/// Enters the call's recipe: what it is entered with, and the calls before its body.
+fn enter<'m, 'src, H: RunHost + Drop>(
+    alloc: Global,
+    host: &mut Recorded<H>,
+    runner: &Runner<'m, 'src>,
+    call: &Call,
+    is_dependency: bool,
+) -> Result<(Box<Entered<'m, 'src>>, Pending), RunFault<'src>>
+    ensures { IfOk result (λ r. AreBelow call.now.recipe r.1) }
+{
+    let recipes = runner.recipes;
+    let contexts = runner.contexts;
+    let place = call.recipe;
+    if place >= recipes.len() {
+        return Err(lost_recipe(alloc));
+    }
+    let planned = &recipes[place];
+    let module = planned.module;
+    if module >= contexts.len() {
+        return Err(lost_recipe(alloc));
+    }
+    let context = &contexts[module];
+    let placed = Placed { planned, context };
+    enter_placed(alloc, host, runner, &placed, call, is_dependency)
+}
+
+/// Puts the priors on the stack, before the body.
+fn push_entered<'m, 'src>(
+    stack: &mut Stack<'m, 'src>,
+    call: Call,
+    entered: Box<Entered<'m, 'src>>,
+    priors: Pending,
+) -> Result<(), AllocError>
+    ensures { OnOk result (stack.new ≡ Calls priors ∷ Body call ∷ stack.old) }
+{
+    stack.push(Frame::Body { call, entered })?;
+    stack.push(Frame::Calls {
+        pending: priors,
+        are_dependencies: true,
+    })
+}
+
+/// Runs the first of the calls, unless it was done.
+#[tactic(auto, using(crate::proofs::Weights::passed, crate::proofs::Weights::chained, crate::proofs::Weights::entered))]
+fn turn_calls<'m, 'src, H: RunHost + Drop>(
+    alloc: Global,
+    host: &mut Recorded<H>,
+    runner: &Runner<'m, 'src>,
+    stack: &mut Stack<'m, 'src>,
+    done: &Done,
+    mut pending: Pending,
+    are_dependencies: bool,
+) -> Result<(), RunFault<'src>>
+    ensures { OnOk result (weight stack.new < weight (Calls pending ∷ stack.old)) }
+{
+    let Some(call) = pending.next() else {
+        return Ok(());
+    };
+    stack.push(Frame::Calls {
+        pending,
+        are_dependencies,
+    })?;
+    if done.has(&call) {
+        return Ok(());
+    }
+    let (entered, priors) = enter(alloc, host, runner, &call, are_dependencies)?;
+    Ok(push_entered(stack, call, entered, priors)?)
+}
+
+/// Puts the subsequents on the stack, before what follows them, with nothing done.
+fn push_subsequents<'m, 'src>(
+    alloc: Global,
+    stack: &mut Stack<'m, 'src>,
+    done: &mut Done,
+    call: Call,
+    subsequents: Pending,
+) -> Result<(), AllocError>
+    ensures { OnOk result (stack.new ≡ Calls subsequents ∷ After call ∷ stack.old) }
+{
+    let outer = mem::replace(done, Done::new(alloc));
+    stack.push(Frame::After { call, outer })?;
+    stack.push(Frame::Calls {
+        pending: subsequents,
+        are_dependencies: true,
+    })
+}
+
+/// Runs the body of the recipe at the place, and gives the calls behind it.
+fn subsequents<'src, H: RunHost + Drop>(
+    alloc: Global,
+    host: &mut Recorded<H>,
+    runner: &Runner<'_, 'src>,
+    placed: &Placed<'_, 'src>,
+    entered: &Entered<'_, 'src>,
+    place: usize,
+) -> Result<Pending, RunFault<'src>>
+    ensures { IfOk result (AreBelow place) }
+{
+    let calls = end(alloc, host, runner, placed, entered)?;
+    ranked(alloc, calls, place)
+}
+
+/// Runs the body of the recipe at the place, if there is one, and gives the calls behind it.
+fn leave<'src, H: RunHost + Drop>(
+    alloc: Global,
+    host: &mut Recorded<H>,
+    runner: &Runner<'_, 'src>,
+    place: usize,
+    entered: &Entered<'_, 'src>,
+) -> Result<Pending, RunFault<'src>>
+    ensures { IfOk result (AreBelow place) }
+{
+    let recipes = runner.recipes;
+    let contexts = runner.contexts;
+    if place >= recipes.len() {
+        return Err(lost_recipe(alloc));
+    }
+    let planned = &recipes[place];
+    let module = planned.module;
+    if module >= contexts.len() {
+        return Err(lost_recipe(alloc));
+    }
+    let context = &contexts[module];
+    let placed = Placed { planned, context };
+    subsequents(alloc, host, runner, &placed, entered, place)
+}
+
+/// Runs the call's body, and puts what follows it on the stack.
+#[tactic(auto, using(crate::proofs::Weights::behind))]
+fn turn_body<'m, 'src, H: RunHost + Drop>(
+    alloc: Global,
+    host: &mut Recorded<H>,
+    runner: &Runner<'m, 'src>,
+    stack: &mut Stack<'m, 'src>,
+    done: &mut Done,
+    call: Call,
+    entered: &Entered<'m, 'src>,
+) -> Result<(), RunFault<'src>>
+    ensures { OnOk result (weight stack.new < weight (Body call ∷ stack.old)) }
+{
+    let subsequents = leave(alloc, host, runner, call.recipe, entered)?;
+    Ok(push_subsequents(alloc, stack, done, call, subsequents)?)
+}
+
+fn run_stack<'m, 'src, H: RunHost + Drop>(
+    alloc: Global,
+    host: &mut Recorded<H>,
+    runner: &Runner<'m, 'src>,
+    stack: &mut Stack<'m, 'src>,
+    done: &mut Done,
+) -> Result<(), RunFault<'src>> {
+    while let Some(frame) = stack.pop() {
+        match frame {
+            Frame::Calls {
+                pending,
+                are_dependencies,
+            } => turn_calls(
+                alloc,
+                host,
+                runner,
+                stack,
+                &*done,
+                pending,
+                are_dependencies,
+            )?,
+            Frame::Body { call, entered } => {
+                turn_body(alloc, host, runner, stack, done, call, &entered)?;
+            }
+            Frame::After { call, outer } => {
+                let _inner = mem::replace(done, outer);
+                done.join(call)?;
+            }
+        }
+    }
+    Ok(())
+}
+
+/// Runs the calls in order, with nothing done at first: of each that isn't done yet its parameters,
+/// its confirmation, what it depends on, its body, and what follows that, with nothing done at
+/// first. The first failure ends the run.
+pub fn run_calls<'m, 'src, H: RunHost + Drop>(
+    alloc: Global,
+    host: &mut Recorded<H>,
+    runner: &Runner<'m, 'src>,
+    calls: Vec<Call>,
+) -> Result<(), RunFault<'src>> {
+    let mut done = Done::new(alloc);
+    let mut stack = Stack::new(alloc);
+    stack.push(Frame::Calls {
+        pending: Pending::new(calls),
+        are_dependencies: false,
+    })?;
+    run_stack(alloc, host, runner, &mut stack, &mut done)
+}

@@ -1,0 +1,13 @@
+//! Loading files into modules: which files imports and submodules reach.
+#![tactic(auto)]
+
+mod folders;
+mod imports;
+mod items;
+mod load;
+mod nodes;
+mod search;
+mod submodules;
+
+pub use items::items_of;
+pub use load::{Parsed, load_modules, load_root};

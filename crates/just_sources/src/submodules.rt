@@ -1,0 +1,146 @@
+//! The submodules of files.
+
+use crate::imports::key_at;
+use crate::items::{items_of, module_of};
+use crate::nodes::is_above;
+use crate::search::Files;
+use just_compilation::{Compilation, Error, File, ModuleNode, Place, Source};
+use justfile_syntax::{Item, Name, Os};
+use std::alloc::Global;
+
+/// A module that is still to load.
+#[derive(Clone, Copy)]
+pub struct Pending<'src> {
+    pub source: Source<'src>,
+    pub parent: Option<usize>,
+    pub item: Option<Place>,
+    pub name: Option<Name<'src>>,
+}
+
+/// A submodule that a file has, and its file.
+#[derive(Clone, Copy)]
+struct Submodule<'src> {
+    source: Source<'src>,
+    item: usize,
+    name: Name<'src>,
+}
+
+/// Puts the submodule that the item at the place is behind what was found; nothing where it is none, is
+/// disabled, or its file is missing and may be.
+fn add_submodule<'src>(
+    alloc: Global,
+    files: &Files<'_, 'src>,
+    os: Os,
+    key: &str,
+    item: &Item<'src>,
+    place: usize,
+    found: &mut Vec<Submodule<'src>>,
+) -> Result<(), Error<'src>> {
+    let Some(module) = module_of(item, os) else {
+        return Ok(());
+    };
+    if let Some(source) = files.of_module(alloc, key, module)? {
+        found.push(Submodule {
+            source,
+            item: place,
+            name: module.name,
+        })?;
+    }
+    Ok(())
+}
+
+/// The submodules among the items of the file with this key, in their order.
+fn submodules_among<'src>(
+    alloc: Global,
+    files: &Files<'_, 'src>,
+    os: Os,
+    key: &str,
+    items: &[Item<'src>],
+) -> Result<Vec<Submodule<'src>>, Error<'src>> {
+    let mut found = Vec::new(alloc);
+    for place in 0..items.len() {
+        add_submodule(alloc, files, os, key, &items[place], place, &mut found)?;
+    }
+    Ok(found)
+}
+
+/// The submodules of the file at the place, in their order; none where there is no file.
+fn submodules_at<'src>(
+    alloc: Global,
+    files: &Files<'_, 'src>,
+    os: Os,
+    all: &[File<'src>],
+    place: usize,
+) -> Result<Vec<Submodule<'src>>, Error<'src>> {
+    if place >= all.len() {
+        return Ok(Vec::new(alloc));
+    }
+    submodules_among(alloc, files, os, all[place].key, items_of(&all[place]))
+}
+
+/// Puts the submodule of the file at the place, which is one of the module, with those that are still to
+/// load.
+///
+/// Refused as `CircularImport` where its file is that of the module or of one above it.
+fn add_pending<'src>(
+    all: &[File<'src>],
+    modules: &[ModuleNode<'src>],
+    pending: &mut Vec<Pending<'src>>,
+    submodule: Submodule<'src>,
+    file: usize,
+    module: usize,
+) -> Result<(), Error<'src>> {
+    if is_above(modules, module, submodule.source.key) {
+        return Err(Error::CircularImport {
+            current: key_at(all, file),
+            import: submodule.source.key,
+        });
+    }
+    pending.push(Pending {
+        source: submodule.source,
+        parent: Some(module),
+        item: Some(Place {
+            file,
+            item: submodule.item,
+        }),
+        name: Some(submodule.name),
+    })?;
+    Ok(())
+}
+
+/// Puts the submodules of the file at the place, which is one of the module, with those that are still to
+/// load.
+fn find_submodules<'src>(
+    alloc: Global,
+    files: &Files<'_, 'src>,
+    os: Os,
+    compilation: &Compilation<'src>,
+    pending: &mut Vec<Pending<'src>>,
+    place: usize,
+    module: usize,
+) -> Result<(), Error<'src>> {
+    let all = compilation.files.as_slice();
+    let modules = compilation.modules.as_slice();
+    let found = submodules_at(alloc, files, os, all, place)?;
+    for submodule in found.as_slice() {
+        add_pending(all, modules, pending, *submodule, place, module)?;
+    }
+    Ok(())
+}
+
+/// Puts the submodules of the module's files, which are those from the place `first` on, with those that
+/// are still to load.
+pub fn find_all<'src>(
+    alloc: Global,
+    files: &Files<'_, 'src>,
+    os: Os,
+    compilation: &Compilation<'src>,
+    pending: &mut Vec<Pending<'src>>,
+    first: usize,
+    module: usize,
+) -> Result<(), Error<'src>> {
+    for place in first..compilation.files.len() {
+        find_submodules(alloc, files, os, compilation, pending, place, module)?;
+    }
+    Ok(())
+}
