@@ -45,6 +45,15 @@ fn config(alloc: Global) -> Result<Config, AllocError> {
     })
 }
 
+/// Prints what each file is evaluated to.
+fn print_files(rt: &HostRuntime, asked: &Asked<'_>, source: &str) -> Result<()> {
+    for file in source.split("---\n") {
+        let told = evaluated_file(rt.alloc(), asked, file)?;
+        print!(rt; "{told}")?;
+    }
+    Ok(())
+}
+
 fn run(rt: &HostRuntime) -> Result<()> {
     let source = read_source(rt)?;
     let config = config(rt.alloc())?;
@@ -57,11 +66,7 @@ fn run(rt: &HostRuntime) -> Result<()> {
             is_dependency: false,
         }),
     };
-    for file in source.as_str().split("---\n") {
-        let told = evaluated_file(rt.alloc(), &asked, file)?;
-        print!(rt; "{told}")?;
-    }
-    Ok(())
+    print_files(rt, &asked, source.as_str())
 }
 
 fn main(rt: HostRuntime) -> ExitCode {

@@ -1,7 +1,7 @@
 //! The variables of a file, and its first recipe.
 use crate::file::{parsed, refusal};
 use crate::host::{Reply, Scripted};
-use crate::items::{assignments_of, functions_of, unexports_of};
+use crate::items::Items;
 use crate::numbers::number_items;
 use crate::outcome::{push_bindings, push_error, push_outcome};
 use crate::questions::push_questions;
@@ -45,7 +45,7 @@ fn push_evaluated<'src>(
     told: &mut String,
     host: &mut Recorded<Scripted<'_>>,
     asked: &Asked<'_>,
-    items: &[Item<'src>],
+    items: &Items<'_, 'src>,
     context: &ExecutionContext<'_, 'src>,
 ) -> Result<(), AllocError> {
     let mut scope = context.scope.child(alloc)?;
@@ -61,7 +61,7 @@ fn push_asked<'src>(
     alloc: Global,
     told: &mut String,
     asked: &Asked<'_>,
-    items: &[Item<'src>],
+    items: &Items<'_, 'src>,
     context: &ExecutionContext<'_, 'src>,
 ) -> Result<(), AllocError> {
     let replies = asked.replies;
@@ -75,7 +75,7 @@ fn push_rooted<'src>(
     alloc: Global,
     told: &mut String,
     asked: &Asked<'_>,
-    items: &[Item<'src>],
+    items: &Items<'_, 'src>,
     module: &ModuleView<'_, 'src>,
     root: &Scope<'_, 'src>,
 ) -> Result<(), AllocError> {
@@ -97,7 +97,7 @@ fn push_module<'src>(
     alloc: Global,
     told: &mut String,
     asked: &Asked<'_>,
-    items: &[Item<'src>],
+    items: &Items<'_, 'src>,
     module: &ModuleView<'_, 'src>,
 ) -> Result<(), AllocError> {
     let root: Scope<'_, 'src> = Scope::root(alloc)?;
@@ -129,7 +129,7 @@ fn push_parts<'src>(
     alloc: Global,
     told: &mut String,
     asked: &Asked<'_>,
-    items: &[Item<'src>],
+    items: &Items<'_, 'src>,
     assignments: &[AssignmentRef<'_, 'src>],
     functions: &[FunctionRef<'_, 'src>],
     settings: &Settings,
@@ -144,13 +144,13 @@ fn push_set<'src>(
     alloc: Global,
     told: &mut String,
     asked: &Asked<'_>,
-    items: &[Item<'src>],
+    items: &Items<'_, 'src>,
     assignments: &[AssignmentRef<'_, 'src>],
     settings: &Settings,
 ) -> Result<(), AllocError> {
     push_settings(told, settings)?;
-    let functions = functions_of(alloc, items)?;
-    let unexports = unexports_of(alloc, items)?;
+    let functions = items.functions(alloc)?;
+    let unexports = items.unexports(alloc)?;
     push_parts(
         alloc,
         told,
@@ -168,25 +168,36 @@ fn push_items<'src>(
     alloc: Global,
     told: &mut String,
     asked: &Asked<'_>,
-    items: &[Item<'src>],
+    items: &Items<'_, 'src>,
 ) -> Result<(), AllocError> {
-    let assignments = assignments_of(alloc, items)?;
+    let assignments = items.assignments(alloc)?;
     match settings_of(alloc, asked.overrides, items, assignments.as_slice()) {
         Ok(settings) => push_set(alloc, told, asked, items, assignments.as_slice(), &settings),
         Err(error) => push_error(told, &error),
     }
 }
 
-/// What the items are evaluated to, once their variables are numbered.
+/// What the items are evaluated to, whose variables are numbered.
+fn told_items(
+    alloc: Global,
+    asked: &Asked<'_>,
+    items: &Items<'_, '_>,
+) -> Result<String, AllocError> {
+    let mut told = String::new(alloc);
+    push_items(alloc, &mut told, asked, items)?;
+    Ok(told)
+}
+
+/// Numbers the variables of the items, and tells what these are evaluated to.
 fn evaluated_items(
     alloc: Global,
     asked: &Asked<'_>,
     items: &mut [Item],
 ) -> Result<String, AllocError> {
-    number_items(alloc, items)?;
-    let mut told = String::new(alloc);
-    push_items(alloc, &mut told, asked, &*items)?;
-    Ok(told)
+    match number_items(alloc, items) {
+        Ok(()) => told_items(alloc, asked, &Items { items: &*items }),
+        Err(error) => Err(error),
+    }
 }
 
 /// The file's variables in their order, each evaluated, then its first recipe if it is asked for,

@@ -1,5 +1,6 @@
 //! The first recipe of a file: its parameters and its lines.
 use crate::host::Scripted;
+use crate::items::Items;
 use crate::outcome::{push_bindings, push_outcome};
 use justfile_evaluator::{
     BoundParameters, Error, Evaluator, ExecutionContext, Pair, Recorded, Scope, Value,
@@ -175,7 +176,7 @@ pub(crate) fn push_first_recipe<'src>(
     told: &mut String,
     host: &mut Recorded<Scripted<'_>>,
     given: &Given<'_>,
-    items: &[Item<'src>],
+    items: &Items<'_, 'src>,
     context: &ExecutionContext<'_, 'src>,
     scope: &Scope<'_, 'src>,
 ) -> Result<(), AllocError> {
@@ -187,6 +188,6 @@ pub(crate) fn push_first_recipe<'src>(
         scope,
         root: context.root,
     };
-    let outcome = push_first(alloc, told, host, given, items, &context);
+    let outcome = push_first(alloc, told, host, given, items.items, &context);
     push_outcome(told, outcome)
 }

@@ -1,9 +1,9 @@
 //! Constants, settings and overrides of a file.
-use crate::items::sets_of;
+use crate::items::Items;
 use justfile_evaluator::{
     AssignmentRef, ConstEvaluator, Error, Scope, Settings, evaluate_const_assignments,
 };
-use justfile_syntax::{Item, Number};
+use justfile_syntax::Number;
 use std::alloc::{AllocError, Global};
 use std::collections::{BTreeMap, BTreeSet};
 
@@ -63,10 +63,10 @@ fn setting_constants<'a, 'src>(
 pub(crate) fn settings_of<'src>(
     alloc: Global,
     overrides: &[(&str, &str)],
-    items: &[Item<'src>],
+    items: &Items<'_, 'src>,
     assignments: &[AssignmentRef<'_, 'src>],
 ) -> Result<Settings, Error<'src>> {
-    let sets = sets_of(alloc, items)?;
+    let sets = items.sets(alloc)?;
     let root: Scope<'_, 'src> = Scope::root(alloc)?;
     let constants = setting_constants(alloc, overrides, assignments, &root)?;
     constants.evaluate_sets(alloc, sets.as_slice())

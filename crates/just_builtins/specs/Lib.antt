@@ -3,3 +3,5 @@ pub mod Facts
 pub mod Folders
 pub mod Errors
 pub mod Environments
+pub mod Asking
+pub mod Laws

@@ -1,6 +1,8 @@
 //! Questions to the host, and its answers. Each function here asks one question; it is refused
 //! where memory for the record is or was wanting, while memory's fault of the host's own is a fault
 //! like others.
+ghost use Rattle.just_builtins.specs.Asking.{Asks};
+
 use just_functions::FunctionFault;
 use just_host::{Answer, Host, HostFault, Question, Recorded};
 use just_text::Text;
@@ -8,7 +10,9 @@ use just_value::Value;
 use std::alloc::{AllocError, Global};
 
 /// The host's answer.
-fn ask<H: Host + Drop>(host: &mut Recorded<H>, question: &Question) -> Result<Answer, AllocError> {
+fn ask<H: Host + Drop>(host: &mut Recorded<H>, question: &Question) -> Result<Answer, AllocError>
+    ensures asks { Asks H.goes host.old host.new }
+{
     let answer = host.ask(question);
     if host.exhausted() {
         return Err(AllocError);
@@ -58,7 +62,9 @@ pub fn ask_text<H: Host + Drop>(
     alloc: Global,
     host: &mut Recorded<H>,
     question: &Question,
-) -> Result<Result<Text, HostFault>, AllocError> {
+) -> Result<Result<Text, HostFault>, AllocError>
+    ensures asks { Asks H.goes host.old host.new }
+{
     let answer = ask(host, question)?;
     text_of(alloc, answer)
 }
@@ -68,7 +74,9 @@ pub fn ask_optional<H: Host + Drop>(
     alloc: Global,
     host: &mut Recorded<H>,
     question: &Question,
-) -> Result<Result<Option<Text>, HostFault>, AllocError> {
+) -> Result<Result<Option<Text>, HostFault>, AllocError>
+    ensures asks { Asks H.goes host.old host.new }
+{
     let answer = ask(host, question)?;
     optional_of(alloc, answer)
 }
@@ -78,7 +86,9 @@ pub fn ask_truth<H: Host + Drop>(
     alloc: Global,
     host: &mut Recorded<H>,
     question: &Question,
-) -> Result<Result<bool, HostFault>, AllocError> {
+) -> Result<Result<bool, HostFault>, AllocError>
+    ensures asks { Asks H.goes host.old host.new }
+{
     let answer = ask(host, question)?;
     truth_of(alloc, answer)
 }

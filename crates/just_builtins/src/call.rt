@@ -1,4 +1,6 @@
 //! Calls of built-in functions.
+ghost use Rattle.just_builtins.specs.Asking.{Asks};
+
 use crate::error::Error;
 use crate::files;
 use crate::machine::{fact_answer, fact_of, folder_answer, folder_of};
@@ -20,7 +22,9 @@ pub fn call_builtin<'src, H: Host + Drop>(
     site: &CallSite<'_, 'src>,
     function: Function,
     arguments: &[Value],
-) -> Result<Value, Error<'src>> {
+) -> Result<Value, Error<'src>>
+    ensures asks { Asks H.goes host.old host.new }
+{
     let lists = site.context.module.settings.lists;
     if let Some(answer) = pure_answer(alloc, lists, function, arguments) {
         return named(site.name, answer);
@@ -53,7 +57,9 @@ fn asked_answer<H: Host + Drop>(
     site: &CallSite,
     function: Function,
     arguments: &[Value],
-) -> Result<Value, FunctionFault> {
+) -> Result<Value, FunctionFault>
+    ensures asks { Asks H.goes host.old host.new }
+{
     if let Some((folder, words)) = folder_of(function) {
         return folder_answer(alloc, host, folder, words);
     }
@@ -79,7 +85,9 @@ fn environment<H: Host + Drop>(
     host: &mut Recorded<H>,
     site: &CallSite,
     arguments: &[Value],
-) -> Result<Value, FunctionFault> {
+) -> Result<Value, FunctionFault>
+    ensures asks { Asks H.goes host.old host.new }
+{
     let dotenv = site.context.dotenv;
     match arguments.split_first() {
         Some((names, others)) => variable(alloc, host, dotenv, names, others.first()),

@@ -3,6 +3,7 @@ ghost use Rattle.std.specs.Prelude.{◌≡◌, ◌∷◌, IfOk, map, option_map}
 ghost use Rattle.std.specs.String.{string_bytes};
 ghost use Rattle.just_builtins.specs.Environments.{IsEnvironmentIn};
 ghost use Rattle.just_builtins.specs.Shells.{shell_words};
+ghost use Rattle.just_builtins.specs.Asking.{Asks};
 
 use crate::asked::ask_text;
 use crate::context::ExecutionContext;
@@ -104,7 +105,9 @@ pub fn command_output<H: Host + Drop>(
     scope: &Scope,
     command: &str,
     positional: &[String],
-) -> Result<Result<Text, HostFault>, AllocError> {
+) -> Result<Result<Text, HostFault>, AllocError>
+    ensures asks { Asks H.goes host.old host.new }
+{
     let job = expression_job(alloc, context, env, scope, command, positional)?;
     let answer = ask_text(alloc, host, &Question::Command(job))?;
     printed(alloc, answer)
@@ -120,7 +123,9 @@ pub fn run_command<H: Host + Drop>(
     scope: &Scope,
     command: &str,
     positional: &[String],
-) -> Result<Text, HostFault> {
+) -> Result<Text, HostFault>
+    ensures asks { Asks H.goes host.old host.new }
+{
     match command_output(alloc, host, context, env, scope, command, positional) {
         Ok(told) => told,
         Err(_) => Err(HostFault::Memory),

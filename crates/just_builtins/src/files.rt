@@ -1,4 +1,6 @@
 //! Files and programs as built-in functions tell them.
+ghost use Rattle.just_builtins.specs.Asking.{Asks};
+
 use crate::asked::{ask_optional, ask_text, ask_truth, fault_behind, says, text_value};
 use crate::context::ExecutionContext;
 use just_functions::FunctionFault;
@@ -21,7 +23,9 @@ pub(crate) fn read<H: Host + Drop>(
     host: &mut Recorded<H>,
     context: &ExecutionContext,
     path: &str,
-) -> Result<Value, FunctionFault> {
+) -> Result<Value, FunctionFault>
+    ensures asks { Asks H.goes host.old host.new }
+{
     let question = Question::Read(placed(alloc, context, path)?);
     text_behind(alloc, host, &question, "reading", path)
 }
@@ -32,7 +36,9 @@ pub(crate) fn canonicalize<H: Host + Drop>(
     host: &mut Recorded<H>,
     context: &ExecutionContext,
     path: &str,
-) -> Result<Value, FunctionFault> {
+) -> Result<Value, FunctionFault>
+    ensures asks { Asks H.goes host.old host.new }
+{
     let question = Question::Canonicalize(placed(alloc, context, path)?);
     text_behind(alloc, host, &question, "canonicalizing", path)
 }
@@ -44,7 +50,9 @@ fn text_behind<H: Host + Drop>(
     question: &Question,
     doing: &str,
     path: &str,
-) -> Result<Value, FunctionFault> {
+) -> Result<Value, FunctionFault>
+    ensures asks { Asks H.goes host.old host.new }
+{
     match ask_text(alloc, host, question)? {
         Ok(text) => text_value(alloc, text),
         Err(fault) => Err(says(format!(in alloc; "I/O error {doing} `{path}`: {fault}"))),
@@ -57,7 +65,9 @@ pub(crate) fn path_exists<H: Host + Drop>(
     host: &mut Recorded<H>,
     context: &ExecutionContext,
     path: &str,
-) -> Result<Value, FunctionFault> {
+) -> Result<Value, FunctionFault>
+    ensures asks { Asks H.goes host.old host.new }
+{
     let lists = context.module.settings.lists;
     if path.is_empty() {
         return Ok(boolean(alloc, lists, false)?);
@@ -89,7 +99,9 @@ pub(crate) fn which<H: Host + Drop>(
     host: &mut Recorded<H>,
     context: &ExecutionContext,
     name: &str,
-) -> Result<Value, FunctionFault> {
+) -> Result<Value, FunctionFault>
+    ensures asks { Asks H.goes host.old host.new }
+{
     let question = program(alloc, context, name)?;
     match ask_optional(alloc, host, &question)? {
         Ok(Some(path)) => text_value(alloc, path),
@@ -104,7 +116,9 @@ pub(crate) fn require<H: Host + Drop>(
     host: &mut Recorded<H>,
     context: &ExecutionContext,
     name: &str,
-) -> Result<Value, FunctionFault> {
+) -> Result<Value, FunctionFault>
+    ensures asks { Asks H.goes host.old host.new }
+{
     let question = program(alloc, context, name)?;
     match ask_optional(alloc, host, &question)? {
         Ok(Some(path)) => text_value(alloc, path),

@@ -1,6 +1,7 @@
 //! Facts of the machine.
 ghost use Rattle.std.specs.Prelude.{◌≡◌, option_map};
 ghost use Rattle.just_builtins.specs.Facts as spec;
+ghost use Rattle.just_builtins.specs.Asking.{Asks};
 
 use crate::asked::{ask_optional, ask_text, fault_behind, says, text_value};
 use just_functions::{Function, FunctionFault};
@@ -43,7 +44,9 @@ pub(crate) fn folder_answer<H: Host + Drop>(
     host: &mut Recorded<H>,
     fact: MachineFact,
     words: &str,
-) -> Result<Value, FunctionFault> {
+) -> Result<Value, FunctionFault>
+    ensures asks { Asks H.goes host.old host.new }
+{
     match ask_optional(alloc, host, &Question::Fact(fact))? {
         Ok(Some(folder)) => text_value(alloc, folder),
         Ok(None) => Err(says(format!(in alloc; "{words} directory not found"))),
@@ -56,7 +59,9 @@ pub(crate) fn fact_answer<H: Host + Drop>(
     alloc: Global,
     host: &mut Recorded<H>,
     fact: MachineFact,
-) -> Result<Value, FunctionFault> {
+) -> Result<Value, FunctionFault>
+    ensures asks { Asks H.goes host.old host.new }
+{
     match ask_text(alloc, host, &Question::Fact(fact))? {
         Ok(text) => text_value(alloc, text),
         Err(fault) => Err(fault_behind(alloc, "", &fault)),

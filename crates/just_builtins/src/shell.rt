@@ -1,4 +1,6 @@
 //! The function that runs a command.
+ghost use Rattle.just_builtins.specs.Asking.{Asks};
+
 use crate::asked::{fault_behind, text_value};
 use crate::command::command_output;
 use crate::site::CallSite;
@@ -14,7 +16,9 @@ pub(crate) fn shell<H: Host + Drop>(
     host: &mut Recorded<H>,
     site: &CallSite,
     arguments: &[Value],
-) -> Result<Value, FunctionFault> {
+) -> Result<Value, FunctionFault>
+    ensures asks { Asks H.goes host.old host.new }
+{
     if site.context.config.dry_run {
         return Ok(unrun(alloc, arguments)?);
     }

@@ -1,4 +1,6 @@
 //! Variables of the environment as built-in functions tell them.
+ghost use Rattle.just_builtins.specs.Asking.{Asks};
+
 use crate::asked::{ask_optional, fault_behind, says};
 use just_functions::FunctionFault;
 use just_host::{Host, HostFault, Question, Recorded};
@@ -16,7 +18,9 @@ pub(crate) fn variable<H: Host + Drop>(
     dotenv: &BTreeMap<String, String>,
     names: &Value,
     default: Option<&Value>,
-) -> Result<Value, FunctionFault> {
+) -> Result<Value, FunctionFault>
+    ensures asks { Asks H.goes host.old host.new }
+{
     for name in names.elements() {
         if let Some(value) = looked_up(alloc, host, dotenv, name)? {
             return Ok(Value::from_string(alloc, value)?);
@@ -38,7 +42,9 @@ fn looked_up<H: Host + Drop>(
     host: &mut Recorded<H>,
     dotenv: &BTreeMap<String, String>,
     name: &String,
-) -> Result<Option<String>, FunctionFault> {
+) -> Result<Option<String>, FunctionFault>
+    ensures asks { Asks H.goes host.old host.new }
+{
     match dotenv.get(name) {
         Some(value) => Ok(Some(value.clone()?)),
         None => in_environment(alloc, host, name.as_str()),
@@ -50,7 +56,9 @@ fn in_environment<H: Host + Drop>(
     alloc: Global,
     host: &mut Recorded<H>,
     name: &str,
-) -> Result<Option<String>, FunctionFault> {
+) -> Result<Option<String>, FunctionFault>
+    ensures asks { Asks H.goes host.old host.new }
+{
     let question = Question::Environment(Text::from_text(alloc, name)?);
     match ask_optional(alloc, host, &question)? {
         Ok(Some(text)) => Ok(Some(text.into_string())),

@@ -2,6 +2,7 @@
 ghost use Rattle.std.specs.Prelude.{◌≤◌, IfSome};
 ghost use Rattle.just_expression_tree.specs.declared.expression.Expression.{size-Expression};
 ghost use Rattle.just_evaluation.specs.Calls.{functions_of, largest};
+ghost use Rattle.just_builtins.specs.Asking.{Asks};
 
 use crate::functions::parameter_scope;
 use crate::operations::{
@@ -161,7 +162,9 @@ impl<'run, 'src> Evaluator<'run, 'src> {
         host: &mut Recorded<H>,
         contents: &Text,
         token: Token<'src>,
-    ) -> Result<Value, Error<'src>> {
+    ) -> Result<Value, Error<'src>>
+        ensures asks { Asks H.goes host.old host.new }
+    {
         let Stage::Run(context) = self.stage else {
             return Err(not_const(ConstError::Backtick(token)));
         };
@@ -190,7 +193,9 @@ impl<'run, 'src> Evaluator<'run, 'src> {
         function: Function,
         name: Name<'src>,
         values: &[Value],
-    ) -> Result<Value, Error<'src>> {
+    ) -> Result<Value, Error<'src>>
+        ensures asks { Asks H.goes host.old host.new }
+    {
         let site = CallSite {
             context,
             env: self.env,
@@ -210,7 +215,9 @@ impl<'run, 'src> Evaluator<'run, 'src> {
         alloc: Global,
         host: &mut Recorded<H>,
         expression: &Expression<'src>,
-    ) -> Result<Value, Error<'src>> {
+    ) -> Result<Value, Error<'src>>
+        ensures asks { Asks H.goes host.old host.new }
+    {
         match expression {
             Expression::And { lhs, rhs } => self.evaluate_and(alloc, host, lhs, rhs),
             Expression::Or { lhs, rhs } => self.evaluate_or(alloc, host, lhs, rhs),
@@ -287,7 +294,9 @@ impl<'run, 'src> Evaluator<'run, 'src> {
         host: &mut Recorded<H>,
         lhs: &Expression<'src>,
         rhs: &Expression<'src>,
-    ) -> Result<Value, Error<'src>> {
+    ) -> Result<Value, Error<'src>>
+        ensures asks { Asks H.goes host.old host.new }
+    {
         let value = self.evaluate_value(alloc, host, lhs)?;
         if value.is_truthy() {
             self.evaluate_value(alloc, host, rhs)
@@ -304,7 +313,9 @@ impl<'run, 'src> Evaluator<'run, 'src> {
         host: &mut Recorded<H>,
         lhs: &Expression<'src>,
         rhs: &Expression<'src>,
-    ) -> Result<Value, Error<'src>> {
+    ) -> Result<Value, Error<'src>>
+        ensures asks { Asks H.goes host.old host.new }
+    {
         let value = self.evaluate_value(alloc, host, lhs)?;
         if value.is_truthy() {
             Ok(value)
@@ -320,7 +331,9 @@ impl<'run, 'src> Evaluator<'run, 'src> {
         alloc: Global,
         host: &mut Recorded<H>,
         operand: &Expression<'src>,
-    ) -> Result<Value, Error<'src>> {
+    ) -> Result<Value, Error<'src>>
+        ensures asks { Asks H.goes host.old host.new }
+    {
         let value = self.evaluate_value(alloc, host, operand)?;
         truth_value(alloc, value.is_empty())
     }
@@ -333,7 +346,9 @@ impl<'run, 'src> Evaluator<'run, 'src> {
         host: &mut Recorded<H>,
         message: &Expression<'src>,
         name: Name<'src>,
-    ) -> Result<Value, Error<'src>> {
+    ) -> Result<Value, Error<'src>>
+        ensures asks { Asks H.goes host.old host.new }
+    {
         let message = self.evaluate_value(alloc, host, message)?;
         Err(message_failed(alloc, &message, name))
     }
@@ -345,7 +360,9 @@ impl<'run, 'src> Evaluator<'run, 'src> {
         alloc: Global,
         host: &mut Recorded<H>,
         condition: &Expression<'src>,
-    ) -> Result<bool, Error<'src>> {
+    ) -> Result<bool, Error<'src>>
+        ensures asks { Asks H.goes host.old host.new }
+    {
         let Expression::Comparison {
             lhs,
             operator,
@@ -369,7 +386,9 @@ impl<'run, 'src> Evaluator<'run, 'src> {
         operator: ConditionalOperator,
         rhs: &Expression<'src>,
         token: Token<'src>,
-    ) -> Result<bool, Error<'src>> {
+    ) -> Result<bool, Error<'src>>
+        ensures asks { Asks H.goes host.old host.new }
+    {
         let sides = self.evaluate_sides(alloc, host, lhs, rhs)?;
         compared(&sides, operator, token)
     }
@@ -384,7 +403,9 @@ impl<'run, 'src> Evaluator<'run, 'src> {
         operator: ListOperator,
         rhs: &Expression<'src>,
         token: Token<'src>,
-    ) -> Result<Value, Error<'src>> {
+    ) -> Result<Value, Error<'src>>
+        ensures asks { Asks H.goes host.old host.new }
+    {
         let sides = self.evaluate_sides(alloc, host, lhs, rhs)?;
         applied(alloc, &sides, operator, token)
     }
@@ -397,7 +418,9 @@ impl<'run, 'src> Evaluator<'run, 'src> {
         host: &mut Recorded<H>,
         rhs: &Expression<'src>,
         token: Token<'src>,
-    ) -> Result<Value, Error<'src>> {
+    ) -> Result<Value, Error<'src>>
+        ensures asks { Asks H.goes host.old host.new }
+    {
         let right = self.evaluate_value(alloc, host, rhs)?;
         joined_to_nothing(alloc, right, token)
     }
@@ -410,7 +433,9 @@ impl<'run, 'src> Evaluator<'run, 'src> {
         host: &mut Recorded<H>,
         lhs: &Expression<'src>,
         rhs: &Expression<'src>,
-    ) -> Result<Value, Error<'src>> {
+    ) -> Result<Value, Error<'src>>
+        ensures asks { Asks H.goes host.old host.new }
+    {
         let Sides { mut left, right } = self.evaluate_sides(alloc, host, lhs, rhs)?;
         left.append(right)?;
         Ok(left)
@@ -424,7 +449,9 @@ impl<'run, 'src> Evaluator<'run, 'src> {
         host: &mut Recorded<H>,
         lhs: &Expression<'src>,
         rhs: &Expression<'src>,
-    ) -> Result<Sides, Error<'src>> {
+    ) -> Result<Sides, Error<'src>>
+        ensures asks { Asks H.goes host.old host.new }
+    {
         let left = self.evaluate_value(alloc, host, lhs)?;
         let right = self.evaluate_value(alloc, host, rhs)?;
         Ok(Sides { left, right })
@@ -437,7 +464,9 @@ impl<'run, 'src> Evaluator<'run, 'src> {
         alloc: Global,
         host: &mut Recorded<H>,
         elements: &[Expression<'src>],
-    ) -> Result<Value, Error<'src>> {
+    ) -> Result<Value, Error<'src>>
+        ensures asks { Asks H.goes host.old host.new }
+    {
         let mut list = Value::new(alloc);
         for element in elements {
             let value = self.evaluate_value(alloc, host, element)?;
@@ -455,7 +484,9 @@ impl<'run, 'src> Evaluator<'run, 'src> {
         host: &mut Recorded<H>,
         start: &StringLiteral<'src>,
         expressions: &[(Expression<'src>, StringLiteral<'src>)],
-    ) -> Result<Value, Error<'src>> {
+    ) -> Result<Value, Error<'src>>
+        ensures asks { Asks H.goes host.old host.new }
+    {
         let mut text = String::from_str(alloc, start.cooked.as_str())?;
         for (expression, part) in expressions {
             let value = self.evaluate_value(alloc, host, expression)?;
@@ -472,7 +503,9 @@ impl<'run, 'src> Evaluator<'run, 'src> {
         host: &mut Recorded<H>,
         name: Name<'src>,
         arguments: &[Expression<'src>],
-    ) -> Result<Value, Error<'src>> {
+    ) -> Result<Value, Error<'src>>
+        ensures asks { Asks H.goes host.old host.new }
+    {
         let Stage::Run(context) = self.stage else {
             return Err(not_const(ConstError::FunctionCall(name)));
         };
@@ -494,6 +527,7 @@ impl<'run, 'src> Evaluator<'run, 'src> {
         arguments: &[Expression<'src>],
     ) -> Result<Value, Error<'src>>
         requires { size-Expression function.now.body ≤ largest (functions_of self.now.stage) }
+        ensures asks { Asks H.goes host.old host.new }
     {
         if self.calls_left == 0 {
             return Err(Error::RecursionLimit {
@@ -523,7 +557,9 @@ impl<'run, 'src> Evaluator<'run, 'src> {
         alloc: Global,
         host: &mut Recorded<H>,
         expressions: &[Expression<'src>],
-    ) -> Result<Vec<Value>, Error<'src>> {
+    ) -> Result<Vec<Value>, Error<'src>>
+        ensures asks { Asks H.goes host.old host.new }
+    {
         let mut values = Vec::new(alloc);
         for expression in expressions {
             values.push(self.evaluate_value(alloc, host, expression)?)?;
@@ -540,7 +576,9 @@ impl<'run, 'src> Evaluator<'run, 'src> {
         context: &ExecutionContext<'_, 'src>,
         name: Name<'src>,
         arguments: &[Expression<'src>],
-    ) -> Result<Value, Error<'src>> {
+    ) -> Result<Value, Error<'src>>
+        ensures asks { Asks H.goes host.old host.new }
+    {
         let Some(function) = Function::get(name.lexeme()) else {
             return Err(internal(alloc, "unknown function"));
         };
@@ -558,7 +596,9 @@ impl<'run, 'src> Evaluator<'run, 'src> {
         function: Function,
         name: Name<'src>,
         arguments: &[Expression<'src>],
-    ) -> Result<Vec<Value>, Error<'src>> {
+    ) -> Result<Vec<Value>, Error<'src>>
+        ensures asks { Asks H.goes host.old host.new }
+    {
         let mut values = Vec::new(alloc);
         for expression in arguments {
             let value = self.evaluate_value(alloc, host, expression)?;
@@ -575,7 +615,9 @@ impl<'run, 'src> Evaluator<'run, 'src> {
         host: &mut Recorded<H>,
         expression: &Expression<'src>,
         context: StringContext<'src>,
-    ) -> Result<String, Error<'src>> {
+    ) -> Result<String, Error<'src>>
+        ensures asks { Asks H.goes host.old host.new }
+    {
         let value = self.evaluate_value(alloc, host, expression)?;
         only_text(alloc, value, context)
     }

@@ -1,4 +1,6 @@
 //! Lines of bodies.
+ghost use Rattle.just_builtins.specs.Asking.{Asks};
+
 use crate::evaluator::Evaluator;
 use just_builtins::Error;
 use just_host::{Host, Recorded};
@@ -30,7 +32,9 @@ impl<'run, 'src> Evaluator<'run, 'src> {
         line: &mut String,
         fragment: &Fragment<'src>,
         is_trimmed: bool,
-    ) -> Result<(), Error<'src>> {
+    ) -> Result<(), Error<'src>>
+        ensures asks { Asks H.goes host.old host.new }
+    {
         match fragment {
             Fragment::Text { token } => Ok(push_text(alloc, line, token.lexeme(), is_trimmed)?),
             Fragment::Interpolation { expression } => {
@@ -49,7 +53,9 @@ impl<'run, 'src> Evaluator<'run, 'src> {
         host: &mut Recorded<H>,
         line: &Line<'src>,
         continued: bool,
-    ) -> Result<String, Error<'src>> {
+    ) -> Result<String, Error<'src>>
+        ensures asks { Asks H.goes host.old host.new }
+    {
         let mut text = String::new(alloc);
         let mut is_trimmed = continued;
         for fragment in &line.fragments {

@@ -1,7 +1,7 @@
 //! From texts to modules.
 
 use crate::definition::{Definition, Kind, definitions};
-use crate::files::ModuleFiles;
+use crate::files::FileRange;
 use crate::keep::{kept, put_all};
 use crate::rules::check_items;
 use crate::truths::Truths;
@@ -61,70 +61,65 @@ fn check_exports<'src>(
     Ok(())
 }
 
-/// Refuses the first item of the module's files that breaks a rule.
+/// Refuses the first item of the files of the range that breaks a rule.
 fn check_files<'src>(
-    files: ModuleFiles<'_, 'src>,
+    files: &[File<'src>],
+    range: FileRange,
     truths: &Truths,
     os: Os,
 ) -> Result<(), Error<'src>> {
-    for place in files.first..files.end {
-        if place < files.all.len() {
-            check_items(items_of(&files.all[place]), truths, os)?;
+    for place in range.first..range.end {
+        if place < files.len() {
+            check_items(items_of(&files[place]), truths, os)?;
         }
     }
     Ok(())
 }
 
-/// What the module keeps of its definitions, where they and its files break no rule.
+/// What the module keeps of its definitions, where they and its files, which are those of the range,
+/// break no rule.
 fn kept_of<'src>(
     alloc: Global,
-    unstable: bool,
-    os: Os,
-    files: ModuleFiles<'_, 'src>,
+    files: &[File<'src>],
+    range: FileRange,
     definitions: &[Definition<'src>],
+    config: &Config,
 ) -> Result<Vec<Definition<'src>>, Error<'src>> {
-    let truths = Truths::new(files.all, definitions, unstable);
-    check_files(files, &truths, os)?;
-    check_exports(alloc, files.all, definitions)?;
+    let truths = Truths::new(files, definitions, config.unstable);
+    check_files(files, range, &truths, config.os)?;
+    check_exports(alloc, files, definitions)?;
     kept(alloc, definitions, &truths)
 }
 
 /// What the module at the place keeps; nothing where there is no module.
 fn kept_at<'src>(
     alloc: Global,
-    config: &Config,
-    all: &[File<'src>],
+    files: &[File<'src>],
     modules: &[ModuleNode<'src>],
     place: usize,
+    config: &Config,
 ) -> Result<Vec<Definition<'src>>, Error<'src>> {
     if place >= modules.len() {
         return Ok(Vec::new(alloc));
     }
-    let files = ModuleFiles {
-        all,
+    let range = FileRange {
         first: modules[place].first_file,
         end: modules[place].end_file,
     };
     let submodules = modules[place].submodules.as_slice();
-    let definitions = definitions(alloc, files, modules, submodules, config.os)?;
-    kept_of(
-        alloc,
-        config.unstable,
-        config.os,
-        files,
-        definitions.as_slice(),
-    )
+    let definitions = definitions(alloc, files, range, modules, submodules, config.os)?;
+    kept_of(alloc, files, range, definitions.as_slice(), config)
 }
 
 /// Fills the lists of the module at the place.
 fn keep<'src>(
     alloc: Global,
-    config: &Config,
     compilation: &mut Compilation<'src>,
     place: usize,
+    config: &Config,
 ) -> Result<(), Error<'src>> {
     let files = compilation.files.as_slice();
-    let kept = kept_at(alloc, config, files, compilation.modules.as_slice(), place)?;
+    let kept = kept_at(alloc, files, compilation.modules.as_slice(), place, config)?;
     if let Some(node) = compilation.modules.get_mut(place) {
         put_all(node, kept.as_slice())?;
     }
@@ -134,11 +129,11 @@ fn keep<'src>(
 /// Fills the lists of all modules.
 fn keep_all<'src>(
     alloc: Global,
-    config: &Config,
     compilation: &mut Compilation<'src>,
+    config: &Config,
 ) -> Result<(), Error<'src>> {
     for place in 0..compilation.modules.len() {
-        keep(alloc, config, compilation, place)?;
+        keep(alloc, compilation, place, config)?;
     }
     Ok(())
 }
@@ -216,10 +211,10 @@ fn check_all_aliases<'src>(compilation: &Compilation<'src>) -> Result<(), Error<
 /// Fills the lists of all modules, and looks at what aliases stand for.
 fn settle<'src>(
     alloc: Global,
-    config: &Config,
     compilation: &mut Compilation<'src>,
+    config: &Config,
 ) -> Result<(), Error<'src>> {
-    keep_all(alloc, config, compilation)?;
+    keep_all(alloc, compilation, config)?;
     check_all_aliases(compilation)
 }
 
@@ -231,7 +226,7 @@ fn settled<'src>(
 ) -> Result<Compilation<'src>, Error<'src>> {
     match loaded {
         Ok(mut compilation) => {
-            let outcome = settle(alloc, config, &mut compilation);
+            let outcome = settle(alloc, &mut compilation, config);
             compilation.unless_refused(outcome)
         }
         Err(error) => Err(error),

@@ -1,7 +1,7 @@
 //! What the files of a module define.
 
-use crate::files::ModuleFiles;
-use just_compilation::{ModuleNode, Place};
+use crate::files::FileRange;
+use just_compilation::{File, ModuleNode, Place};
 use just_sources::items_of;
 use justfile_syntax::{Item, Name, Os};
 use std::alloc::{AllocError, Global};
@@ -80,7 +80,7 @@ struct Named<'src> {
 }
 
 /// What an item defines under this operating system, but for submodules.
-fn named<'src>(item: &Item<'src>, os: Os) -> Option<Named<'src>> {
+fn name_of<'src>(item: &Item<'src>, os: Os) -> Option<Named<'src>> {
     let (kind, name) = match item {
         Item::Alias(alias) => (Kind::Alias, alias.name),
         Item::Assignment(assignment) if assignment.attributes.is_enabled(os) => {
@@ -103,7 +103,7 @@ fn add_item<'src>(
     place: Place,
     os: Os,
 ) -> Result<(), AllocError> {
-    if let Some(named) = named(item, os) {
+    if let Some(named) = name_of(item, os) {
         found.push(Definition::new(named.kind, named.name, place))?;
     }
     Ok(())
@@ -122,15 +122,16 @@ fn add_items<'src>(
     Ok(())
 }
 
-/// Puts what the files define behind what was found.
+/// Puts what the files of the range define behind what was found.
 fn add_files<'src>(
     found: &mut Vec<Definition<'src>>,
-    files: ModuleFiles<'_, 'src>,
+    files: &[File<'src>],
+    range: FileRange,
     os: Os,
 ) -> Result<(), AllocError> {
-    for place in files.first..files.end {
-        if place < files.all.len() {
-            add_items(found, items_of(&files.all[place]), place, os)?;
+    for place in range.first..range.end {
+        if place < files.len() {
+            add_items(found, items_of(&files[place]), place, os)?;
         }
     }
     Ok(())
@@ -161,17 +162,18 @@ fn add_submodules<'src>(
     Ok(())
 }
 
-/// What the files of a module and its submodules, which stand at these places of all modules, define, in
+/// What the files of a module, which are those of the range, and its submodules, which stand at these places of all modules, define, in
 /// order. Refused only where memory is.
 pub fn definitions<'src>(
     alloc: Global,
-    files: ModuleFiles<'_, 'src>,
+    files: &[File<'src>],
+    range: FileRange,
     modules: &[ModuleNode<'src>],
     submodules: &[usize],
     os: Os,
 ) -> Result<Vec<Definition<'src>>, AllocError> {
     let mut found = Vec::new(alloc);
-    add_files(&mut found, files, os)?;
+    add_files(&mut found, files, range, os)?;
     add_submodules(&mut found, modules, submodules)?;
     found.sort()?;
     Ok(found)

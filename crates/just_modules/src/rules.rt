@@ -98,7 +98,7 @@ struct Conflict {
 }
 
 /// The first two things of a recipe that exclude one another.
-fn conflict(recipe: &Recipe<'_, UnresolvedDependency<'_>>) -> Option<Conflict> {
+fn first_conflict(recipe: &Recipe<'_, UnresolvedDependency<'_>>) -> Option<Conflict> {
     let attributes = &recipe.attributes;
     let (one, other) = if attributes.contains(AttributeKind::NoCd)
         && attributes.contains(AttributeKind::WorkingDirectory)
@@ -127,7 +127,7 @@ fn is_script(recipe: &Recipe<'_, UnresolvedDependency<'_>>, truths: &Truths) -> 
 fn check_attributes<'src>(
     recipe: &Recipe<'src, UnresolvedDependency<'src>>,
 ) -> Result<(), Error<'src>> {
-    match conflict(recipe) {
+    match first_conflict(recipe) {
         Some(Conflict { one, other }) => Err(Error::AttributeConflict {
             recipe: recipe.name,
             one,

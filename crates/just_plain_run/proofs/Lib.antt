@@ -6,14 +6,11 @@ pub mod Owed
 pub mod OrderPlaces
 pub mod StackTurns
 pub mod Once
-pub mod Marking
 pub mod Places
-pub mod Walking
-pub mod Steps
-pub mod Work
+pub mod Naming
 pub mod Listing
+pub mod Planning
 pub mod Ranks
-pub mod Turns
 pub mod Checked
 pub mod Invoked
 pub mod Driven

@@ -1,14 +1,13 @@
 -- Elements of a list by their places, and the first of a name.
 use Rattle.std.proofs.Common.{◌≡◌, ◌⊎◌, inl, inr, sym, ◌∙◌, ap, subst, cond, Bool, true, false, List, [], ◌∷◌, ◌++◌, ℕ, zero, suc, ◌+◌, ◌<◌, Option, Some, None, refl, arith, length, map, take, drop, get_or}
-use Rattle.std.specs.Prelude.{slice_get, find, Contains, option_map, is_some, OnOk, Result, Ok, Err}
-use Rattle.std.specs.List.{All}
+use Rattle.std.specs.Prelude.{slice_get, find, Contains, option_map, is_some}
 use Rattle.std.specs.Str.{bytes_eq}
 use Rattle.std.proofs.lemmas.Option.{none-some, same_Some, slice_get-map, slice_get_within, slice_get-get_or, slice_get_read, get_or_from_slice_get}
 use Rattle.std.proofs.lemmas.List.{take-append-drop, drop_more}
-use Rattle.std.proofs.lemmas.List.Elements.{All-head, All-tail}
 use Rattle.std.proofs.lemmas.Slice.Eq.{bytes_eq-Decides}
 use Rattle.just_plain.specs.Shape.{RecipeShape}
 use Rattle.just_plain_run.specs.Recipes.{recipe_named, IsRedefined}
+use Rattle.just_plain_run.specs.Names.{AreUnique}
 
 pub option_cases : {X : Type 0} (o : Option X) → (o ≡ None) ⊎ ((x : X) × (o ≡ Some x))
 option_cases None = inl refl
@@ -25,10 +24,6 @@ some_from_test (Some x) e = (x, refl)
 bool_cases : (b : Bool) → (b ≡ true) ⊎ (b ≡ false)
 bool_cases true = inl refl
 bool_cases false = inr refl
-
-pub on_ok_all : {T E P Q R S : Type 0} (r : Result T E) → OnOk r P → OnOk r Q → OnOk r R → (P → Q → R → S) → OnOk r S
-on_ok_all (Ok x) p q r f = f p q r
-on_ok_all (Err e) p q r f = tt
 
 -- ---- one more element
 
@@ -54,10 +49,10 @@ pub push_here : {X : Type 0} (xs : List X) (x : X) (ys : List X) → slice_get (
 push_here [] x ys = refl
 push_here (z ∷ zs) x ys = push_here zs x ys
 
-pub get_left : {X : Type 0} (xs ys : List X) (k : ℕ) → k < length xs → slice_get (xs ++ ys) k ≡ slice_get xs k
-get_left [] ys k h = absurd (omega arith)
-get_left (z ∷ zs) ys zero h = refl
-get_left (z ∷ zs) ys (suc k) h = get_left zs ys k (omega arith)
+pub some_at : {X : Type 0} (xs : List X) (k : ℕ) → k < length xs → (x : X) × (slice_get xs k ≡ Some x)
+some_at [] k lt = absurd (omega arith)
+some_at (x ∷ xs) zero lt = (x, refl)
+some_at (x ∷ xs) (suc k) lt = some_at xs k (omega arith)
 
 -- ---- what is contained stands at some place
 
@@ -80,16 +75,6 @@ place_of_image f xs y h =
 pub split_at : {X : Type 0} (xs : List X) (i : ℕ) (x : X) → slice_get xs i ≡ Some x → xs ≡ take i xs ++ x ∷ drop (i + 1) xs
 split_at xs i x e =
     sym (take-append-drop i xs) ∙ ap (λ ys. take i xs ++ ys) (drop_more xs i x (slice_get_within xs i x e) ∙ ap (λ y. y ∷ drop (i + 1) xs) (get_or_from_slice_get xs i x x e))
-
--- ---- images that agree below a bound
-
-pub map_same : (f g : ℕ → List ℕ) (n : ℕ) → ((j : ℕ) → j < n → f j ≡ g j) → (js : List ℕ) → All (λ j. j < n) js → map f js ≡ map g js
-map_same f g n h [] a = refl
-map_same f g n h (j ∷ js) a =
-    let below : (k : ℕ) → Type 0 = λ k. k < n in
-    let e : f j ≡ g j = h j (All-head below j js a) in
-    let es : map f js ≡ map g js = map_same f g n h js (All-tail below j js a) in
-    ap (λ x. x ∷ map f js) e ∙ ap (λ xs. g j ∷ xs) es
 
 -- ---- the first that passes
 
@@ -121,10 +106,6 @@ not_named rs name k r e at is =
     let t : bytes_eq r.name name ≡ true = (bytes_eq-Decides r.name name).1 is in
     let f : bytes_eq r.name name ≡ false = find_none (λ s. bytes_eq s.name name) rs e k r at in
     cc
-
--- no two recipes have one name
-pub record AreUnique (rs : List RecipeShape) : Type 0 where
-  pub same : (i j : ℕ) (r s : RecipeShape) → slice_get rs i ≡ Some r → slice_get rs j ≡ Some s → r.name ≡ s.name → i ≡ j
 
 pub named_at : {rs : List RecipeShape} → AreUnique rs → (i : ℕ) (r : RecipeShape) → slice_get rs i ≡ Some r → recipe_named rs r.name ≡ Some r
 named_at {rs} u i r at = elim (option_cases (recipe_named rs r.name)) [

@@ -1,39 +1,13 @@
--- What an order rules out, and when a search has found one.
-use Rattle.std.proofs.Common.{◌≡◌, inl, inr, sym, ◌∙◌, ap, subst, List, [], ◌∷◌, ℕ, ◌+◌, ◌-◌, ◌<◌, ◌≤◌, Option, Some, arith, length, get_or}
+-- What an order rules out.
+use Rattle.std.proofs.Common.{◌≡◌, sym, ◌∙◌, ap, subst, List, [], ◌∷◌, ℕ, ◌+◌, ◌-◌, ◌<◌, ◌≤◌, Some, arith, length, get_or}
 use Rattle.std.specs.Prelude.{slice_get, Contains}
 use Rattle.std.proofs.lemmas.Option.{none-some, same_Some, slice_get_within, slice_get-get_or}
 use Rattle.std.proofs.lemmas.List.Elements.{All-contains}
 use Rattle.just_plain.specs.Shape.{RecipeShape}
 use Rattle.just_plain_run.specs.Recipes.{recipe_named, Walks, IsUnknownDependency, IsCircle}
 use Rattle.just_plain_run.specs.Order.{PlannedShape, IsOrder, name_at, name_or_empty}
-use Rattle.just_plain_run.specs.Search.{IsSearch, AreLookedAt}
-use Rattle.just_plain_run.specs.declared.marks.Mark.{Mark}
-use Rattle.just_plain_run.specs.declared.marks.Mark.TheVariants.{New, Open, Done}
-use Rattle.just_plain_run.proofs.Places.{AreUnique, option_cases, contains_at, place_of, place_of_image, named, named_at}
-
--- ---- when each recipe was looked at and none waits
-
-placed_by : {rs : List RecipeShape} {marks : List ℕ → Option Mark} {order : List PlannedShape} → IsSearch rs marks [] order → AreLookedAt rs marks (length rs)
-    → (name : List ℕ) (r : RecipeShape) → recipe_named rs name ≡ Some r → (mark : Mark) → marks name ≡ Some mark → (i : ℕ) × (p : PlannedShape) × (slice_get order i ≡ Some p) × (p.shape ≡ r)
-placed_by {rs} {marks} s looked name r is (New i) e =
-    let x = s.new name i e in
-    absurd (looked i x.0 i (slice_get_within rs i x.0 x.1) x.1 (ap marks x.2 ∙ e))
-placed_by s looked name r is (Open k) e = let x = s.stacked name k e in absurd (none-some x.0 x.1)
-placed_by {rs} s looked name r is (Done i) e =
-    let x = s.placed.there name i e in
-    (i, x.0, x.1, same_Some x.0.shape r (sym (s.behind i x.0 x.1).known ∙ ap (recipe_named rs) x.2 ∙ is))
-
-pub search_orders : {rs : List RecipeShape} {marks : List ℕ → Option Mark} {order : List PlannedShape} → IsSearch rs marks [] order → AreLookedAt rs marks (length rs) → IsOrder rs order
-search_orders {rs} {marks} {order} s looked = record {
-  ranked = λ i p e. (s.behind i p e).ranked;
-  known = λ i p e. (s.behind i p e).known;
-  linked = λ i p e. (s.behind i p e).linked;
-  distinct = λ i j p q e f same. let x : Some (Done i) ≡ Some (Done j) = sym (s.placed.marked i p e) ∙ ap marks same ∙ s.placed.marked j q f in cc;
-  complete = λ name r is. elim (option_cases (marks name)) [
-    | inl none ↦ absurd (none-some r (sym (s.absent name none) ∙ is))
-    | inr some ↦ placed_by s looked name r is some.0 some.1
-  ];
-}
+use Rattle.just_plain_run.specs.Names.{AreUnique}
+use Rattle.just_plain_run.proofs.Places.{contains_at, place_of, place_of_image, named, named_at}
 
 -- ---- a dependency stands earlier
 

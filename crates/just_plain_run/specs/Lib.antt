@@ -1,7 +1,7 @@
 pub mod Recipes
 pub mod Order
-pub mod Marked
-pub mod Search
+pub mod Names
+pub mod Plan
 pub mod Out
 pub mod Setup
 pub mod Goes

@@ -6,13 +6,14 @@ pub mod driver;
 pub mod fault;
 pub mod frame;
 mod invocations;
-mod marks;
+mod names;
+mod needs;
 pub mod order;
 pub mod outcome;
 pub mod output;
+mod plan;
 pub mod root;
 pub mod run;
-mod search;
 pub mod stack;
 
 pub use driver::{drive, run_file};

@@ -1,8 +1,9 @@
 //! Recipes in an order in which each dependency comes earlier.
 ghost use Rattle.std.specs.Prelude.{◌≡◌, map, List, ℕ, slice_get, MatchOption, Some, IfOk, IfErr, OnOk};
 
-use crate::marks::{Mark, Marks};
-use crate::search::{Search, list};
+use crate::names::{Names, named};
+use crate::needs::needed;
+use crate::plan::{Plan, put_in_order};
 use just_plain::Recipe;
 use justfile_syntax::{Name, Sequence};
 use std::alloc::{AllocError, AllocFailed, Global};
@@ -51,24 +52,33 @@ impl<T: Drop> From<AllocFailed<T>> for OrderFault<'_> {
     }
 }
 
-/// The recipes of a file, each once and behind all that it depends on.
+/// The rank of what stands at this place, if something does.
+fn rank_of(ranks: &[usize], place: usize) -> Option<usize>
+    ensures { result ≡ slice_get ranks.now place }
+{
+    ranks.get(place).copied()
+}
+
+/// The recipes of a file, each once and behind all that it depends on. The rank of a recipe is its
+/// place there; `ranks` has them by places in the file, which `names` has by name.
 #[derive(Drop)]
 pub struct Order<'a, 'src> {
     planned: Vec<Planned<'a, 'src>>,
-    marks: Marks<'src>,
+    names: Names<'src>,
+    ranks: Vec<usize>,
 }
 
 impl<'a, 'src> Model for Order<'a, 'src> {
     ghost use Rattle.std.specs.Prelude.{List, map};
     ghost use Rattle.just_plain_run.specs.Order.{PlannedShape, planned_shape};
-    ghost use Rattle.just_plain_run.specs.Search.{ArePlaced};
-    ghost use Rattle.just_plain_run.specs.Marked.{mark_of};
+    ghost use Rattle.just_plain_run.specs.Plan.{ArePlaced};
+    ghost use Rattle.just_plain_run.specs.Names.{place_named};
 
     ghost Value = { List PlannedShape };
 
     ghost view = { λ o. map planned_shape o.planned.items };
 
-    ghost invariant = { λ o. ArePlaced (mark_of o.marks) (map planned_shape o.planned.items) };
+    ghost invariant = { λ o. ArePlaced (place_named o.names) o.ranks.items (map planned_shape o.planned.items) };
 }
 
 impl<'a, 'src> Order<'a, 'src> {
@@ -77,13 +87,11 @@ impl<'a, 'src> Order<'a, 'src> {
     ghost use Rattle.just_plain.specs.Shape.{recipe_shape};
 
     /// Puts recipes that are given in the order of their file into an order in which each dependency
-    /// comes earlier. The turns of the search are at most in proportion to the recipes and their
-    /// dependencies, with a few look-ups by name for each; a long chain takes no more of the machine's
-    /// stack.
+    /// comes earlier. The turns are at most in proportion to the recipes and their dependencies, with
+    /// a few look-ups by name for each; a long chain takes no more of the machine's stack.
     ///
     /// Refused where a recipe has the name of an earlier one; otherwise where a dependency names no
-    /// recipe or recipes depend on one another in a circle, whichever is met first; and where memory
-    /// runs out.
+    /// recipe; otherwise where recipes depend on one another in a circle; and where memory runs out.
     pub fn new(
         alloc: Global,
         recipes: &'a [Recipe<'src>],
@@ -94,20 +102,14 @@ impl<'a, 'src> Order<'a, 'src> {
         ensures no_circle { OnOk result ((names : List (List ℕ)) → IsCircle (map recipe_shape recipes.now) names → ⊥) }
         ensures broken { IfErr result (λ e. IsBrokenOrder (map recipe_shape recipes.now) e) }
     {
-        let mut search = Search {
-            marks: list(alloc, recipes)?,
-            stack: Vec::new(alloc),
-            planned: Vec::new(alloc),
-        };
-        for index in 0..recipes.len() {
-            search.visit(alloc, recipes, index)?;
-        }
-        let Search {
-            marks,
-            stack: _,
+        let names = named(alloc, recipes)?;
+        let needs = needed(alloc, recipes, &names)?;
+        let Plan { planned, ranks } = put_in_order(alloc, recipes, needs.as_slice())?;
+        Ok(Order {
             planned,
-        } = search;
-        Ok(Order { planned, marks })
+            names,
+            ranks,
+        })
     }
 
     /// The recipes in order.
@@ -121,9 +123,9 @@ impl<'a, 'src> Order<'a, 'src> {
     pub fn place(&self, name: &str) -> Option<usize>
         ensures { MatchOption result ((i : ℕ) (p : PlannedShape) → slice_get self.now i ≡ Some p → p.shape.name ≡ name.now → ⊥) (λ i. (p : PlannedShape) × (slice_get self.now i ≡ Some p) × (p.shape.name ≡ name.now)) }
     {
-        match self.marks.get(name) {
-            Some(Mark::Done(place)) => Some(place),
-            _ => None,
+        match self.names.get(name) {
+            Some(place) => rank_of(self.ranks.as_slice(), place),
+            None => None,
         }
     }
 }

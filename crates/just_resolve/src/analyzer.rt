@@ -1,14 +1,45 @@
 //! From modules to what is known of them.
 use crate::analysis::Analysis;
 use crate::error::Error;
-use crate::known_values::known_values;
-use crate::module_variables::module_variables;
+use crate::known_values::{KnownValues, known_values};
+use crate::module_variables::{ModuleVariables, module_variables};
 use crate::overrides::resolve_overrides;
 use crate::recipe_table::recipe_table;
 use just_compilation::Compilation;
 use just_host::Config;
+use just_text::Number;
 use just_value::Override;
 use std::alloc::Global;
+use std::collections::BTreeMap;
+
+/// What is known of the modules, once their recipes are resolved too.
+fn with_recipes<'a, 'src>(
+    alloc: Global,
+    compilation: &'a Compilation<'src>,
+    variables: Box<ModuleVariables<'src, 'a>>,
+    values: Box<KnownValues>,
+) -> Result<Analysis<'src, 'a>, Error<'src>> {
+    let table = recipe_table(alloc, compilation, variables.reads.as_slice())?;
+    Ok(Analysis {
+        modules: compilation.modules.as_slice(),
+        variables,
+        values,
+        table,
+    })
+}
+
+/// What is known of the modules, where these texts stand for variables. Keys of files are taken from
+/// the folder `base`.
+fn analyzed<'a, 'src>(
+    alloc: Global,
+    compilation: &'a Compilation<'src>,
+    base: &str,
+    overrides: BTreeMap<Number, String>,
+) -> Result<Analysis<'src, 'a>, Error<'src>> {
+    let variables = module_variables(alloc, compilation, &overrides)?;
+    let values = known_values(alloc, compilation, base, &variables, overrides)?;
+    with_recipes(alloc, compilation, variables, values)
+}
 
 /// Resolves justfiles.
 #[derive(Clone, Copy, Debug)]
@@ -31,15 +62,6 @@ impl Analyzer {
         overrides: &[Override],
     ) -> Result<Analysis<'src, 'a>, Error<'src>> {
         let overrides = resolve_overrides(alloc, compilation, overrides)?;
-        let variables = module_variables(alloc, compilation, &overrides)?;
-        let base = config.base.as_str();
-        let values = known_values(alloc, compilation, base, &variables, overrides)?;
-        let table = recipe_table(alloc, compilation, variables.reads.as_slice())?;
-        Ok(Analysis {
-            compilation,
-            variables,
-            values,
-            table,
-        })
+        analyzed(alloc, compilation, config.base.as_str(), overrides)
     }
 }

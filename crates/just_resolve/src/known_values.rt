@@ -79,12 +79,13 @@ pub fn known_values<'src>(
     base: &str,
     variables: &ModuleVariables<'src, '_>,
     overrides: BTreeMap<Number, String>,
-) -> Result<KnownValues, Error<'src>> {
+) -> Result<Box<KnownValues>, Error<'src>> {
     let settings = all_settings(alloc, variables, &overrides)?;
     let folders = folders(alloc, compilation.modules.as_slice(), base)?;
-    Ok(KnownValues {
+    let known = KnownValues {
         overrides,
         settings,
         folders,
-    })
+    };
+    Ok(Box::new(alloc, known)?)
 }

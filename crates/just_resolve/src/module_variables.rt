@@ -51,6 +51,22 @@ fn all_orders<'src, 'a>(
     Ok(orders)
 }
 
+/// What the modules keep and read.
+fn read_variables<'src, 'a>(
+    alloc: Global,
+    lists: Vec<ModuleLists<'src, 'a>>,
+    overrides: &BTreeMap<Number, String>,
+) -> Result<Box<ModuleVariables<'src, 'a>>, Error<'src>> {
+    let reads = all_reads(alloc, lists.as_slice(), overrides)?;
+    let orders = all_orders(alloc, lists.as_slice(), reads.as_slice())?;
+    let variables = ModuleVariables {
+        lists,
+        reads,
+        orders,
+    };
+    Ok(Box::new(alloc, variables)?)
+}
+
 /// What the modules keep and read, where words give texts for the variables of these numbers. Refused
 /// where an expression reads a name that stands for nothing, or calls no function or one with another
 /// number of arguments; where variables read each other in a circle; and where memory is.
@@ -58,13 +74,7 @@ pub fn module_variables<'src, 'a>(
     alloc: Global,
     compilation: &'a Compilation<'src>,
     overrides: &BTreeMap<Number, String>,
-) -> Result<ModuleVariables<'src, 'a>, Error<'src>> {
+) -> Result<Box<ModuleVariables<'src, 'a>>, Error<'src>> {
     let lists = all_lists(alloc, compilation)?;
-    let reads = all_reads(alloc, lists.as_slice(), overrides)?;
-    let orders = all_orders(alloc, lists.as_slice(), reads.as_slice())?;
-    Ok(ModuleVariables {
-        lists,
-        reads,
-        orders,
-    })
+    read_variables(alloc, lists, overrides)
 }

@@ -2,14 +2,13 @@
 use crate::circles::recipe_order;
 use crate::error::Error;
 use crate::recipes::{ResolvedRecipe, resolved_recipe};
-use just_compilation::{Compilation, ModuleNode};
+use just_compilation::{Compilation, Place};
 use just_dependencies::{
-    DependencyFault, RecipeNode, RecipeResolver, ResolvedAlias, add_place, all_needs, ranks,
-    recipe_nodes, recipe_places, resolved_aliases,
+    DependencyFault, RecipeNode, RecipeResolver, ResolvedAlias, add_place, all_needs,
+    check_dependencies, ranks, recipe_nodes, recipe_places, resolved_aliases, value_counts,
 };
 use just_reads::ModuleReads;
 use just_references::ReadFault;
-use just_text::Number;
 use std::alloc::{AllocError, Global};
 use std::collections::BTreeMap;
 
@@ -18,22 +17,36 @@ use std::collections::BTreeMap;
 pub struct RecipeTable<'src, 'a> {
     /// The recipes of all modules, each behind those that it depends on.
     pub recipes: Vec<ResolvedRecipe<'src, 'a>>,
-    /// The place of each recipe by its number.
-    pub places: BTreeMap<Number, usize>,
+    /// The place of each recipe by where it stands.
+    pub places: BTreeMap<Place, usize>,
     /// The aliases of each module.
     pub aliases: Vec<Vec<ResolvedAlias<'src, 'a>>>,
 }
 
 /// Whether the dependencies of the module's recipes that are disabled name recipes.
 fn check_module<'a, 'src>(
-    resolver: &RecipeResolver<'src, 'a, '_>,
+    compilation: &'a Compilation<'src>,
+    resolver: &RecipeResolver,
     module: usize,
-    node: &ModuleNode<'src>,
+    disabled: &[Place],
 ) -> Result<(), DependencyFault<'a, 'src>> {
-    for place in &node.disabled {
-        if let Some(recipe) = resolver.compilation.recipe(*place) {
-            resolver.check_dependencies(module, recipe.name, recipe.priors.as_slice())?;
-            resolver.check_dependencies(module, recipe.name, recipe.subsequents.as_slice())?;
+    for place in disabled {
+        if let Some(recipe) = compilation.recipe(*place) {
+            let name = recipe.name;
+            check_dependencies(
+                compilation,
+                resolver,
+                module,
+                name,
+                recipe.priors.as_slice(),
+            )?;
+            check_dependencies(
+                compilation,
+                resolver,
+                module,
+                name,
+                recipe.subsequents.as_slice(),
+            )?;
         }
     }
     Ok(())
@@ -41,11 +54,17 @@ fn check_module<'a, 'src>(
 
 /// The same of all modules.
 fn check_disabled<'a, 'src>(
-    resolver: &RecipeResolver<'src, 'a, '_>,
+    compilation: &'a Compilation<'src>,
+    resolver: &RecipeResolver,
 ) -> Result<(), DependencyFault<'a, 'src>> {
-    let modules = resolver.compilation.modules.as_slice();
+    let modules = compilation.modules.as_slice();
     for module in 0..modules.len() {
-        check_module(resolver, module, &modules[module])?;
+        check_module(
+            compilation,
+            resolver,
+            module,
+            modules[module].disabled.as_slice(),
+        )?;
     }
     Ok(())
 }
@@ -83,14 +102,14 @@ fn recipes_in_order<'src, 'a>(
     Ok(recipes)
 }
 
-/// The place of each recipe by its number.
+/// The place of each recipe by where it stands.
 fn places_of(
     alloc: Global,
     recipes: &[ResolvedRecipe],
-) -> Result<BTreeMap<Number, usize>, AllocError> {
+) -> Result<BTreeMap<Place, usize>, AllocError> {
     let mut places = BTreeMap::new(alloc);
     for place in 0..recipes.len() {
-        add_place(&mut places, recipes[place].recipe.number, place)?;
+        add_place(&mut places, recipes[place].place, place)?;
     }
     Ok(places)
 }
@@ -98,10 +117,10 @@ fn places_of(
 /// The aliases of each module.
 fn all_aliases<'src, 'a>(
     alloc: Global,
-    resolver: &RecipeResolver<'src, 'a, '_>,
+    compilation: &'a Compilation<'src>,
+    resolver: &RecipeResolver,
     ranks: &[usize],
 ) -> Result<Vec<Vec<ResolvedAlias<'src, 'a>>>, DependencyFault<'a, 'src>> {
-    let compilation = resolver.compilation;
     let modules = compilation.modules.as_slice();
     let mut all = Vec::new(alloc);
     for module in 0..modules.len() {
@@ -111,35 +130,75 @@ fn all_aliases<'src, 'a>(
     Ok(all)
 }
 
-/// The table of the recipes in this order, with these needs.
-fn table_in_order<'src, 'a>(
+/// The table of these recipes.
+fn table_of<'src, 'a>(
     alloc: Global,
-    resolver: &RecipeResolver<'src, 'a, '_>,
-    reads: &[ModuleReads<'src>],
-    needs: &[Vec<usize>],
-    order: &[usize],
-) -> Result<RecipeTable<'src, 'a>, Error<'src>> {
-    let ranks = ranks(alloc, order)?;
-    let recipes = recipes_in_order(alloc, resolver.nodes, reads, needs, order, &ranks)?;
-    let places = places_of(alloc, &recipes)?;
-    let aliases = all_aliases(alloc, resolver, &ranks)?;
-    Ok(RecipeTable {
+    compilation: &'a Compilation<'src>,
+    resolver: &RecipeResolver,
+    recipes: Vec<ResolvedRecipe<'src, 'a>>,
+    ranks: &[usize],
+) -> Result<Box<RecipeTable<'src, 'a>>, Error<'src>> {
+    let places = places_of(alloc, recipes.as_slice())?;
+    let aliases = all_aliases(alloc, compilation, resolver, ranks)?;
+    let table = RecipeTable {
         recipes,
         places,
         aliases,
-    })
+    };
+    Ok(Box::new(alloc, table)?)
 }
 
-/// The table of the recipes that are kept.
+/// The table of these recipes in this order, with these needs.
+fn table_in_order<'src, 'a>(
+    alloc: Global,
+    compilation: &'a Compilation<'src>,
+    resolver: &RecipeResolver,
+    nodes: &[RecipeNode<'src, 'a>],
+    reads: &[ModuleReads<'src>],
+    needs: &[Vec<usize>],
+    order: &[usize],
+) -> Result<Box<RecipeTable<'src, 'a>>, Error<'src>> {
+    let ranks = ranks(alloc, order)?;
+    let recipes = recipes_in_order(alloc, nodes, reads, needs, order, &ranks)?;
+    table_of(alloc, compilation, resolver, recipes, ranks.as_slice())
+}
+
+/// The table of these recipes.
 fn resolved_table<'src, 'a>(
     alloc: Global,
-    resolver: &RecipeResolver<'src, 'a, '_>,
+    compilation: &'a Compilation<'src>,
+    resolver: &RecipeResolver,
+    nodes: &[RecipeNode<'src, 'a>],
     reads: &[ModuleReads<'src>],
-) -> Result<RecipeTable<'src, 'a>, Error<'src>> {
-    check_disabled(resolver)?;
-    let needs = all_needs(alloc, resolver)?;
-    let order = recipe_order(alloc, resolver.nodes, needs.as_slice())?;
-    table_in_order(alloc, resolver, reads, needs.as_slice(), order.as_slice())
+) -> Result<Box<RecipeTable<'src, 'a>>, Error<'src>> {
+    check_disabled(compilation, resolver)?;
+    let needs = all_needs(alloc, compilation, resolver, nodes)?;
+    let order = recipe_order(alloc, nodes, needs.as_slice())?;
+    table_in_order(
+        alloc,
+        compilation,
+        resolver,
+        nodes,
+        reads,
+        needs.as_slice(),
+        order.as_slice(),
+    )
+}
+
+/// The table of these recipes.
+fn table_of_nodes<'src, 'a>(
+    alloc: Global,
+    compilation: &'a Compilation<'src>,
+    nodes: &[RecipeNode<'src, 'a>],
+    reads: &[ModuleReads<'src>],
+) -> Result<Box<RecipeTable<'src, 'a>>, Error<'src>> {
+    let counts = value_counts(alloc, nodes)?;
+    let places = recipe_places(alloc, nodes)?;
+    let resolver = RecipeResolver {
+        counts: counts.as_slice(),
+        places: &places,
+    };
+    resolved_table(alloc, compilation, &resolver, nodes, reads)
 }
 
 /// The recipes that are kept, each behind those that it depends on, and what aliases stand for; the
@@ -151,13 +210,7 @@ pub fn recipe_table<'src, 'a>(
     alloc: Global,
     compilation: &'a Compilation<'src>,
     reads: &[ModuleReads<'src>],
-) -> Result<RecipeTable<'src, 'a>, Error<'src>> {
+) -> Result<Box<RecipeTable<'src, 'a>>, Error<'src>> {
     let nodes = recipe_nodes(alloc, compilation)?;
-    let places = recipe_places(alloc, &nodes)?;
-    let resolver = RecipeResolver {
-        compilation,
-        nodes: &nodes,
-        places: &places,
-    };
-    resolved_table(alloc, &resolver, reads)
+    table_of_nodes(alloc, compilation, nodes.as_slice(), reads)
 }

@@ -1,4 +1,5 @@
 //! Recipes with what they depend on and read.
+use just_compilation::Place;
 use just_dependencies::RecipeNode;
 use just_numbering::recipe_references;
 use just_references::{ReadFault, VariableResolver};
@@ -10,6 +11,8 @@ use std::alloc::{AllocError, Global};
 pub struct ResolvedRecipe<'src, 'a> {
     pub recipe: &'a Recipe<'src, UnresolvedDependency<'src>>,
     pub module: usize,
+    /// Where it stands.
+    pub place: Place,
     /// The recipes that run before its body, in order, all at lower places.
     pub priors: Vec<usize>,
     /// The recipes that run behind its body, in order, all at lower places.
@@ -57,6 +60,7 @@ pub fn resolved_recipe<'a, 'src>(
     Ok(ResolvedRecipe {
         recipe: node.recipe,
         module: node.module,
+        place: node.place,
         priors,
         subsequents,
         reads,

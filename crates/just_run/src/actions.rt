@@ -1,6 +1,7 @@
 //! What each action does with a resolved justfile.
 ghost use Rattle.std.specs.Prelude.{IfErr};
 ghost use Rattle.just_run.specs.Writes.{IsKept};
+ghost use Rattle.just_builtins.specs.Asking.{Asks};
 
 use crate::fault::Fault;
 use crate::opened::{Driven, drive_task};
@@ -43,7 +44,10 @@ fn invocations(
     driven: Driven,
     words: &[Text],
 ) -> Result<Vec<Invocation>, WordFault> {
-    let menus = menus(alloc, Justfile::from_resolved(driven.analysis))?;
+    let menus = menus(
+        alloc,
+        Justfile::from_resolved(driven.compilation, driven.analysis),
+    )?;
     InvocationParser::parse_invocations(alloc, &menus, words)
 }
 
@@ -73,7 +77,7 @@ fn list<'src, O: Out>(
 ) -> Result<Outcome, Fault<'src>>
     ensures kept { IfErr result (λ fault. IsKept (O.written out.old) fault (O.written out.new)) }
 {
-    let text = Justfile::from_resolved(driven.analysis).listing(alloc)?;
+    let text = Justfile::from_resolved(driven.compilation, driven.analysis).listing(alloc)?;
     write_text(out, text.as_str())?;
     Ok(Outcome::Listed)
 }
@@ -87,6 +91,7 @@ fn run<'src, H: RunHost + Drop, O: Out>(
     words: &[Text],
 ) -> Result<Outcome, Fault<'src>>
     ensures kept { IfErr result (λ fault. IsKept (O.written out.old) fault (O.written out.new)) }
+    ensures asks { Asks H.goes host.old host.new }
 {
     let calls = calls(alloc, driven, words)?;
     if calls.is_empty() {
@@ -97,7 +102,7 @@ fn run<'src, H: RunHost + Drop, O: Out>(
 
 /// What the words ask to evaluate.
 fn target(alloc: Global, driven: Driven, words: &[Text]) -> Result<EvaluationTarget, WordFault> {
-    let root = Justfile::from_resolved(driven.analysis);
+    let root = Justfile::from_resolved(driven.compilation, driven.analysis);
     let Some((word, others)) = words.split_first() else {
         return Ok(EvaluationTarget::Module(root.module()));
     };
@@ -118,6 +123,7 @@ fn evaluate<'src, H: RunHost + Drop, O: Out>(
     words: &[Text],
 ) -> Result<Outcome, Fault<'src>>
     ensures kept { IfErr result (λ fault. IsKept (O.written out.old) fault (O.written out.new)) }
+    ensures asks { Asks H.goes host.old host.new }
 {
     let target = target(alloc, driven, words)?;
     drive_task(alloc, host, out, driven, Task::Evaluate(target))
@@ -131,6 +137,7 @@ fn command<'src, H: RunHost + Drop, O: Out>(
     words: &[Text],
 ) -> Result<Outcome, Fault<'src>>
     ensures kept { IfErr result (λ fault. IsKept (O.written out.old) fault (O.written out.new)) }
+    ensures asks { Asks H.goes host.old host.new }
 {
     if words.is_empty() {
         return Err(Fault::Words(WordFault::MissingCommand));
@@ -140,7 +147,7 @@ fn command<'src, H: RunHost + Drop, O: Out>(
 
 /// The root file.
 fn root_file<'a, 'src>(driven: Driven<'a, 'src>) -> Option<&'a Ast<'src>> {
-    let compilation = driven.analysis.compilation();
+    let compilation = driven.compilation;
     let root = compilation.module(0)?;
     match compilation.files.get(root.first_file) {
         Some(file) => Some(&file.ast),
@@ -201,6 +208,7 @@ pub(crate) fn act<'src, H: RunHost + Drop, O: Out>(
     words: &[Text],
 ) -> Result<Outcome, Fault<'src>>
     ensures kept { IfErr result (λ fault. IsKept (O.written out.old) fault (O.written out.new)) }
+    ensures asks { Asks H.goes host.old host.new }
 {
     match action {
         Action::Run => run(alloc, host, out, driven, words),

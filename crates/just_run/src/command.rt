@@ -1,4 +1,6 @@
 //! The command that the words are.
+ghost use Rattle.just_builtins.specs.Asking.{Asks};
+
 use crate::fault::{CommandFault, Fault};
 use crate::outcome::Outcome;
 use just_builtins::JobEnvironment;
@@ -60,7 +62,9 @@ pub(crate) fn run_command<'src, H: RunHost + Drop>(
     host: &mut Recorded<H>,
     context: &ExecutionContext<'_, 'src>,
     words: &[Text],
-) -> Result<Outcome, Fault<'src>> {
+) -> Result<Outcome, Fault<'src>>
+    ensures asks { Asks H.goes host.old host.new }
+{
     let Some((command, words)) = words.split_first() else {
         return Ok(Outcome::Ran);
     };

@@ -7,6 +7,7 @@ ghost use Rattle.just_plain_run.specs.Stages.{IsRead, IsRoot};
 ghost use Rattle.just_run.specs.Plain.{IsPlain, AnswersPlain};
 ghost use Rattle.just_run.specs.Writes.{IsKept};
 ghost use Rattle.just_run.specs.declared.outcome.Action.TheVariants.{Run};
+ghost use Rattle.just_builtins.specs.Asking.{Asks, IsAsked};
 
 use crate::actions::act;
 use crate::fault::Fault;
@@ -26,6 +27,7 @@ use std::collections::BTreeMap;
 fn drive_analysis<'src, H: RunHost + Drop, O: Out>(
     alloc: Global,
     config: &Config,
+    compilation: &Compilation<'src>,
     analysis: &Analysis<'src, '_>,
     root: &str,
     words: &Positional,
@@ -34,8 +36,9 @@ fn drive_analysis<'src, H: RunHost + Drop, O: Out>(
     out: &mut O,
 ) -> Result<Outcome, Fault<'src>>
     ensures kept { IfErr result (λ fault. IsKept (O.written out.old) fault (O.written out.new)) }
+    ensures asks { Asks H.goes host.old host.new }
 {
-    let driven = Driven::new(config, analysis, root);
+    let driven = Driven::new(config, compilation, analysis, root);
     act(alloc, host, out, driven, action, words.arguments.as_slice())
 }
 
@@ -51,10 +54,41 @@ fn drive_modules<'src, H: RunHost + Drop, O: Out>(
     out: &mut O,
 ) -> Result<Outcome, Fault<'src>>
     ensures kept { IfErr result (λ fault. IsKept (O.written out.old) fault (O.written out.new)) }
+    ensures asks { Asks H.goes host.old host.new }
 {
     let overrides = words.overrides.as_slice();
     let analysis = Analyzer::analyze(alloc, compilation, config, overrides)?;
-    drive_analysis(alloc, config, &analysis, root, words, action, host, out)
+    drive_analysis(
+        alloc,
+        config,
+        compilation,
+        &analysis,
+        root,
+        words,
+        action,
+        host,
+        out,
+    )
+}
+
+/// Numbers the variables of the modules, and does what is asked of them.
+fn drive_compilation<'src, H: RunHost + Drop, O: Out>(
+    alloc: Global,
+    config: &Config,
+    mut compilation: Compilation<'src>,
+    root: &str,
+    words: &Positional,
+    action: Action,
+    host: &mut Recorded<H>,
+    out: &mut O,
+) -> Result<Outcome, Fault<'src>>
+    ensures kept { IfErr result (λ fault. IsKept (O.written out.old) fault (O.written out.new)) }
+    ensures asks { Asks H.goes host.old host.new }
+{
+    match number_variables(alloc, &mut compilation) {
+        Ok(()) => drive_modules(alloc, config, &compilation, root, words, action, host, out),
+        Err(error) => Err(Fault::from(error)),
+    }
 }
 
 /// Reads all that the root file names, and does what is asked of them.
@@ -71,10 +105,21 @@ fn drive_files<'src, E: Expander, H: RunHost + Drop, O: Out>(
     out: &mut O,
 ) -> Result<Outcome, Fault<'src>>
     ensures kept { IfErr result (λ fault. IsKept (O.written out.old) fault (O.written out.new)) }
+    ensures asks { Asks H.goes host.old host.new }
 {
-    let mut compilation = Compiler::compile_parsed(alloc, config, expander, sources, path, parsed)?;
-    number_variables(alloc, &mut compilation)?;
-    drive_modules(alloc, config, &compilation, path, words, action, host, out)
+    match Compiler::compile_parsed(alloc, config, expander, sources, path, parsed) {
+        Ok(compilation) => drive_compilation(
+            alloc,
+            config,
+            compilation,
+            path,
+            words,
+            action,
+            host,
+            out,
+        ),
+        Err(error) => Err(Fault::from(error)),
+    }
 }
 
 /// Runs what the words name of a root file of plain recipes.
@@ -85,7 +130,8 @@ fn run_plain<'src, H: RunHost + Drop>(
     words: &Positional,
     host: &mut Recorded<H>,
 ) -> Result<Outcome, Fault<'src>>
-    ensures { (i : Inputs) → i.words ≡ words.now → IsRead i (shape_of recipes.now) → AnswersPlain H.goes i (setup_of config.now) result host.old host.new }
+    ensures plain { (i : Inputs) → i.words ≡ words.now → IsRead i (shape_of recipes.now) → AnswersPlain H.goes i (setup_of config.now) result host.old host.new }
+    ensures asks { Asks H.goes host.old host.new }
 {
     match run_file(alloc, config, recipes, words, host) {
         Ok(_) => Ok(Outcome::Ran),
@@ -118,6 +164,7 @@ fn drive_root<'src, E: Expander, H: RunHost + Drop, O: Out>(
     ensures kept { IfErr result (λ fault. IsKept (O.written out.old) fault (O.written out.new)) }
     ensures plain { action ≡ Run → (i : Inputs) → IsPlain i → i.words ≡ words.now → IsRoot i root.entry.path.now (option_map shape_of root.entry.plain) → AnswersPlain H.goes i (setup_of config.now) result host.old host.new }
     ensures unwritten { action ≡ Run → (i : Inputs) → IsPlain i → IsRoot i root.entry.path.now (option_map shape_of root.entry.plain) → O.written out.new ≡ O.written out.old }
+    ensures asks { Asks H.goes host.old host.new }
 {
     let Root {
         path,
@@ -174,6 +221,8 @@ pub fn drive<'src, E: Expander, H: RunHost + Drop, O: Out>(
     ensures kept { IfErr result (λ fault. IsKept (O.written out.old) fault (O.written out.new)) }
     // A run of plain recipes writes nothing.
     ensures unwritten { action ≡ Run → IsPlain (inputs_of (reader_of (E.expansion expander.now) config.now.version) sources.now roots.now words.now) → O.written out.new ≡ O.written out.old }
+    // Whatever is asked for: the record has grown by just what was asked, and the host went along by it.
+    ensures asked { IsAsked H.goes host.old host.new }
 {
     let words = Positional::from_values(alloc, words)?;
     let root = read_root(alloc, &words, sources, roots, expander, &config.version)?;

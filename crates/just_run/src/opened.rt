@@ -1,11 +1,13 @@
 //! All modules opened, and what runs in them.
 ghost use Rattle.std.specs.Prelude.{IfErr};
 ghost use Rattle.just_run.specs.Writes.{IsKept};
+ghost use Rattle.just_builtins.specs.Asking.{Asks};
 
 use crate::fault::Fault;
 use crate::outcome::Outcome;
 use crate::task::{Task, perform};
 use just_host::{Config, Recorded, RunHost};
+use just_modules::Compilation;
 use just_plain_run::Out;
 use just_resolve::Analysis;
 use just_runner::{Opened, Opening, open_modules};
@@ -19,6 +21,7 @@ use std::collections::BTreeSet;
 #[derive(Clone, Copy)]
 pub(crate) struct Driven<'a, 'src> {
     pub(crate) config: &'a Config,
+    pub(crate) compilation: &'a Compilation<'src>,
     pub(crate) analysis: &'a Analysis<'src, 'a>,
     pub(crate) root: &'a str,
 }
@@ -26,11 +29,13 @@ pub(crate) struct Driven<'a, 'src> {
 impl<'a, 'src> Driven<'a, 'src> {
     pub(crate) fn new(
         config: &'a Config,
+        compilation: &'a Compilation<'src>,
         analysis: &'a Analysis<'src, 'a>,
         root: &'a str,
     ) -> Driven<'a, 'src> {
         Driven {
             config,
+            compilation,
             analysis,
             root,
         }
@@ -162,6 +167,7 @@ fn perform_opened<'a, 'src, H: RunHost + Drop, O: Out>(
     task: Task,
 ) -> Result<Outcome, Fault<'src>>
     ensures kept { IfErr result (λ fault. IsKept (O.written out.old) fault (O.written out.new)) }
+    ensures asks { Asks H.goes host.old host.new }
 {
     let contexts = contexts(alloc, driven, views, opened)?;
     perform(alloc, host, out, driven.analysis, contexts.as_slice(), task)
@@ -178,6 +184,7 @@ fn open_and_perform<'a, 'src, H: RunHost + Drop, O: Out>(
     task: Task,
 ) -> Result<Outcome, Fault<'src>>
     ensures kept { IfErr result (λ fault. IsKept (O.written out.old) fault (O.written out.new)) }
+    ensures asks { Asks H.goes host.old host.new }
 {
     let order = opening_order(alloc, driven.analysis)?;
     let opened = open_modules(alloc, host, opening, views, order.as_slice())?;
@@ -193,6 +200,7 @@ pub(crate) fn drive_task<'a, 'src, H: RunHost + Drop, O: Out>(
     task: Task,
 ) -> Result<Outcome, Fault<'src>>
     ensures kept { IfErr result (λ fault. IsKept (O.written out.old) fault (O.written out.new)) }
+    ensures asks { Asks H.goes host.old host.new }
 {
     let constants = Scope::root(alloc)?;
     let views = views(alloc, driven.analysis)?;

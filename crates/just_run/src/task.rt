@@ -1,6 +1,7 @@
 //! What is done once all modules are open.
 ghost use Rattle.std.specs.Prelude.{IfErr};
 ghost use Rattle.just_run.specs.Writes.{IsKept};
+ghost use Rattle.just_builtins.specs.Asking.{Asks};
 
 use crate::command::run_command;
 use crate::fault::Fault;
@@ -47,7 +48,9 @@ fn run<'a, 'src, H: RunHost + Drop>(
     analysis: &'a Analysis<'src, 'a>,
     contexts: &'a [ExecutionContext<'a, 'src>],
     calls: Vec<Call>,
-) -> Result<Outcome, Fault<'src>> {
+) -> Result<Outcome, Fault<'src>>
+    ensures asks { Asks H.goes host.old host.new }
+{
     let planned = planned(alloc, analysis)?;
     let runner = Runner {
         recipes: planned.as_slice(),
@@ -109,7 +112,9 @@ fn command<'src, H: RunHost + Drop>(
     host: &mut Recorded<H>,
     contexts: &[ExecutionContext<'_, 'src>],
     words: &[Text],
-) -> Result<Outcome, Fault<'src>> {
+) -> Result<Outcome, Fault<'src>>
+    ensures asks { Asks H.goes host.old host.new }
+{
     match contexts.first() {
         Some(root) => run_command(alloc, host, root, words),
         None => Ok(Outcome::Ran),
@@ -126,6 +131,7 @@ pub(crate) fn perform<'a, 'src, H: RunHost + Drop, O: Out>(
     task: Task,
 ) -> Result<Outcome, Fault<'src>>
     ensures kept { IfErr result (λ fault. IsKept (O.written out.old) fault (O.written out.new)) }
+    ensures asks { Asks H.goes host.old host.new }
 {
     match task {
         Task::Run(calls) => run(alloc, host, analysis, contexts, calls),

@@ -1,6 +1,6 @@
 -- A turn leaves less to do.
-use Rattle.std.proofs.Common.{◌≡◌, ◌∷◌, [], ◌<◌, ◌≤◌, length, ℕ, zero, suc, ◌+◌, ◌*◌, ◌^◌, List, subst, sym, ◌∙◌, ap, add-one, arith}
-use Rattle.std.specs.List.{All, AllByRecursion}
+use Rattle.std.proofs.Common.{◌≡◌, ◌∷◌, [], ◌<◌, ◌≤◌, length, ℕ, suc, ◌+◌, ◌*◌, ◌^◌, List, ◌∙◌, ap, add-one, arith}
+use Rattle.std.specs.List.{AllByRecursion}
 use Rattle.std.proofs.lemmas.List.Elements.{recursion_from_All}
 use Rattle.std.proofs.Math.Nat.{one-le-pow, pow-le-pow_right, mul-le-mul_left, pow-succ'}
 use Rattle.just_runner.specs.Todo.{Todo, Calls, Body, After}

@@ -1,4 +1,4 @@
-use Rattle.std.specs.Prelude.{List, ℕ}
+use Rattle.std.specs.Prelude.{List}
 use Rattle.just_runner.specs.declared.call.Call.{Call}
 
 -- what is still to do: calls in order, what follows a call's priors, and what follows its subsequents

@@ -1,14 +1,14 @@
 //! What a block of dependencies calls.
 ghost use Rattle.std.specs.Prelude.{◌<◌, length};
+ghost use Rattle.just_builtins.specs.Asking.{Asks};
 
 use crate::call::Call;
 use crate::fault::RunFault;
 use crate::plan::Runner;
-use crate::site::Site;
 use just_host::{Recorded, RunHost};
 use just_tree::{DependencyArgument, Parameter, UnresolvedDependency};
 use just_value::Value;
-use justfile_evaluator::Error;
+use justfile_evaluator::{Error, Evaluator};
 use std::alloc::{AllocError, Global};
 use std::mem;
 
@@ -19,27 +19,18 @@ struct Callee<'a, 'src> {
     parameters: &'a [Parameter<'src>],
 }
 
-/// The value of a dependency's argument.
-fn argument_value<'src, H: RunHost + Drop>(
-    alloc: Global,
-    host: &mut Recorded<H>,
-    site: &Site<'_, 'src>,
-    argument: &DependencyArgument<'src>,
-) -> Result<Value, Error<'src>> {
-    let evaluator = site.evaluator();
-    evaluator.evaluate_value(alloc, host, &argument.expression)
-}
-
 /// The values of a dependency's arguments.
 fn arguments<'src, H: RunHost + Drop>(
     alloc: Global,
     host: &mut Recorded<H>,
-    site: &Site<'_, 'src>,
+    evaluator: &Evaluator<'_, 'src>,
     arguments: &[DependencyArgument<'src>],
-) -> Result<Vec<Value>, Error<'src>> {
+) -> Result<Vec<Value>, Error<'src>>
+    ensures asks { Asks H.goes host.old host.new }
+{
     let mut values = Vec::new(alloc);
     for argument in arguments {
-        values.push(argument_value(alloc, host, site, argument)?)?;
+        values.push(evaluator.evaluate_value(alloc, host, &argument.expression)?)?;
     }
     Ok(values)
 }
@@ -134,13 +125,15 @@ fn push_starred(
 fn push_dependency<'src, H: RunHost + Drop>(
     alloc: Global,
     host: &mut Recorded<H>,
-    site: &Site<'_, 'src>,
+    evaluator: &Evaluator<'_, 'src>,
     calls: &mut Vec<Call>,
     callee: Callee<'_, 'src>,
     dependency: &UnresolvedDependency<'src>,
-) -> Result<(), RunFault<'src>> {
+) -> Result<(), RunFault<'src>>
+    ensures asks { Asks H.goes host.old host.new }
+{
     let written = dependency.arguments.as_slice();
-    let mut values = arguments(alloc, host, site, written)?;
+    let mut values = arguments(alloc, host, evaluator, written)?;
     Ok(push_calls(
         alloc,
         calls,
@@ -174,30 +167,25 @@ fn push_calls(
 pub(crate) fn block<'src, H: RunHost + Drop>(
     alloc: Global,
     host: &mut Recorded<H>,
+    evaluator: &Evaluator<'_, 'src>,
     runner: &Runner<'_, 'src>,
-    site: &Site<'_, 'src>,
     dependencies: &[UnresolvedDependency<'src>],
     places: &[usize],
-) -> Result<Vec<Call>, RunFault<'src>> {
+) -> Result<Vec<Call>, RunFault<'src>>
+    ensures asks { Asks H.goes host.old host.new }
+{
+    let recipes = runner.recipes;
+    let modules = runner.contexts.len();
     let mut calls = Vec::new(alloc);
     for (dependency, place) in dependencies.iter().zip(places) {
-        let Some(callee) = callee_at(runner, *place) else {
+        let place = *place;
+        if place >= recipes.len() || recipes[place].module >= modules {
             return Err(RunFault::internal(alloc, "dependency without a recipe"));
-        };
-        push_dependency(alloc, host, site, &mut calls, callee, dependency)?;
+        }
+        let recipe = recipes[place].recipe;
+        let parameters = recipe.parameters.as_slice();
+        let callee = Callee { place, parameters };
+        push_dependency(alloc, host, evaluator, &mut calls, callee, dependency)?;
     }
     Ok(calls)
-}
-
-/// The recipe at the place, if there are one and its module.
-fn callee_at<'m, 'src>(runner: &Runner<'m, 'src>, place: usize) -> Option<Callee<'m, 'src>> {
-    let recipes = runner.recipes;
-    if place >= recipes.len() || recipes[place].module >= runner.contexts.len() {
-        return None;
-    }
-    let recipe = recipes[place].recipe;
-    Some(Callee {
-        place,
-        parameters: recipe.parameters.as_slice(),
-    })
 }

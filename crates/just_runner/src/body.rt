@@ -1,10 +1,13 @@
 //! Bodies whose lines are commands.
+ghost use Rattle.just_builtins.specs.Asking.{Asks};
+
 use crate::fault::RunFault;
 use crate::script::run_script;
-use crate::site::Site;
+use crate::site::{Site, judge};
+use just_attributes::AttributeSet;
 use just_host::{CommandJob, Recorded, RunHost};
 use just_tree::{Line, Sigils};
-use justfile_evaluator::{Error, line_job};
+use justfile_evaluator::{Error, Evaluator, line_job};
 use std::alloc::{AllocError, Global};
 
 /// A command of one or more lines, as far as they were read.
@@ -60,11 +63,11 @@ impl Command {
 /// The words that a line's command gets, of which the first is the recipe's name.
 fn line_words(alloc: Global, site: &Site) -> Result<Vec<String>, AllocError> {
     let mut words = Vec::new(alloc);
-    if !site.passes_words() {
+    if !site.manner.passes_words {
         return Ok(words);
     }
-    words.push(String::from_str(alloc, site.recipe.name.lexeme())?)?;
-    for word in &site.entered.positional {
+    words.push(String::from_str(alloc, site.name.lexeme())?)?;
+    for word in site.positional {
         words.push(word.clone()?)?;
     }
     Ok(words)
@@ -73,17 +76,12 @@ fn line_words(alloc: Global, site: &Site) -> Result<Vec<String>, AllocError> {
 /// What is handed over for a command.
 fn job(alloc: Global, site: &Site, command: &str) -> Result<CommandJob, AllocError> {
     let words = line_words(alloc, site)?;
-    let folder = site.folder(alloc)?;
-    let folder = match &folder {
-        Some(folder) => Some(folder.as_str()),
-        None => None,
-    };
     line_job(
         alloc,
         site.context,
-        site.entered.env.as_slice(),
+        site.env,
         site.scope,
-        folder,
+        site.folder,
         command,
         words.as_slice(),
     )
@@ -96,16 +94,20 @@ fn hand_over<'src, H: RunHost + Drop>(
     site: &Site<'_, 'src>,
     command: &str,
     sigils: Sigils,
-) -> Result<bool, RunFault<'src>> {
+) -> Result<bool, RunFault<'src>>
+    ensures asks { Asks H.goes host.old host.new }
+{
     let job = job(alloc, site, command)?;
     let status = host.line(&job);
-    site.judge(status, sigils)
+    judge(site.name, status, sigils, site.manner.is_silent)
 }
 
 /// Shows a command where it is to be shown.
-fn show<H: RunHost + Drop>(host: &mut Recorded<H>, site: &Site, command: &str, is_quiet: bool) {
-    let is_shown = site.shows_line(is_quiet);
-    if is_shown {
+fn show<H: RunHost + Drop>(host: &mut Recorded<H>, site: &Site, command: &str, is_quiet: bool)
+    ensures asks { Asks H.goes host.old host.new }
+{
+    let manner = site.manner;
+    if manner.shows_line(site.context.config, is_quiet) {
         host.show(command);
     }
 }
@@ -116,7 +118,9 @@ fn run_line<'src, H: RunHost + Drop>(
     host: &mut Recorded<H>,
     site: &Site<'_, 'src>,
     command: &Command,
-) -> Result<bool, RunFault<'src>> {
+) -> Result<bool, RunFault<'src>>
+    ensures asks { Asks H.goes host.old host.new }
+{
     let text = command.behind_sigils();
     if text.is_empty() {
         return Ok(true);
@@ -128,28 +132,18 @@ fn run_line<'src, H: RunHost + Drop>(
     hand_over(alloc, host, site, text, command.sigils)
 }
 
-/// The text of a line, which goes on with a command or doesn't.
-fn line_text<'src, H: RunHost + Drop>(
-    alloc: Global,
-    host: &mut Recorded<H>,
-    site: &Site<'_, 'src>,
-    line: &Line<'src>,
-    goes_on: bool,
-) -> Result<String, Error<'src>> {
-    let evaluator = site.evaluator();
-    evaluator.evaluate_line(alloc, host, line, goes_on)
-}
-
 /// Evaluates a line and puts it to the command.
 fn read_line<'src, H: RunHost + Drop>(
     alloc: Global,
     host: &mut Recorded<H>,
-    site: &Site<'_, 'src>,
+    evaluator: &Evaluator<'_, 'src>,
     command: &mut Command,
     line: &Line<'src>,
-) -> Result<(), Error<'src>> {
-    let guards = site.context.module.settings.guards;
-    let text = line_text(alloc, host, site, line, command.is_open)?;
+    guards: bool,
+) -> Result<(), Error<'src>>
+    ensures asks { Asks H.goes host.old host.new }
+{
+    let text = evaluator.evaluate_line(alloc, host, line, command.is_open)?;
     Ok(command.put(line, text, guards)?)
 }
 
@@ -157,15 +151,19 @@ fn read_line<'src, H: RunHost + Drop>(
 fn turn_line<'src, H: RunHost + Drop>(
     alloc: Global,
     host: &mut Recorded<H>,
+    evaluator: &Evaluator<'_, 'src>,
     site: &Site<'_, 'src>,
     command: &mut Command,
     line: &Line<'src>,
-) -> Result<bool, RunFault<'src>> {
+) -> Result<bool, RunFault<'src>>
+    ensures asks { Asks H.goes host.old host.new }
+{
+    let guards = site.context.module.settings.guards;
     let skips = site.context.module.settings.ignore_comments;
     if !command.is_open && skips && line.is_comment() {
         return Ok(true);
     }
-    read_line(alloc, host, site, command, line)?;
+    read_line(alloc, host, evaluator, command, line, guards)?;
     if command.is_open {
         return Ok(true);
     }
@@ -176,12 +174,15 @@ fn turn_line<'src, H: RunHost + Drop>(
 fn run_lines<'src, H: RunHost + Drop>(
     alloc: Global,
     host: &mut Recorded<H>,
+    evaluator: &Evaluator<'_, 'src>,
     site: &Site<'_, 'src>,
     body: &[Line<'src>],
-) -> Result<(), RunFault<'src>> {
+) -> Result<(), RunFault<'src>>
+    ensures asks { Asks H.goes host.old host.new }
+{
     let mut command = Command::new(alloc);
     for line in body {
-        if !turn_line(alloc, host, site, &mut command, line)? {
+        if !turn_line(alloc, host, evaluator, site, &mut command, line)? {
             return Ok(());
         }
     }
@@ -195,12 +196,16 @@ fn run_lines<'src, H: RunHost + Drop>(
 pub(crate) fn run_body<'src, H: RunHost + Drop>(
     alloc: Global,
     host: &mut Recorded<H>,
+    evaluator: &Evaluator<'_, 'src>,
     site: &Site<'_, 'src>,
-) -> Result<(), RunFault<'src>> {
-    let is_script = site.is_script();
-    if is_script {
-        run_script(alloc, host, site)
+    attributes: &AttributeSet<'src>,
+    body: &[Line<'src>],
+) -> Result<(), RunFault<'src>>
+    ensures asks { Asks H.goes host.old host.new }
+{
+    if site.manner.is_script {
+        run_script(alloc, host, evaluator, site, attributes, body)
     } else {
-        run_lines(alloc, host, site, site.recipe.body.as_slice())
+        run_lines(alloc, host, evaluator, site, body)
     }
 }

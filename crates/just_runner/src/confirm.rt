@@ -1,21 +1,24 @@
 //! Confirmations.
+ghost use Rattle.just_builtins.specs.Asking.{Asks};
+
 use crate::fault::RunFault;
-use crate::site::Site;
 use just_attribute_tree::{Attribute, AttributeKind};
 use just_expression_tree::Expression;
 use just_host::{Confirmation, Recorded, RunHost};
 use just_text::Name;
-use justfile_evaluator::Error;
+use just_tree::{Recipe, UnresolvedDependency};
+use justfile_evaluator::{Error, Evaluator};
 use std::alloc::{AllocError, Global};
 
 /// The prompt's text.
 fn prompt_text<'src, H: RunHost + Drop>(
     alloc: Global,
     host: &mut Recorded<H>,
-    site: &Site<'_, 'src>,
+    evaluator: &Evaluator<'_, 'src>,
     prompt: &Expression<'src>,
-) -> Result<String, Error<'src>> {
-    let evaluator = site.evaluator();
+) -> Result<String, Error<'src>>
+    ensures asks { Asks H.goes host.old host.new }
+{
     let value = evaluator.evaluate_value(alloc, host, prompt)?;
     Ok(value.join(alloc)?)
 }
@@ -29,13 +32,16 @@ fn plain_prompt(alloc: Global, recipe: Name) -> Result<String, AllocError> {
 fn prompt<'src, H: RunHost + Drop>(
     alloc: Global,
     host: &mut Recorded<H>,
-    site: &Site<'_, 'src>,
-) -> Result<Option<String>, Error<'src>> {
-    match site.recipe.attributes.get(AttributeKind::Confirm) {
+    evaluator: &Evaluator<'_, 'src>,
+    recipe: &Recipe<'src, UnresolvedDependency<'src>>,
+) -> Result<Option<String>, Error<'src>>
+    ensures asks { Asks H.goes host.old host.new }
+{
+    match recipe.attributes.get(AttributeKind::Confirm) {
         Some(Attribute::Confirm(Some(prompt))) => {
-            Ok(Some(prompt_text(alloc, host, site, prompt)?))
+            Ok(Some(prompt_text(alloc, host, evaluator, prompt)?))
         }
-        Some(_) => Ok(Some(plain_prompt(alloc, site.recipe.name)?)),
+        Some(_) => Ok(Some(plain_prompt(alloc, recipe.name)?)),
         None => Ok(None),
     }
 }
@@ -44,16 +50,16 @@ fn prompt<'src, H: RunHost + Drop>(
 pub(crate) fn confirm<'src, H: RunHost + Drop>(
     alloc: Global,
     host: &mut Recorded<H>,
-    site: &Site<'_, 'src>,
-) -> Result<(), RunFault<'src>> {
-    if site.context.config.yes {
-        return Ok(());
-    }
-    let Some(prompt) = prompt(alloc, host, site)? else {
+    evaluator: &Evaluator<'_, 'src>,
+    recipe: &Recipe<'src, UnresolvedDependency<'src>>,
+) -> Result<(), RunFault<'src>>
+    ensures asks { Asks H.goes host.old host.new }
+{
+    let Some(prompt) = prompt(alloc, host, evaluator, recipe)? else {
         return Ok(());
     };
     match host.confirm(prompt.as_str()) {
         Confirmation::Yes => Ok(()),
-        Confirmation::No | Confirmation::Failed => Err(RunFault::NotConfirmed(site.recipe.name)),
+        Confirmation::No | Confirmation::Failed => Err(RunFault::NotConfirmed(recipe.name)),
     }
 }

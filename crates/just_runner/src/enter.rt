@@ -1,4 +1,6 @@
 //! A recipe's parameters, its confirmation, and the calls around its body.
+ghost use Rattle.just_builtins.specs.Asking.{Asks};
+
 use crate::block::block;
 use crate::body::run_body;
 use crate::call::Call;
@@ -6,11 +8,12 @@ use crate::confirm::confirm;
 use crate::fault::RunFault;
 use crate::frame::Entered;
 use crate::plan::{Placed, Runner};
-use crate::site::Site;
+use crate::site::{Manner, Site, folder_of};
 use just_host::{Recorded, RunHost};
-use just_tree::{Parameter, UnresolvedDependency};
+use just_text::Name;
+use just_tree::Parameter;
 use just_value::{Scope, Value};
-use justfile_evaluator::{BoundParameters, evaluate_parameters};
+use justfile_evaluator::{BoundParameters, Evaluator, ExecutionContext, evaluate_parameters};
 use std::alloc::Global;
 
 /// Whether the parameter may stand for so many values.
@@ -34,7 +37,9 @@ fn bind<'src, H: RunHost + Drop>(
     groups: &[Value],
     is_dependency: bool,
     scope: &mut Scope<'_, 'src>,
-) -> Result<BoundParameters, RunFault<'src>> {
+) -> Result<BoundParameters, RunFault<'src>>
+    ensures asks { Asks H.goes host.old host.new }
+{
     let check = |parameter: &Parameter, count: usize| may_count(parameter, count);
     Ok(evaluate_parameters(
         alloc,
@@ -55,7 +60,9 @@ pub(crate) fn entered<'m, 'src, H: RunHost + Drop>(
     placed: &Placed<'m, 'src>,
     groups: &[Value],
     is_dependency: bool,
-) -> Result<Entered<'m, 'src>, RunFault<'src>> {
+) -> Result<Entered<'m, 'src>, RunFault<'src>>
+    ensures asks { Asks H.goes host.old host.new }
+{
     let mut scope = placed.context.scope.child(alloc)?;
     match bind(alloc, host, placed, groups, is_dependency, &mut scope) {
         Ok(BoundParameters { positional, env }) => Ok(Entered {
@@ -71,22 +78,39 @@ pub(crate) fn entered<'m, 'src, H: RunHost + Drop>(
     }
 }
 
-/// The calls of these dependencies, unless dependencies are left out.
-fn dependencies<'src, H: RunHost + Drop>(
-    alloc: Global,
-    host: &mut Recorded<H>,
-    runner: &Runner<'_, 'src>,
-    site: &Site<'_, 'src>,
-    dependencies: &[UnresolvedDependency<'src>],
-    places: &[usize],
-) -> Result<Vec<Call>, RunFault<'src>> {
-    if site.context.config.no_dependencies {
-        return Ok(Vec::new(alloc));
-    }
-    block(alloc, host, runner, site, dependencies, places)
+/// Evaluates in the body of a recipe, which has this frame.
+fn evaluator<'a, 'src>(
+    context: &'a ExecutionContext<'a, 'src>,
+    recipe: Name<'src>,
+    entered: &'a Entered<'a, 'src>,
+    scope: &'a Scope<'a, 'src>,
+) -> Evaluator<'a, 'src> {
+    let env = entered.env.as_slice();
+    Evaluator::new(context, env, entered.is_dependency, Some(recipe), scope)
 }
 
-/// Confirms the recipe in the body's frame, and gives the calls before its body.
+/// Where the body of a recipe runs, which has this frame.
+fn site<'a, 'src>(
+    context: &'a ExecutionContext<'a, 'src>,
+    name: Name<'src>,
+    entered: &'a Entered<'a, 'src>,
+    scope: &'a Scope<'a, 'src>,
+    folder: Option<&'a str>,
+    manner: Manner,
+) -> Site<'a, 'src> {
+    Site {
+        context,
+        env: entered.env.as_slice(),
+        positional: entered.positional.as_slice(),
+        scope,
+        folder,
+        name,
+        manner,
+    }
+}
+
+/// Confirms the recipe in the body's frame, unless all are, and gives the calls before its body,
+/// unless dependencies are left out.
 fn confirmed<'src, H: RunHost + Drop>(
     alloc: Global,
     host: &mut Recorded<H>,
@@ -94,15 +118,65 @@ fn confirmed<'src, H: RunHost + Drop>(
     placed: &Placed<'_, 'src>,
     entered: &Entered<'_, 'src>,
     scope: &Scope<'_, 'src>,
-) -> Result<Vec<Call>, RunFault<'src>> {
-    let site = Site::new(placed, &*entered, &*scope);
-    confirm(alloc, host, &site)?;
+) -> Result<Vec<Call>, RunFault<'src>>
+    ensures asks { Asks H.goes host.old host.new }
+{
     let planned = placed.planned;
-    let priors = planned.recipe.priors.as_slice();
-    dependencies(alloc, host, runner, &site, priors, planned.priors)
+    let recipe = planned.recipe;
+    let context = placed.context;
+    let evaluator = evaluator(context, recipe.name, &*entered, &*scope);
+    if !context.config.yes {
+        confirm(alloc, host, &evaluator, recipe)?;
+    }
+    if context.config.no_dependencies {
+        return Ok(Vec::new(alloc));
+    }
+    let priors = recipe.priors.as_slice();
+    block(alloc, host, &evaluator, runner, priors, planned.priors)
 }
 
-/// Runs the body in its frame, and gives the calls behind it.
+/// Runs the recipe's body in this folder.
+fn run_in<'src, H: RunHost + Drop>(
+    alloc: Global,
+    host: &mut Recorded<H>,
+    evaluator: &Evaluator<'_, 'src>,
+    placed: &Placed<'_, 'src>,
+    entered: &Entered<'_, 'src>,
+    scope: &Scope<'_, 'src>,
+    folder: Option<&str>,
+) -> Result<(), RunFault<'src>>
+    ensures asks { Asks H.goes host.old host.new }
+{
+    let recipe = placed.planned.recipe;
+    let context = placed.context;
+    let body = recipe.body.as_slice();
+    let attributes = &recipe.attributes;
+    let manner = Manner::of(context.module.settings, attributes, recipe.quiet, body);
+    let site = site(context, recipe.name, &*entered, &*scope, folder, manner);
+    run_body(alloc, host, evaluator, &site, attributes, body)
+}
+
+/// Runs the recipe's body.
+fn run<'src, H: RunHost + Drop>(
+    alloc: Global,
+    host: &mut Recorded<H>,
+    evaluator: &Evaluator<'_, 'src>,
+    placed: &Placed<'_, 'src>,
+    entered: &Entered<'_, 'src>,
+    scope: &Scope<'_, 'src>,
+) -> Result<(), RunFault<'src>>
+    ensures asks { Asks H.goes host.old host.new }
+{
+    let recipe = placed.planned.recipe;
+    let folder = folder_of(alloc, placed.context, &recipe.attributes)?;
+    let folder = match &folder {
+        Some(folder) => Some(folder.as_str()),
+        None => None,
+    };
+    run_in(alloc, host, evaluator, placed, entered, scope, folder)
+}
+
+/// Runs the body in its frame, and gives the calls behind it, unless dependencies are left out.
 fn done<'src, H: RunHost + Drop>(
     alloc: Global,
     host: &mut Recorded<H>,
@@ -110,12 +184,26 @@ fn done<'src, H: RunHost + Drop>(
     placed: &Placed<'_, 'src>,
     entered: &Entered<'_, 'src>,
     scope: &Scope<'_, 'src>,
-) -> Result<Vec<Call>, RunFault<'src>> {
-    let site = Site::new(placed, &*entered, &*scope);
-    run_body(alloc, host, &site)?;
+) -> Result<Vec<Call>, RunFault<'src>>
+    ensures asks { Asks H.goes host.old host.new }
+{
     let planned = placed.planned;
-    let subsequents = planned.recipe.subsequents.as_slice();
-    dependencies(alloc, host, runner, &site, subsequents, planned.subsequents)
+    let recipe = planned.recipe;
+    let context = placed.context;
+    let evaluator = evaluator(context, recipe.name, &*entered, &*scope);
+    run(alloc, host, &evaluator, placed, entered, scope)?;
+    if context.config.no_dependencies {
+        return Ok(Vec::new(alloc));
+    }
+    let subsequents = recipe.subsequents.as_slice();
+    block(
+        alloc,
+        host,
+        &evaluator,
+        runner,
+        subsequents,
+        planned.subsequents,
+    )
 }
 
 /// Confirms the recipe, and gives the calls before its body.
@@ -125,7 +213,9 @@ pub(crate) fn begin<'src, H: RunHost + Drop>(
     runner: &Runner<'_, 'src>,
     placed: &Placed<'_, 'src>,
     entered: &Entered<'_, 'src>,
-) -> Result<Vec<Call>, RunFault<'src>> {
+) -> Result<Vec<Call>, RunFault<'src>>
+    ensures asks { Asks H.goes host.old host.new }
+{
     let scope = entered.scope.child(alloc)?;
     confirmed(alloc, host, runner, placed, entered, &scope)
 }
@@ -137,7 +227,9 @@ pub(crate) fn end<'src, H: RunHost + Drop>(
     runner: &Runner<'_, 'src>,
     placed: &Placed<'_, 'src>,
     entered: &Entered<'_, 'src>,
-) -> Result<Vec<Call>, RunFault<'src>> {
+) -> Result<Vec<Call>, RunFault<'src>>
+    ensures asks { Asks H.goes host.old host.new }
+{
     let scope = entered.scope.child(alloc)?;
     done(alloc, host, runner, placed, entered, &scope)
 }

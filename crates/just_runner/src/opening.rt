@@ -1,4 +1,6 @@
 //! What modules open with: their files of variables, and their variables' values.
+ghost use Rattle.just_builtins.specs.Asking.{Asks};
+
 use crate::fault::RunFault;
 use just_host::{Config, DotenvRequest, HostFault, Pair, Recorded, RunHost};
 use just_text::{Number, Sequence, Text};
@@ -91,7 +93,9 @@ fn read_dotenv<'src, H: RunHost + Drop>(
     alloc: Global,
     host: &mut Recorded<H>,
     context: &ExecutionContext<'_, 'src>,
-) -> Result<BTreeMap<String, String>, RunFault<'src>> {
+) -> Result<BTreeMap<String, String>, RunFault<'src>>
+    ensures asks { Asks H.goes host.old host.new }
+{
     if !asks(context.module.settings) {
         return Ok(BTreeMap::new(alloc));
     }
@@ -125,7 +129,9 @@ fn dotenv_of<'x, 'src, H: RunHost + Drop>(
     opening: &Opening<'x, 'src>,
     module: &'x ModuleView<'x, 'src>,
     none: &'x BTreeMap<String, String>,
-) -> Result<BTreeMap<String, String>, RunFault<'src>> {
+) -> Result<BTreeMap<String, String>, RunFault<'src>>
+    ensures asks { Asks H.goes host.old host.new }
+{
     let context = opening.context(module, none);
     read_dotenv(alloc, host, &context)
 }
@@ -138,7 +144,9 @@ fn fill<'x, 'src, H: RunHost + Drop>(
     module: &'x ModuleView<'x, 'src>,
     dotenv: &'x BTreeMap<String, String>,
     scope: &mut Scope<'_, 'src>,
-) -> Result<(), RunFault<'src>> {
+) -> Result<(), RunFault<'src>>
+    ensures asks { Asks H.goes host.old host.new }
+{
     let context = opening.context(module, dotenv);
     let wanted = if module.settings.lazy {
         opening.wanted
@@ -158,7 +166,9 @@ fn open_module<'c, 'src, H: RunHost + Drop>(
     opening: &Opening<'c, 'src>,
     place: usize,
     module: &ModuleView<'_, 'src>,
-) -> Result<Opened<'c, 'src>, RunFault<'src>> {
+) -> Result<Opened<'c, 'src>, RunFault<'src>>
+    ensures asks { Asks H.goes host.old host.new }
+{
     let none = BTreeMap::new(alloc);
     let dotenv = dotenv_of(alloc, host, &*opening, &*module, &none)?;
     let mut scope = opening.constants.child(alloc)?;
@@ -185,7 +195,9 @@ pub fn open_modules<'c, 'src, H: RunHost + Drop>(
     opening: &Opening<'c, 'src>,
     modules: &[ModuleView<'_, 'src>],
     order: &[usize],
-) -> Result<Vec<Opened<'c, 'src>>, RunFault<'src>> {
+) -> Result<Vec<Opened<'c, 'src>>, RunFault<'src>>
+    ensures asks { Asks H.goes host.old host.new }
+{
     let mut opened = Vec::new(alloc);
     for place in order {
         if *place < modules.len() {

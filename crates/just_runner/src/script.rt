@@ -1,14 +1,17 @@
 //! Bodies that are one script.
+ghost use Rattle.just_builtins.specs.Asking.{Asks};
+
 use crate::fault::RunFault;
-use crate::site::Site;
+use crate::site::{Site, extension_of, judge};
 use just_attribute_tree::{Attribute, AttributeKind, Interpreter};
+use just_attributes::AttributeSet;
 use just_builtins::JobEnvironment;
 use just_builtins::settings::interpreter_words;
 use just_expression_tree::Expression;
 use just_host::{Recorded, RunHost, ScriptJob};
 use just_text::{Name, Sequence, Text};
 use just_tree::{Line, Sigils};
-use justfile_evaluator::Error;
+use justfile_evaluator::{Error, Evaluator};
 use std::alloc::{AllocError, Global};
 
 /// The marks of a script: none.
@@ -22,10 +25,11 @@ const NO_SIGILS: Sigils = Sigils {
 fn script_line<'src, H: RunHost + Drop>(
     alloc: Global,
     host: &mut Recorded<H>,
-    site: &Site<'_, 'src>,
+    evaluator: &Evaluator<'_, 'src>,
     line: &Line<'src>,
-) -> Result<Text, Error<'src>> {
-    let evaluator = site.evaluator();
+) -> Result<Text, Error<'src>>
+    ensures asks { Asks H.goes host.old host.new }
+{
     let text = evaluator.evaluate_line(alloc, host, line, false)?;
     Ok(Text::from_string(text))
 }
@@ -34,12 +38,14 @@ fn script_line<'src, H: RunHost + Drop>(
 fn script_lines<'src, H: RunHost + Drop>(
     alloc: Global,
     host: &mut Recorded<H>,
-    site: &Site<'_, 'src>,
+    evaluator: &Evaluator<'_, 'src>,
     body: &[Line<'src>],
-) -> Result<Vec<Text>, Error<'src>> {
+) -> Result<Vec<Text>, Error<'src>>
+    ensures asks { Asks H.goes host.old host.new }
+{
     let mut lines = Vec::new(alloc);
     for line in body {
-        lines.push(script_line(alloc, host, site, line)?)?;
+        lines.push(script_line(alloc, host, evaluator, line)?)?;
     }
     Ok(lines)
 }
@@ -78,11 +84,12 @@ fn shebang_words(alloc: Global, line: &str) -> Result<Sequence<Text>, AllocError
 fn written_words<'src, H: RunHost + Drop>(
     alloc: Global,
     host: &mut Recorded<H>,
-    site: &Site<'_, 'src>,
+    evaluator: &Evaluator<'_, 'src>,
     interpreter: &Interpreter<Expression<'src>>,
     name: Name<'src>,
-) -> Result<Sequence<Text>, Error<'src>> {
-    let evaluator = site.evaluator();
+) -> Result<Sequence<Text>, Error<'src>>
+    ensures asks { Asks H.goes host.old host.new }
+{
     let words = evaluator.evaluate_interpreter(alloc, host, interpreter, name)?;
     Ok(interpreter_words(alloc, &words)?)
 }
@@ -91,24 +98,24 @@ fn written_words<'src, H: RunHost + Drop>(
 fn attribute_words<'src, H: RunHost + Drop>(
     alloc: Global,
     host: &mut Recorded<H>,
-    site: &Site<'_, 'src>,
-) -> Result<Option<Sequence<Text>>, Error<'src>> {
-    let attributes = &site.recipe.attributes;
+    evaluator: &Evaluator<'_, 'src>,
+    attributes: &AttributeSet<'src>,
+    recipe: Name<'src>,
+) -> Result<Option<Sequence<Text>>, Error<'src>>
+    ensures asks { Asks H.goes host.old host.new }
+{
     let Some(Attribute::Script(Some(interpreter))) = attributes.get(AttributeKind::Script) else {
         return Ok(None);
     };
-    let name = attributes
-        .name(AttributeKind::Script)
-        .unwrap_or(site.recipe.name);
-    Ok(Some(written_words(alloc, host, site, interpreter, name)?))
+    let name = attributes.name(AttributeKind::Script).unwrap_or(recipe);
+    Ok(Some(written_words(alloc, host, evaluator, interpreter, name)?))
 }
 
 /// The words where no attribute names an interpreter: those of the first line where the body begins
 /// `#!`, else those of the settings.
 fn default_words(alloc: Global, site: &Site, lines: &[Text]) -> Result<Sequence<Text>, AllocError> {
-    let has_shebang = site.has_shebang();
     match lines.first() {
-        Some(line) if has_shebang => shebang_words(alloc, line.as_str()),
+        Some(line) if site.manner.has_shebang => shebang_words(alloc, line.as_str()),
         _ => site.context.module.settings.interpreter(alloc),
     }
 }
@@ -117,10 +124,14 @@ fn default_words(alloc: Global, site: &Site, lines: &[Text]) -> Result<Sequence<
 fn interpreter<'src, H: RunHost + Drop>(
     alloc: Global,
     host: &mut Recorded<H>,
+    evaluator: &Evaluator<'_, 'src>,
     site: &Site<'_, 'src>,
+    attributes: &AttributeSet<'src>,
     lines: &[Text],
-) -> Result<Sequence<Text>, Error<'src>> {
-    match attribute_words(alloc, host, site)? {
+) -> Result<Sequence<Text>, Error<'src>>
+    ensures asks { Asks H.goes host.old host.new }
+{
+    match attribute_words(alloc, host, evaluator, attributes, site.name)? {
         Some(words) => Ok(words),
         None => Ok(default_words(alloc, site, lines)?),
     }
@@ -129,33 +140,38 @@ fn interpreter<'src, H: RunHost + Drop>(
 /// The words behind the script's path.
 fn script_words(alloc: Global, site: &Site) -> Result<Sequence<Text>, AllocError> {
     let mut words = Sequence::new(alloc);
-    if !site.passes_words() {
+    if !site.manner.passes_words {
         return Ok(words);
     }
-    for word in &site.entered.positional {
+    for word in site.positional {
         words.push(Text::from_text(alloc, word.as_str())?)?;
     }
     Ok(words)
 }
 
-/// The words before and behind a script's path.
+/// What a script is made of: the words before its path, its lines, and the end of its name.
 #[derive(Drop)]
-struct ScriptWords {
+struct ScriptParts {
     interpreter: Sequence<Text>,
     lines: Vec<Text>,
+    extension: Option<Text>,
 }
 
 /// What is handed over.
-fn job(alloc: Global, site: &Site, words: ScriptWords) -> Result<ScriptJob, AllocError> {
+fn job(alloc: Global, site: &Site, parts: ScriptParts) -> Result<ScriptJob, AllocError> {
     let positional = script_words(alloc, site)?;
-    let extension = site.extension(alloc)?;
-    let folder = match site.folder(alloc)? {
-        Some(folder) => Some(Text::from_string(folder)),
+    let folder = match site.folder {
+        Some(folder) => Some(Text::from_text(alloc, folder)?),
         None => None,
     };
-    let env = site.entered.env.as_slice();
-    let JobEnvironment { pairs, removed } = site.context.job_environment(alloc, env, site.scope)?;
-    let ScriptWords { interpreter, lines } = words;
+    let JobEnvironment { pairs, removed } = site
+        .context
+        .job_environment(alloc, site.env, site.scope)?;
+    let ScriptParts {
+        interpreter,
+        lines,
+        extension,
+    } = parts;
     Ok(ScriptJob {
         interpreter,
         lines: Sequence::from_vec(lines),
@@ -173,9 +189,11 @@ fn show<H: RunHost + Drop>(
     host: &mut Recorded<H>,
     site: &Site,
     lines: &[Text],
-) -> Result<(), AllocError> {
+) -> Result<(), AllocError>
+    ensures asks { Asks H.goes host.old host.new }
+{
     let config = site.context.config;
-    if config.dry_run || config.loquacious || site.recipe.quiet {
+    if config.dry_run || config.loquacious || site.manner.is_quiet {
         let text = joined(alloc, lines)?;
         host.show(text.as_str());
     }
@@ -186,26 +204,42 @@ fn show<H: RunHost + Drop>(
 pub(crate) fn run_script<'src, H: RunHost + Drop>(
     alloc: Global,
     host: &mut Recorded<H>,
+    evaluator: &Evaluator<'_, 'src>,
     site: &Site<'_, 'src>,
-) -> Result<(), RunFault<'src>> {
-    let lines = script_lines(alloc, host, site, site.recipe.body.as_slice())?;
+    attributes: &AttributeSet<'src>,
+    body: &[Line<'src>],
+) -> Result<(), RunFault<'src>>
+    ensures asks { Asks H.goes host.old host.new }
+{
+    let lines = script_lines(alloc, host, evaluator, body)?;
     show(alloc, host, site, lines.as_slice())?;
     if site.context.config.dry_run {
         return Ok(());
     }
-    hand_over(alloc, host, site, lines)
+    hand_over(alloc, host, evaluator, site, attributes, lines)
 }
 
 /// Hands the script over.
 fn hand_over<'src, H: RunHost + Drop>(
     alloc: Global,
     host: &mut Recorded<H>,
+    evaluator: &Evaluator<'_, 'src>,
     site: &Site<'_, 'src>,
+    attributes: &AttributeSet<'src>,
     lines: Vec<Text>,
-) -> Result<(), RunFault<'src>> {
-    let interpreter = interpreter(alloc, host, site, lines.as_slice())?;
-    let job = job(alloc, site, ScriptWords { interpreter, lines })?;
+) -> Result<(), RunFault<'src>>
+    ensures asks { Asks H.goes host.old host.new }
+{
+    let words = lines.as_slice();
+    let interpreter = interpreter(alloc, host, evaluator, site, attributes, words)?;
+    let extension = extension_of(alloc, attributes)?;
+    let parts = ScriptParts {
+        interpreter,
+        lines,
+        extension,
+    };
+    let job = job(alloc, site, parts)?;
     let status = host.script(&job);
-    let _goes_on = site.judge(status, NO_SIGILS)?;
+    let _goes_on = judge(site.name, status, NO_SIGILS, site.manner.is_silent)?;
     Ok(())
 }

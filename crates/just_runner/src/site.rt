@@ -1,134 +1,130 @@
-//! Where a recipe's confirmation, dependencies and body are evaluated.
+//! Where a recipe's body runs, and how.
 use crate::fault::RunFault;
-use crate::frame::Entered;
-use crate::plan::Placed;
 use just_attribute_tree::{Attribute, AttributeKind};
-use just_host::Status;
+use just_attributes::AttributeSet;
+use just_builtins::Settings;
+use just_host::{Config, Pair, Status};
 use just_text::{Name, Text};
-use just_tree::{Recipe, Sigils, UnresolvedDependency};
+use just_tree::{Line, Sigils};
 use just_value::{Scope, path};
-use justfile_evaluator::{Evaluator, ExecutionContext};
+use justfile_evaluator::ExecutionContext;
 use std::alloc::{AllocError, Global};
 
-/// A recipe that was entered, and its body's frame.
+/// How a body runs, by its recipe's attributes and its module's settings.
 #[derive(Clone, Copy)]
-pub(crate) struct Site<'a, 'src> {
-    pub(crate) context: &'a ExecutionContext<'a, 'src>,
-    pub(crate) recipe: &'a Recipe<'src, UnresolvedDependency<'src>>,
-    pub(crate) entered: &'a Entered<'a, 'src>,
-    /// The body's frame, inside the parameters'.
-    pub(crate) scope: &'a Scope<'a, 'src>,
+pub(crate) struct Manner {
+    /// Whether commands get the parameters' values as words.
+    pub(crate) passes_words: bool,
+    /// Whether nothing is said of a command that fails.
+    pub(crate) is_silent: bool,
+    /// `@` before the recipe's name.
+    pub(crate) is_quiet: bool,
+    /// Whether no line is shown, whatever its mark says.
+    pub(crate) hides_lines: bool,
+    /// Whether the body begins `#!`.
+    pub(crate) has_shebang: bool,
+    /// Whether the body is one script.
+    pub(crate) is_script: bool,
 }
 
-impl<'a, 'src> Site<'a, 'src> {
-    /// The recipe with this frame.
-    pub(crate) fn new(
-        placed: &Placed<'a, 'src>,
-        entered: &'a Entered<'a, 'src>,
-        scope: &'a Scope<'a, 'src>,
-    ) -> Site<'a, 'src> {
-        Site {
-            context: placed.context,
-            recipe: placed.planned.recipe,
-            entered,
-            scope,
+impl Manner {
+    /// That of a body with these lines.
+    pub(crate) fn of(
+        settings: &Settings,
+        attributes: &AttributeSet,
+        is_quiet: bool,
+        body: &[Line],
+    ) -> Manner {
+        let has_shebang = begins_shebang(body);
+        Manner {
+            passes_words: settings.positional_arguments
+                || attributes.contains(AttributeKind::PositionalArguments),
+            is_silent: is_silent(settings, attributes),
+            is_quiet,
+            hides_lines: settings.quiet && !attributes.contains(AttributeKind::NoQuiet),
+            has_shebang,
+            is_script: attributes.contains(AttributeKind::Script)
+                || settings.default_script
+                || has_shebang,
         }
-    }
-
-    /// Evaluates in the body's frame.
-    pub(crate) fn evaluator(&self) -> Evaluator<'a, 'src> {
-        Evaluator::new(
-            self.context,
-            self.entered.env.as_slice(),
-            self.entered.is_dependency,
-            Some(self.recipe.name),
-            self.scope,
-        )
-    }
-
-    fn has(&self, kind: AttributeKind) -> bool {
-        self.recipe.attributes.contains(kind)
-    }
-
-    /// Whether commands get the parameters' values as words.
-    pub(crate) fn passes_words(&self) -> bool {
-        self.context.module.settings.positional_arguments
-            || self.has(AttributeKind::PositionalArguments)
-    }
-
-    /// Whether nothing is said of a command that fails.
-    fn is_silent(&self) -> bool {
-        let silent = self.context.module.settings.no_exit_message
-            || self.has(AttributeKind::NoExitMessage);
-        silent && !self.has(AttributeKind::ExitMessage)
     }
 
     /// Whether a line with this mark of quiet is shown.
-    pub(crate) fn shows_line(&self, is_quiet: bool) -> bool {
-        let config = self.context.config;
-        let settings = self.context.module.settings;
-        let is_hidden = is_quiet != self.recipe.quiet
-            || (settings.quiet && !self.has(AttributeKind::NoQuiet))
-            || config.quiet;
+    pub(crate) fn shows_line(self, config: &Config, is_quiet: bool) -> bool {
+        let is_hidden = is_quiet != self.is_quiet || self.hides_lines || config.quiet;
         config.dry_run || config.loquacious || !is_hidden
     }
+}
 
-    /// Whether the recipe is one script.
-    pub(crate) fn is_script(&self) -> bool {
-        self.has(AttributeKind::Script)
-            || self.context.module.settings.default_script
-            || self.has_shebang()
+/// Whether the body begins `#!`.
+fn begins_shebang(body: &[Line]) -> bool {
+    match body.first() {
+        Some(line) => line.is_shebang(),
+        None => false,
     }
+}
 
-    /// Whether the body begins `#!`.
-    pub(crate) fn has_shebang(&self) -> bool {
-        match self.recipe.body.first() {
-            Some(line) => line.is_shebang(),
-            None => false,
+/// Whether nothing is said of a command that fails.
+fn is_silent(settings: &Settings, attributes: &AttributeSet) -> bool {
+    let silent = settings.no_exit_message || attributes.contains(AttributeKind::NoExitMessage);
+    silent && !attributes.contains(AttributeKind::ExitMessage)
+}
+
+/// Where a body runs: what its commands are given, and how they run.
+#[derive(Clone, Copy)]
+pub(crate) struct Site<'a, 'src> {
+    pub(crate) context: &'a ExecutionContext<'a, 'src>,
+    /// What `env` attributes give to commands.
+    pub(crate) env: &'a [Pair],
+    /// The parameters' values as words.
+    pub(crate) positional: &'a [String],
+    /// The body's frame, inside the parameters'.
+    pub(crate) scope: &'a Scope<'a, 'src>,
+    /// The folder of the commands, if they have one of their own.
+    pub(crate) folder: Option<&'a str>,
+    /// The recipe's name.
+    pub(crate) name: Name<'src>,
+    pub(crate) manner: Manner,
+}
+
+/// Whether commands run where the program was started.
+fn stays(settings: &Settings, attributes: &AttributeSet) -> bool {
+    attributes.contains(AttributeKind::NoCd)
+        || (settings.no_cd && !attributes.contains(AttributeKind::WorkingDirectory))
+}
+
+/// The folder of the commands of a recipe with these attributes, if they have one of their own.
+pub(crate) fn folder_of(
+    alloc: Global,
+    context: &ExecutionContext,
+    attributes: &AttributeSet,
+) -> Result<Option<String>, AllocError> {
+    if stays(context.module.settings, attributes) {
+        return Ok(None);
+    }
+    let folder = context.working_directory(alloc)?;
+    match attributes.get(AttributeKind::WorkingDirectory) {
+        Some(Attribute::WorkingDirectory(inner)) => {
+            let joined = path::join(alloc, folder.as_str(), inner.cooked.as_str())?;
+            Ok(Some(joined))
         }
+        _ => Ok(Some(folder)),
     }
+}
 
-    /// Whether the recipe runs where the program was started.
-    fn stays(&self) -> bool {
-        let settings = self.context.module.settings;
-        self.has(AttributeKind::NoCd)
-            || (settings.no_cd && !self.has(AttributeKind::WorkingDirectory))
-    }
-
-    /// The folder of the recipe's commands, if they have one of their own.
-    pub(crate) fn folder(&self, alloc: Global) -> Result<Option<String>, AllocError> {
-        if self.stays() {
-            return Ok(None);
-        }
-        let folder = self.context.working_directory(alloc)?;
-        match self.recipe.attributes.get(AttributeKind::WorkingDirectory) {
-            Some(Attribute::WorkingDirectory(inner)) => {
-                let joined = path::join(alloc, folder.as_str(), inner.cooked.as_str())?;
-                Ok(Some(joined))
-            }
-            _ => Ok(Some(folder)),
-        }
-    }
-
-    /// The end of a script's name, if there is one.
-    pub(crate) fn extension(&self, alloc: Global) -> Result<Option<Text>, AllocError> {
-        match self.recipe.attributes.get(AttributeKind::Extension) {
-            Some(Attribute::Extension(text)) => {
-                Ok(Some(Text::from_text(alloc, text.cooked.as_str())?))
-            }
-            _ => Ok(None),
-        }
-    }
-
-    /// Whether the body goes on behind a command that ended so, or how it fails.
-    pub(crate) fn judge(&self, status: Status, sigils: Sigils) -> Result<bool, RunFault<'src>> {
-        let is_silent = self.is_silent();
-        judged(self.recipe.name, status, sigils, is_silent)
+/// The end of a script's name, if there is one.
+pub(crate) fn extension_of(
+    alloc: Global,
+    attributes: &AttributeSet,
+) -> Result<Option<Text>, AllocError> {
+    match attributes.get(AttributeKind::Extension) {
+        Some(Attribute::Extension(text)) => Ok(Some(Text::from_text(alloc, text.cooked.as_str())?)),
+        _ => Ok(None),
     }
 }
 
 /// Whether the recipe's body goes on behind a command that ended so, or how it fails.
-fn judged<'src>(
+pub(crate) fn judge<'src>(
     recipe: Name<'src>,
     status: Status,
     sigils: Sigils,

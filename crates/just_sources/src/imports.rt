@@ -27,9 +27,9 @@ struct Reach {
 /// refuses it.
 fn add_import<'src>(
     alloc: Global,
-    sources: &'src BTreeMap<String, String>,
-    key: &str,
     item: &Item<'src>,
+    key: &str,
+    sources: &'src BTreeMap<String, String>,
     found: &mut Vec<Source<'src>>,
 ) -> Result<(), Error<'src>> {
     if let Some(import) = import_of(item) {
@@ -44,13 +44,13 @@ fn add_import<'src>(
 /// refuses one.
 fn imports_among<'src>(
     alloc: Global,
-    sources: &'src BTreeMap<String, String>,
-    key: &str,
     items: &[Item<'src>],
+    key: &str,
+    sources: &'src BTreeMap<String, String>,
 ) -> Result<Vec<Source<'src>>, Error<'src>> {
     let mut found = Vec::new(alloc);
     for item in items {
-        add_import(alloc, sources, key, item, &mut found)?;
+        add_import(alloc, item, key, sources, &mut found)?;
     }
     Ok(found)
 }
@@ -59,14 +59,14 @@ fn imports_among<'src>(
 /// file. Refused as `imported` refuses one.
 fn imports_at<'src>(
     alloc: Global,
-    sources: &'src BTreeMap<String, String>,
     files: &[File<'src>],
     place: usize,
+    sources: &'src BTreeMap<String, String>,
 ) -> Result<Vec<Source<'src>>, Error<'src>> {
     if place >= files.len() {
         return Ok(Vec::new(alloc));
     }
-    imports_among(alloc, sources, files[place].key, items_of(&files[place]))
+    imports_among(alloc, items_of(&files[place]), files[place].key, sources)
 }
 
 impl<'src> Reached<'src> {
@@ -139,7 +139,7 @@ impl<'src> Reached<'src> {
         files: &[File<'src>],
         place: usize,
     ) -> Result<Vec<Source<'src>>, Error<'src>> {
-        let found = imports_at(alloc, sources, files, place)?;
+        let found = imports_at(alloc, files, place, sources)?;
         let new = self.reach_imports(alloc, found.as_slice())?;
         Ok(new)
     }

@@ -20,10 +20,10 @@ pub struct Parsed<'src> {
 }
 
 /// What loading is given: the configuration, the expander and the files.
-struct Loader<'a, 'src, E> {
+struct Loader<'src, 'a, E> {
     config: &'a Config,
     expander: &'a E,
-    files: Files<'a, 'src>,
+    files: Files<'src, 'a>,
 }
 
 impl<E> Clone for Loader<'_, '_, E> {
@@ -70,7 +70,7 @@ fn add_file<'src>(
     }
 }
 
-impl<'a, 'src, E: Expander> Loader<'a, 'src, E> {
+impl<'src, 'a, E: Expander> Loader<'src, 'a, E> {
     /// Loads the file for the module, and puts it behind the others.
     fn load_file(
         &self,
@@ -269,7 +269,7 @@ impl<'a, 'src, E: Expander> Loader<'a, 'src, E> {
 /// submodules with those that are still to load.
 fn add_module<'src>(
     alloc: Global,
-    files: &Files<'_, 'src>,
+    files: &Files<'src, '_>,
     os: Os,
     compilation: &mut Compilation<'src>,
     pending: &mut Vec<Pending<'src>>,
@@ -287,7 +287,7 @@ fn load_found<'a, 'src, E: Expander>(
     alloc: Global,
     config: &'a Config,
     expander: &'a E,
-    files: Files<'a, 'src>,
+    files: Files<'src, 'a>,
     compilation: &mut Compilation<'src>,
     numerator: &mut Numerator,
     root: Source<'src>,

@@ -10,7 +10,7 @@ use std::collections::BTreeMap;
 
 /// The files that can be reached.
 #[derive(Clone, Copy)]
-pub struct Files<'a, 'src> {
+pub struct Files<'src, 'a> {
     pub sources: &'src BTreeMap<String, String>,
     pub folders: &'a Folders<'src>,
 }
@@ -56,7 +56,7 @@ pub fn imported<'src>(
     Err(missing_import(alloc, key, import.path)?)
 }
 
-impl<'a, 'src> Files<'a, 'src> {
+impl<'src, 'a> Files<'src, 'a> {
     /// Puts the file at the key behind what was found, if there is one.
     fn add_key(
         &self,

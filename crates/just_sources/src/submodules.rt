@@ -29,7 +29,7 @@ struct Submodule<'src> {
 /// disabled, or its file is missing and may be.
 fn add_submodule<'src>(
     alloc: Global,
-    files: &Files<'_, 'src>,
+    files: &Files<'src, '_>,
     os: Os,
     key: &str,
     item: &Item<'src>,
@@ -52,7 +52,7 @@ fn add_submodule<'src>(
 /// The submodules among the items of the file with this key, in their order.
 fn submodules_among<'src>(
     alloc: Global,
-    files: &Files<'_, 'src>,
+    files: &Files<'src, '_>,
     os: Os,
     key: &str,
     items: &[Item<'src>],
@@ -67,7 +67,7 @@ fn submodules_among<'src>(
 /// The submodules of the file at the place, in their order; none where there is no file.
 fn submodules_at<'src>(
     alloc: Global,
-    files: &Files<'_, 'src>,
+    files: &Files<'src, '_>,
     os: Os,
     all: &[File<'src>],
     place: usize,
@@ -112,7 +112,7 @@ fn add_pending<'src>(
 /// load.
 fn find_submodules<'src>(
     alloc: Global,
-    files: &Files<'_, 'src>,
+    files: &Files<'src, '_>,
     os: Os,
     compilation: &Compilation<'src>,
     pending: &mut Vec<Pending<'src>>,
@@ -132,7 +132,7 @@ fn find_submodules<'src>(
 /// are still to load.
 pub fn find_all<'src>(
     alloc: Global,
-    files: &Files<'_, 'src>,
+    files: &Files<'src, '_>,
     os: Os,
     compilation: &Compilation<'src>,
     pending: &mut Vec<Pending<'src>>,

@@ -2,15 +2,21 @@
 //! recipes, and the texts of variables.
 #![tactic(auto)]
 
+mod calls;
 mod justfile;
 mod listing;
 mod names;
+mod offered;
+mod padding;
+mod printed;
+mod recursive;
 mod steady;
 mod target;
 mod variables;
 
-pub use justfile::{Justfile, RecipeRef};
-pub use justfile_syntax::RecipeSignature;
+pub use just_tree::RecipeSignature;
+pub use justfile::Justfile;
 pub use names::menus;
+pub use offered::RecipeRef;
 pub use target::EvaluationTarget;
 pub use variables::variables_text;

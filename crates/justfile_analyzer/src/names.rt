@@ -1,20 +1,25 @@
 //! What words may name of a justfile.
 use crate::justfile::Justfile;
+use just_compilation::{ModuleNode, Place};
 use just_invocations::{Callable, Meaning, Menu, Menus, Slot};
-use just_modules::ModuleNode;
-use just_resolve::Analysis;
-use justfile_syntax::{Parameter, ParameterKind, Recipe, UnresolvedDependency};
+use just_resolve::{Analysis, ResolvedAlias, ResolvedRecipe};
+use just_text::{Name, Text};
+use just_tree::{Parameter, ParameterKind, Recipe, UnresolvedDependency};
 use std::alloc::{AllocError, Global};
+
+/// The text, if it is there.
+fn text_of<'a>(text: &'a Option<Text>) -> Option<&'a str> {
+    match text {
+        Some(text) => Some(text.as_str()),
+        None => None,
+    }
+}
 
 /// The parameter, as words see it.
 fn slot<'a>(parameter: &'a Parameter) -> Slot<'a> {
-    let long = match &parameter.long {
-        Some(name) => Some(name.as_str()),
-        None => None,
-    };
     let may_lack = parameter.default.is_some() || parameter.flag;
     Slot {
-        long,
+        long: text_of(&parameter.long),
         short: parameter.short,
         takes_value: !parameter.flag && parameter.value.is_none(),
         multiple: parameter.multiple,
@@ -23,75 +28,128 @@ fn slot<'a>(parameter: &'a Parameter) -> Slot<'a> {
     }
 }
 
+fn slots<'a>(alloc: Global, parameters: &'a [Parameter]) -> Result<Vec<Slot<'a>>, AllocError> {
+    let mut slots = Vec::new(alloc);
+    for parameter in parameters {
+        slots.push(slot(parameter))?;
+    }
+    Ok(slots)
+}
+
 /// The recipe, as words see it.
 fn callable<'a, 'src>(
     alloc: Global,
     recipe: &'a Recipe<'src, UnresolvedDependency<'src>>,
 ) -> Result<Callable<'a>, AllocError> {
-    let mut slots = Vec::new(alloc);
-    for parameter in &recipe.parameters {
-        slots.push(slot(parameter))?;
-    }
     Ok(Callable {
         name: recipe.name.lexeme(),
-        slots,
+        slots: slots(alloc, recipe.parameters.as_slice())?,
     })
 }
 
 /// All recipes, in their order.
 fn callables<'a, 'src>(
     alloc: Global,
-    analysis: &'a Analysis<'src, 'a>,
+    recipes: &[ResolvedRecipe<'src, 'a>],
 ) -> Result<Vec<Callable<'a>>, AllocError> {
     let mut all = Vec::new(alloc);
-    for resolved in analysis.recipes() {
+    for resolved in recipes {
         all.push(callable(alloc, resolved.recipe)?)?;
     }
     Ok(all)
 }
 
-fn put_recipes<'a, 'src>(
-    menu: &mut Menu<'a>,
+/// The name of the recipe at the place.
+fn name_at<'src>(recipes: &[ResolvedRecipe<'src, '_>], place: usize) -> Option<Name<'src>> {
+    Some(recipes.get(place)?.recipe.name)
+}
+
+/// Puts the recipe at the place on the menu, if it is kept.
+fn put_recipe<'a, 'src>(
     analysis: &'a Analysis<'src, 'a>,
-    node: &'a ModuleNode<'src>,
+    menu: &mut Menu<'a>,
+    place: Place,
 ) -> Result<(), AllocError> {
-    for place in &node.recipes {
-        if let (Some(name), Some(recipe)) = (
-            analysis.compilation().name(*place),
-            analysis.recipe_place(*place),
-        ) {
-            menu.put(name.lexeme(), Meaning::Recipe(recipe))?;
-        }
+    let Some(found) = analysis.recipe_place(place) else {
+        return Ok(());
+    };
+    match name_at(analysis.recipes(), found) {
+        Some(name) => menu.put(name.lexeme(), Meaning::Recipe(found)),
+        None => Ok(()),
+    }
+}
+
+fn put_recipes<'a, 'src>(
+    analysis: &'a Analysis<'src, 'a>,
+    menu: &mut Menu<'a>,
+    places: &[Place],
+) -> Result<(), AllocError> {
+    for place in places {
+        put_recipe(analysis, menu, *place)?;
     }
     Ok(())
 }
 
 fn put_aliases<'a, 'src>(
     menu: &mut Menu<'a>,
-    analysis: &'a Analysis<'src, 'a>,
-    module: usize,
+    aliases: &[ResolvedAlias<'src, 'a>],
 ) -> Result<(), AllocError> {
-    if let Some(aliases) = analysis.aliases(module) {
-        for known in aliases {
-            menu.put(known.alias.name.lexeme(), Meaning::Recipe(known.recipe))?;
-        }
+    for known in aliases {
+        menu.put(known.alias.name.lexeme(), Meaning::Recipe(known.recipe))?;
     }
     Ok(())
 }
 
-fn put_submodules<'a, 'src>(
-    menu: &mut Menu<'a>,
+/// The name of the module at the place; the root has none.
+fn name_of<'src>(analysis: &Analysis<'src, '_>, module: usize) -> Option<Name<'src>> {
+    analysis.module(module)?.name
+}
+
+/// Puts the submodule at the place on the menu.
+fn put_submodule<'a, 'src>(
     analysis: &'a Analysis<'src, 'a>,
-    node: &'a ModuleNode<'src>,
+    menu: &mut Menu<'a>,
+    module: usize,
 ) -> Result<(), AllocError> {
-    for module in &node.submodules {
-        if let Some(submodule) = analysis.module(*module) {
-            if let Some(name) = submodule.name {
-                menu.put(name.lexeme(), Meaning::Submodule(*module))?;
-            }
-        }
+    match name_of(analysis, module) {
+        Some(name) => menu.put(name.lexeme(), Meaning::Submodule(module)),
+        None => Ok(()),
+    }
+}
+
+fn put_submodules<'a, 'src>(
+    analysis: &'a Analysis<'src, 'a>,
+    menu: &mut Menu<'a>,
+    modules: &[usize],
+) -> Result<(), AllocError> {
+    for module in modules {
+        put_submodule(analysis, menu, *module)?;
     }
     Ok(())
+}
+
+/// Puts the module's aliases on the menu.
+fn put_all_aliases<'a, 'src>(
+    analysis: &'a Analysis<'src, 'a>,
+    menu: &mut Menu<'a>,
+    module: usize,
+) -> Result<(), AllocError> {
+    match analysis.aliases(module) {
+        Some(aliases) => put_aliases(menu, aliases),
+        None => Ok(()),
+    }
+}
+
+/// Puts the names of the module on the menu.
+fn put_names<'a, 'src>(
+    analysis: &'a Analysis<'src, 'a>,
+    menu: &mut Menu<'a>,
+    module: usize,
+    node: &ModuleNode<'src>,
+) -> Result<(), AllocError> {
+    put_recipes(analysis, menu, node.recipes.as_slice())?;
+    put_all_aliases(analysis, menu, module)?;
+    put_submodules(analysis, menu, node.submodules.as_slice())
 }
 
 /// The names of a module.
@@ -100,14 +158,33 @@ fn menu<'a, 'src>(
     analysis: &'a Analysis<'src, 'a>,
     module: usize,
 ) -> Result<Menu<'a>, AllocError> {
-    let mut menu = Menu::new(alloc);
+    let mut menu: Menu<'a> = Menu::new(alloc);
     if let Some(node) = analysis.module(module) {
-        put_recipes(&mut menu, analysis, node)?;
-        put_aliases(&mut menu, analysis, module)?;
-        put_submodules(&mut menu, analysis, node)?;
+        put_names(analysis, &mut menu, module, node)?;
         menu.default = analysis.default_recipe(module);
     }
     Ok(menu)
+}
+
+/// The names of so many modules.
+fn all_menus<'a, 'src>(
+    alloc: Global,
+    analysis: &'a Analysis<'src, 'a>,
+    count: usize,
+) -> Result<Vec<Menu<'a>>, AllocError> {
+    let mut modules = Vec::new(alloc);
+    for module in 0..count {
+        modules.push(menu(alloc, analysis, module)?)?;
+    }
+    Ok(modules)
+}
+
+/// Whether the list is written where no words are given.
+fn default_list(analysis: &Analysis) -> bool {
+    match analysis.settings(0) {
+        Some(settings) => settings.default_list,
+        None => false,
+    }
 }
 
 /// What words may name: the recipes by their places, and the names of each module. Refused only
@@ -117,17 +194,11 @@ pub fn menus<'a, 'src>(
     justfile: Justfile<'a, 'src>,
 ) -> Result<Menus<'a>, AllocError> {
     let analysis = justfile.analysis();
-    let mut modules = Vec::new(alloc);
-    for module in 0..analysis.module_count() {
-        modules.push(menu(alloc, analysis, module)?)?;
-    }
-    let default_list = match analysis.settings(0) {
-        Some(settings) => settings.default_list,
-        None => false,
-    };
+    let modules = all_menus(alloc, analysis, analysis.module_count())?;
+    let recipes = callables(alloc, analysis.recipes())?;
     Ok(Menus {
-        recipes: callables(alloc, analysis)?,
+        recipes,
         modules,
-        default_list,
+        default_list: default_list(analysis),
     })
 }

@@ -1,56 +1,13 @@
 //! Whether recipes are entered alike as dependencies and by words.
+use crate::calls::references_ask;
 use crate::justfile::Justfile;
+use just_attribute_tree::Attribute;
+use just_attributes::AttributeSet;
 use just_builtins::FunctionRef;
-use just_graph::reached;
-use just_references::{Reference, References};
-use just_resolve::ResolvedRecipe;
-use justfile_syntax::{Attribute, Parameter, Recipe, UnresolvedDependency};
+use just_references::References;
+use just_resolve::{Analysis, ResolvedRecipe};
+use just_tree::{DependencyArgument, Parameter, Recipe, UnresolvedDependency};
 use std::alloc::{AllocError, Global};
-
-/// The built-in function that tells dependencies apart.
-const ASKING: &str = "is_dependency";
-
-/// What expressions call.
-#[derive(Drop)]
-struct Calls {
-    /// The places of the module's functions.
-    defined: Vec<usize>,
-    /// Whether a call asks for the flag of dependencies.
-    asks: bool,
-}
-
-/// The place of the function of this name among those that are in byte order of their names.
-fn place_of(functions: &[FunctionRef], name: &str) -> Option<usize> {
-    let place = functions.partition_point(|known| known.definition.name.lexeme() < name);
-    if place >= functions.len() {
-        return None;
-    }
-    let definition = functions[place].definition;
-    if definition.name.lexeme() == name {
-        Some(place)
-    } else {
-        None
-    }
-}
-
-/// What is called there.
-fn calls_of(
-    alloc: Global,
-    functions: &[FunctionRef],
-    references: &References,
-) -> Result<Calls, AllocError> {
-    let mut defined = Vec::new(alloc);
-    let mut asks = false;
-    for reference in references.as_slice() {
-        if let Reference::Call { name, .. } = reference {
-            match place_of(functions, name.lexeme()) {
-                Some(place) => defined.push(place)?,
-                None => asks = asks || name.lexeme() == ASKING,
-            }
-        }
-    }
-    Ok(Calls { defined, asks })
-}
 
 fn add_attribute<'src>(
     references: &mut References<'src>,
@@ -66,14 +23,42 @@ fn add_attribute<'src>(
     }
 }
 
+fn add_attributes<'src>(
+    references: &mut References<'src>,
+    attributes: &AttributeSet<'src>,
+) -> Result<(), AllocError> {
+    for item in attributes.iter() {
+        add_attribute(references, &item.attribute)?;
+    }
+    Ok(())
+}
+
+fn add_parameter<'src>(
+    references: &mut References<'src>,
+    parameter: &Parameter<'src>,
+) -> Result<(), AllocError> {
+    match &parameter.default {
+        Some(default) => references.add(default),
+        None => Ok(()),
+    }
+}
+
 fn add_parameters<'src>(
     references: &mut References<'src>,
     parameters: &[Parameter<'src>],
 ) -> Result<(), AllocError> {
     for parameter in parameters {
-        if let Some(default) = &parameter.default {
-            references.add(default)?;
-        }
+        add_parameter(references, parameter)?;
+    }
+    Ok(())
+}
+
+fn add_arguments<'src>(
+    references: &mut References<'src>,
+    arguments: &[DependencyArgument<'src>],
+) -> Result<(), AllocError> {
+    for argument in arguments {
+        references.add(&argument.expression)?;
     }
     Ok(())
 }
@@ -83,9 +68,7 @@ fn add_priors<'src>(
     priors: &[UnresolvedDependency<'src>],
 ) -> Result<(), AllocError> {
     for dependency in priors {
-        for argument in &dependency.arguments {
-            references.add(&argument.expression)?;
-        }
+        add_arguments(references, dependency.arguments.as_slice())?;
     }
     Ok(())
 }
@@ -95,9 +78,7 @@ fn add_recipe<'src>(
     references: &mut References<'src>,
     recipe: &Recipe<'src, UnresolvedDependency<'src>>,
 ) -> Result<(), AllocError> {
-    for item in recipe.attributes.iter() {
-        add_attribute(references, &item.attribute)?;
-    }
+    add_attributes(references, &recipe.attributes)?;
     add_parameters(references, recipe.parameters.as_slice())?;
     add_priors(references, recipe.priors.as_slice())
 }
@@ -118,80 +99,70 @@ fn front<'src>(
 }
 
 /// Whether a parameter's value is replaced where words call its recipe.
-fn has_value(recipe: &Recipe<'_, UnresolvedDependency<'_>>) -> bool {
-    recipe
-        .parameters
-        .iter()
-        .any(|parameter| parameter.value.is_some())
-}
-
-/// What each function calls.
-#[derive(Drop)]
-struct FunctionCalls {
-    graph: Vec<Vec<usize>>,
-    asks: Vec<bool>,
-}
-
-fn function_calls(alloc: Global, functions: &[FunctionRef]) -> Result<FunctionCalls, AllocError> {
-    let mut all = FunctionCalls {
-        graph: Vec::new(alloc),
-        asks: Vec::new(alloc),
-    };
-    for lent in functions {
-        let references = References::of(alloc, &lent.definition.body)?;
-        let Calls { defined, asks } = calls_of(alloc, functions, &references)?;
-        all.graph.push(defined)?;
-        all.asks.push(asks)?;
+fn any_value(parameters: &[Parameter]) -> bool {
+    for parameter in parameters {
+        if parameter.value.is_some() {
+            return true;
+        }
     }
-    Ok(all)
+    false
 }
 
-/// Whether a function that is reached asks for the flag of dependencies.
-fn any_asks(asks: &[bool], marks: &[Option<usize>]) -> bool {
-    asks.iter()
-        .zip(marks)
-        .any(|(asks, mark)| *asks && mark.is_some())
+/// Whether one of the recipes has such a parameter.
+fn any_recipe_value(recipes: &[ResolvedRecipe]) -> bool {
+    for resolved in recipes {
+        if any_value(resolved.recipe.parameters.as_slice()) {
+            return true;
+        }
+    }
+    false
 }
 
-/// Whether what is evaluated before bodies asks for the flag, directly or through functions.
-fn module_asks(
+/// Whether what is evaluated before the bodies of the module's recipes asks for the flag of
+/// dependencies.
+fn recipes_ask(
     alloc: Global,
     functions: &[FunctionRef],
-    references: &References,
+    recipes: &[ResolvedRecipe],
+    module: usize,
 ) -> Result<bool, AllocError> {
-    let Calls { defined, asks } = calls_of(alloc, functions, references)?;
-    let all = function_calls(alloc, functions)?;
-    let marks = reached(alloc, all.graph.as_slice(), &[], defined.as_slice())?;
-    Ok(asks || any_asks(all.asks.as_slice(), marks.as_slice()))
+    let references = front(alloc, recipes, module)?;
+    references_ask(alloc, functions, references.as_slice())
+}
+
+/// The same of the module at this place.
+fn module_asks(alloc: Global, analysis: &Analysis, module: usize) -> Result<bool, AllocError> {
+    match analysis.lists(module) {
+        Some(lists) => recipes_ask(
+            alloc,
+            lists.functions.as_slice(),
+            analysis.recipes(),
+            module,
+        ),
+        None => Ok(false),
+    }
+}
+
+/// The same of one of so many modules.
+fn any_module_asks(alloc: Global, analysis: &Analysis, count: usize) -> Result<bool, AllocError> {
+    for module in 0..count {
+        if module_asks(alloc, analysis, module)? {
+            return Ok(true);
+        }
+    }
+    Ok(false)
 }
 
 impl<'a, 'src> Justfile<'a, 'src> {
-    fn is_module_steady(&self, alloc: Global) -> Result<bool, AllocError> {
-        let Some(lists) = self.analysis().lists(self.module()) else {
-            return Ok(true);
-        };
-        let references = front(alloc, self.analysis().recipes(), self.module())?;
-        Ok(!module_asks(alloc, lists.functions.as_slice(), &references)?)
-    }
-
     /// Whether each recipe of all modules is entered alike as a dependency and by words: no call of
     /// the built-in `is_dependency` is written in a default, an `env` attribute, an argument of a
     /// dependency before a body or a confirmation, or in a function that is called from there through
     /// any chain of calls, and no parameter has a `value`. Refused only where memory is.
     pub fn is_steady(&self, alloc: Global) -> Result<bool, AllocError> {
         let analysis = self.analysis();
-        if analysis
-            .recipes()
-            .iter()
-            .any(|known| has_value(known.recipe))
-        {
+        if any_recipe_value(analysis.recipes()) {
             return Ok(false);
         }
-        for module in 0..analysis.module_count() {
-            if !self.at(module).is_module_steady(alloc)? {
-                return Ok(false);
-            }
-        }
-        Ok(true)
+        Ok(!any_module_asks(alloc, analysis, analysis.module_count())?)
     }
 }

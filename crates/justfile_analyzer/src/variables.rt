@@ -1,59 +1,91 @@
 //! The texts of variables.
+ghost use Rattle.std.specs.Prelude.{◌≡◌, ◌++◌, IfOk, OnOk};
+ghost use Rattle.std.specs.String.{string_bytes};
+ghost use Rattle.justfile_analyzer.specs.Variables as spec;
+
+use crate::padding::push_spaces;
 use just_builtins::AssignmentRef;
-use just_value::Scope;
+use just_value::{Scope, Value};
 use std::alloc::{AllocError, Global};
 
+/// How long the name is, none where the variable is private.
+fn counted_name(variable: AssignmentRef) -> usize
+    ensures { result ≡ spec.counted_name variable.entry }
+{
+    if variable.assignment.private {
+        0
+    } else {
+        variable.assignment.name.lexeme().len()
+    }
+}
+
 /// The length of the longest name that is not private.
-fn longest(assignments: &[AssignmentRef]) -> usize {
+fn longest(variables: &[AssignmentRef]) -> usize
+    ensures { result ≡ spec.longest variables.now }
+{
     let mut longest = 0;
-    for lent in assignments {
-        let length = lent.assignment.name.lexeme().len();
-        if !lent.assignment.private && longest < length {
-            longest = length;
-        }
+    for variable in variables {
+        longest = counted_name(*variable).max(longest);
     }
     longest
 }
 
-fn push_spaces(text: &mut String, count: usize) -> Result<(), AllocError> {
-    for _ in 0..count {
-        text.push(' ')?;
-    }
-    Ok(())
-}
-
-fn push_variable(
+/// Puts the name there, with spaces up to the column, and the value.
+fn push_value(
     alloc: Global,
     text: &mut String,
-    lent: AssignmentRef,
-    scope: &Scope,
-    longest: usize,
-) -> Result<(), AllocError> {
-    let name = lent.assignment.name.lexeme();
-    let Some(value) = scope.value(lent.assignment.number) else {
-        return Ok(());
-    };
-    text.push_str(name)?;
-    push_spaces(text, longest.saturating_sub(name.len()))?;
+    column: usize,
+    name: &str,
+    value: &Value,
+) -> Result<(), AllocError>
+    ensures { OnOk result (string_bytes text.new ≡ string_bytes text.old ++ spec.value_line column name.now (Some value.now)) }
+{
     let value = value.to_string(alloc)?;
+    text.push_str(name)?;
+    push_spaces(text, column.saturating_sub(name.len()))?;
     text.push_str(" := ")?;
     text.push_str(value.as_str())?;
     text.push('\n')
+}
+
+/// Puts the variable's line there, nothing where it is private or has no value.
+fn push_variable(
+    alloc: Global,
+    text: &mut String,
+    scope: &Scope,
+    column: usize,
+    variable: AssignmentRef,
+) -> Result<(), AllocError>
+    ensures { OnOk result (string_bytes text.new ≡ string_bytes text.old ++ spec.variable_line scope.now column variable.entry) }
+{
+    if variable.assignment.private {
+        return Ok(());
+    }
+    match scope.value(variable.assignment.number) {
+        Some(value) => push_value(
+            alloc,
+            text,
+            column,
+            variable.assignment.name.lexeme(),
+            value,
+        ),
+        None => Ok(()),
+    }
 }
 
 /// The variables that are not private, each with its printed value in the frame, one a line. Refused
 /// only where memory is.
 pub fn variables_text(
     alloc: Global,
-    assignments: &[AssignmentRef],
+    variables: &[AssignmentRef],
     scope: &Scope,
-) -> Result<String, AllocError> {
-    let longest = longest(assignments);
+) -> Result<String, AllocError>
+    ensures { IfOk result (λ text. string_bytes text ≡ spec.variables_text scope.now variables.now) }
+{
+    let column = longest(variables);
     let mut text = String::new(alloc);
-    for lent in assignments {
-        if !lent.assignment.private {
-            push_variable(alloc, &mut text, *lent, scope, longest)?;
-        }
+    for variable in variables {
+        push_variable(alloc, &mut text, scope, column, *variable)?;
     }
     Ok(text)
 }

@@ -1,4 +1,6 @@
 //! The variables of a module.
+ghost use Rattle.just_builtins.specs.Asking.{Asks};
+
 use just_builtins::{Error, ExecutionContext};
 use just_evaluation::Evaluator;
 use just_host::{Host, Recorded};
@@ -15,7 +17,9 @@ fn assigned_value<'src, H: Host + Drop>(
     context: &ExecutionContext<'_, 'src>,
     scope: &Scope<'_, 'src>,
     assignment: &Assignment<'src>,
-) -> Result<Value, Error<'src>> {
+) -> Result<Value, Error<'src>>
+    ensures asks { Asks H.goes host.old host.new }
+{
     if let Some(text) = context.overrides.get(&assignment.number) {
         return Ok(Value::from_text(alloc, text.as_str())?);
     }
@@ -39,7 +43,9 @@ pub fn open_assignments<'src, H: Host + Drop>(
     context: &ExecutionContext<'_, 'src>,
     scope: &mut Scope<'_, 'src>,
     references: Option<&BTreeSet<Number>>,
-) -> Result<(), Error<'src>> {
+) -> Result<(), Error<'src>>
+    ensures asks { Asks H.goes host.old host.new }
+{
     for lent in context.module.evaluation_order {
         let assignment = lent.assignment;
         let number = assignment.number;
@@ -59,7 +65,9 @@ pub fn evaluate_assignments<'a, 'src, H: Host + Drop>(
     host: &mut Recorded<H>,
     context: &ExecutionContext<'a, 'src>,
     references: Option<&BTreeSet<Number>>,
-) -> Result<Scope<'a, 'src>, Error<'src>> {
+) -> Result<Scope<'a, 'src>, Error<'src>>
+    ensures asks { Asks H.goes host.old host.new }
+{
     let mut scope = context.scope.child(alloc)?;
     match open_assignments(alloc, host, context, &mut scope, references) {
         Ok(()) => Ok(scope),

@@ -1,4 +1,6 @@
 //! What a recipe's parameters stand for.
+ghost use Rattle.just_builtins.specs.Asking.{Asks};
+
 use just_attribute_tree::Attribute;
 use just_attributes::AttributeItem;
 use just_builtins::{Error, ExecutionContext};
@@ -48,7 +50,9 @@ fn env_pair<'src, H: Host + Drop>(
     key: &Expression<'src>,
     value: &Expression<'src>,
     name: Name<'src>,
-) -> Result<Option<Pair>, Error<'src>> {
+) -> Result<Option<Pair>, Error<'src>>
+    ensures asks { Asks H.goes host.old host.new }
+{
     let context = StringContext::EnvKey(name.token);
     let key = evaluator.evaluate_string(alloc, host, key, context)?;
     let value = evaluator.evaluate_value(alloc, host, value)?;
@@ -70,7 +74,9 @@ fn attribute_pair<'src, H: Host + Drop>(
     env: &[Pair],
     scope: &Scope<'_, 'src>,
     item: &AttributeItem<'src>,
-) -> Result<Option<Pair>, Error<'src>> {
+) -> Result<Option<Pair>, Error<'src>>
+    ensures asks { Asks H.goes host.old host.new }
+{
     let Attribute::Env { key, value } = &item.attribute else {
         return Ok(None);
     };
@@ -85,7 +91,9 @@ fn attribute_pairs<'src, H: Host + Drop, D>(
     site: &Site<'_, 'src>,
     scope: &Scope<'_, 'src>,
     recipe: &Recipe<'src, D>,
-) -> Result<Vec<Pair>, Error<'src>> {
+) -> Result<Vec<Pair>, Error<'src>>
+    ensures asks { Asks H.goes host.old host.new }
+{
     let mut env = Vec::new(alloc);
     for item in recipe.attributes.iter() {
         if let Some(pair) = attribute_pair(alloc, host, site, env.as_slice(), scope, item)? {
@@ -113,7 +121,9 @@ fn default_value<'src, H: Host + Drop>(
     evaluator: &Evaluator<'_, 'src>,
     parameter: &Parameter<'src>,
     recipe: Name<'src>,
-) -> Result<Value, Error<'src>> {
+) -> Result<Value, Error<'src>>
+    ensures asks { Asks H.goes host.old host.new }
+{
     if let Some(default) = &parameter.default {
         return evaluator.evaluate_value(alloc, host, default);
     }
@@ -136,7 +146,9 @@ fn parameter_value<'src, H: Host + Drop>(
     scope: &Scope<'_, 'src>,
     parameter: &Parameter<'src>,
     group: &Value,
-) -> Result<Value, Error<'src>> {
+) -> Result<Value, Error<'src>>
+    ensures asks { Asks H.goes host.old host.new }
+{
     let evaluator = site.evaluator(env, scope);
     if group.is_empty() {
         return default_value(alloc, host, &evaluator, parameter, site.recipe);
@@ -222,6 +234,7 @@ fn bind_parameters<'src, H: Host + Drop, F: Fn(&Parameter, usize) -> bool>(
     check: &F,
 ) -> Result<Vec<String>, Error<'src>>
     requires { F.IsAlwaysCallable check.now }
+    ensures asks { Asks H.goes host.old host.new }
 {
     let lists = site.context.module.settings.lists;
     let mut positional = Vec::new(alloc);
@@ -251,6 +264,7 @@ pub fn evaluate_parameters<'src, H: Host + Drop, D, F: Fn(&Parameter, usize) -> 
     check: &F,
 ) -> Result<BoundParameters, Error<'src>>
     requires { F.IsAlwaysCallable check.now }
+    ensures asks { Asks H.goes host.old host.new }
 {
     let site = Site {
         context,

@@ -66,7 +66,7 @@ fn sources(alloc: Global, pairs: &[(&str, &str)]) -> Result<BTreeMap<String, Str
 }
 
 /// The item's name with its file and line, if it has one.
-fn tell_place(out: &mut String, compilation: &Compilation, place: Place) -> Result<(), AllocError> {
+fn tell_place(compilation: &Compilation, out: &mut String, place: Place) -> Result<(), AllocError> {
     if let Some(name) = compilation.name(place) {
         let line = name.token.line.saturating_add(1);
         write!(out, " {name}@{}:{line}", name.token.path)?;
@@ -76,8 +76,8 @@ fn tell_place(out: &mut String, compilation: &Compilation, place: Place) -> Resu
 
 /// The word, and behind it the names of the items with their files and lines, if there are any.
 fn tell_places(
-    out: &mut String,
     compilation: &Compilation,
+    out: &mut String,
     word: &str,
     places: &[Place],
 ) -> Result<(), AllocError> {
@@ -85,19 +85,19 @@ fn tell_places(
         write!(out, " {word}")?;
     }
     for place in places {
-        tell_place(out, compilation, *place)?;
+        tell_place(compilation, out, *place)?;
     }
     Ok(())
 }
 
 /// The module's settings and variables, and the names that it takes back.
 fn tell_others(
-    out: &mut String,
     compilation: &Compilation,
+    out: &mut String,
     node: &ModuleNode,
 ) -> Result<(), AllocError> {
-    tell_places(out, compilation, "sets", node.sets.as_slice())?;
-    tell_places(out, compilation, "variables", node.assignments.as_slice())?;
+    tell_places(compilation, out, "sets", node.sets.as_slice())?;
+    tell_places(compilation, out, "variables", node.assignments.as_slice())?;
     for name in &node.unexports {
         write!(out, " unexport {name}")?;
     }
@@ -106,20 +106,20 @@ fn tell_others(
 
 /// The module's path, and all that it keeps.
 fn tell_module(
-    out: &mut String,
     compilation: &Compilation,
+    out: &mut String,
     node: &ModuleNode,
 ) -> Result<(), AllocError> {
     write!(out, "[{}]", node.path)?;
-    tell_places(out, compilation, "aliases", node.aliases.as_slice())?;
-    tell_places(out, compilation, "disabled", node.disabled.as_slice())?;
-    tell_places(out, compilation, "functions", node.functions.as_slice())?;
-    tell_places(out, compilation, "recipes", node.recipes.as_slice())?;
-    tell_others(out, compilation, node)
+    tell_places(compilation, out, "aliases", node.aliases.as_slice())?;
+    tell_places(compilation, out, "disabled", node.disabled.as_slice())?;
+    tell_places(compilation, out, "functions", node.functions.as_slice())?;
+    tell_places(compilation, out, "recipes", node.recipes.as_slice())?;
+    tell_others(compilation, out, node)
 }
 
 /// The module, and all below it.
-fn tell_modules(out: &mut String, compilation: &Compilation) -> Result<(), AllocError> {
+fn tell_modules(compilation: &Compilation, out: &mut String) -> Result<(), AllocError> {
     let mut open = Vec::new(*out.allocator());
     open.push(0usize)?;
     for _ in 0..compilation.modules.len() {
@@ -127,7 +127,7 @@ fn tell_modules(out: &mut String, compilation: &Compilation) -> Result<(), Alloc
             return Ok(());
         };
         if let Some(node) = compilation.module(module) {
-            tell_module(out, compilation, node)?;
+            tell_module(compilation, out, node)?;
             for submodule in node.submodules.iter().rev() {
                 open.push(*submodule)?;
             }
@@ -155,7 +155,7 @@ fn tell_compiled(
     root: &str,
 ) -> Result<(), AllocError> {
     match Compiler::compile(*out.allocator(), config, &Same, sources, root) {
-        Ok(compilation) => tell_modules(out, &compilation),
+        Ok(compilation) => tell_modules(&compilation, out),
         Err(error) => tell_error(out, &error),
     }
 }
@@ -196,6 +196,6 @@ fn others(alloc: Global, rows: &[Row]) -> Result<String, AllocError> {
 /// Whether each row is told.
 pub(crate) fn tell(rt: &impl Abort, alloc: Global, rows: &[Row]) -> Result<(), Fail> {
     let others = others(alloc, rows)?;
-    assert_eq!(rt; others.as_str(), "");
+    assert!(rt; others.is_empty(), "{others}");
     Ok(())
 }

@@ -1,6 +1,4 @@
 //! What the first word asks.
-ghost use Rattle.std.specs.Prelude.{◌≤◌, length};
-
 use just_run::Action;
 
 /// What the first word asks, if it is a switch.
@@ -30,9 +28,7 @@ fn action(word: &str) -> Option<Action> {
 }
 
 /// What the first of the words asks; a run of recipes where it is no switch.
-pub fn read_start(words: &[String]) -> Start
-    ensures { result.count ≤ length words.now }
-{
+pub fn read_start(words: &[String]) -> Start {
     let mut start = Start {
         action: Action::Run,
         dry_run: false,

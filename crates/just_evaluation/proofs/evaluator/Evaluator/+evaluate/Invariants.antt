@@ -2,6 +2,7 @@
 -- what is evaluated.
 use Rattle.std.proofs.Common.{max}
 use Rattle.just_expression_tree.specs.declared.expression.Expression.{size-Expression}
+use Rattle.just_builtins.specs.Asking.{Asks}
 use Rattle.just_evaluation.specs.Calls.{weight}
 use Rattle.just_evaluation.proofs.evaluator.Evaluator.+evaluate.Given as goal
 
@@ -58,3 +59,16 @@ decreases-call_builtin g l = weight l.self.now.stage l.self.now.calls_left (goal
 
 abbrev pub decreases-evaluate_arguments : goal.decreases-evaluate_arguments
 decreases-evaluate_arguments g l = weight l.self.now.stage l.self.now.calls_left (goal.size-evaluate_arguments g l) 1
+
+-- what was asked so far
+abbrev pub invariant-evaluate_arguments-loop-expression : goal.invariant-evaluate_arguments-loop-expression
+invariant-evaluate_arguments-loop-expression g l = Asks g.H.Host.goes l.initial.host l.host
+
+abbrev pub invariant-evaluate_format-loop-expression : goal.invariant-evaluate_format-loop-expression
+invariant-evaluate_format-loop-expression g l = Asks g.H.Host.goes l.initial.host l.host
+
+abbrev pub invariant-evaluate_list-loop-element : goal.invariant-evaluate_list-loop-element
+invariant-evaluate_list-loop-element g l = Asks g.H.Host.goes l.initial.host l.host
+
+abbrev pub invariant-evaluate_row-loop-expression : goal.invariant-evaluate_row-loop-expression
+invariant-evaluate_row-loop-expression g l = Asks g.H.Host.goes l.initial.host l.host

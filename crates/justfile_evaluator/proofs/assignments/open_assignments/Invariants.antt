@@ -1,0 +1,6 @@
+-- What was asked so far.
+use Rattle.just_builtins.specs.Asking.{Asks}
+use Rattle.justfile_evaluator.proofs.assignments.open_assignments.Given as goal
+
+abbrev pub invariant-loop-lent : goal.invariant-loop-lent
+invariant-loop-lent g l = Asks g.H.Host.goes l.initial.host l.host
