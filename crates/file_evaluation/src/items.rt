@@ -4,7 +4,7 @@ use justfile_syntax::{Item, Name};
 use std::alloc::{AllocError, Global};
 
 /// The variables, in the order of the file.
-fn assignments_of<'a, 'src>(
+pub(crate) fn assignments_of<'a, 'src>(
     alloc: Global,
     items: &'a [Item<'src>],
 ) -> Result<Vec<AssignmentRef<'a, 'src>>, AllocError> {
@@ -18,7 +18,7 @@ fn assignments_of<'a, 'src>(
 }
 
 /// The functions, in the order of the file.
-fn functions_of<'a, 'src>(
+pub(crate) fn functions_of<'a, 'src>(
     alloc: Global,
     items: &'a [Item<'src>],
 ) -> Result<Vec<FunctionRef<'a, 'src>>, AllocError> {
@@ -32,7 +32,7 @@ fn functions_of<'a, 'src>(
 }
 
 /// The settings, in the order of the file.
-fn sets_of<'a, 'src>(
+pub(crate) fn sets_of<'a, 'src>(
     alloc: Global,
     items: &'a [Item<'src>],
 ) -> Result<Vec<SetRef<'a, 'src>>, AllocError> {
@@ -46,7 +46,10 @@ fn sets_of<'a, 'src>(
 }
 
 /// The names that are not exported, in the order of the file.
-fn unexports_of<'src>(alloc: Global, items: &[Item<'src>]) -> Result<Vec<Name<'src>>, AllocError> {
+pub(crate) fn unexports_of<'src>(
+    alloc: Global,
+    items: &[Item<'src>],
+) -> Result<Vec<Name<'src>>, AllocError> {
     let mut unexports = Vec::new(alloc);
     for item in items {
         if let Item::Unexport(unexport) = item {
@@ -54,38 +57,4 @@ fn unexports_of<'src>(alloc: Global, items: &[Item<'src>]) -> Result<Vec<Name<'s
         }
     }
     Ok(unexports)
-}
-
-/// The items of a file that are lent.
-#[derive(Clone, Copy)]
-pub(crate) struct Items<'a, 'src> {
-    pub(crate) items: &'a [Item<'src>],
-}
-
-impl<'a, 'src> Items<'a, 'src> {
-    /// The variables, in the order of the file.
-    pub(crate) fn assignments(
-        &self,
-        alloc: Global,
-    ) -> Result<Vec<AssignmentRef<'a, 'src>>, AllocError> {
-        assignments_of(alloc, self.items)
-    }
-
-    /// The functions, in the order of the file.
-    pub(crate) fn functions(
-        &self,
-        alloc: Global,
-    ) -> Result<Vec<FunctionRef<'a, 'src>>, AllocError> {
-        functions_of(alloc, self.items)
-    }
-
-    /// The settings, in the order of the file.
-    pub(crate) fn sets(&self, alloc: Global) -> Result<Vec<SetRef<'a, 'src>>, AllocError> {
-        sets_of(alloc, self.items)
-    }
-
-    /// The names that are not exported, in the order of the file.
-    pub(crate) fn unexports(&self, alloc: Global) -> Result<Vec<Name<'src>>, AllocError> {
-        unexports_of(alloc, self.items)
-    }
 }

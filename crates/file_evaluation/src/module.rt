@@ -1,7 +1,7 @@
 //! The variables of a file, and its first recipe.
 use crate::file::{parsed, refusal};
 use crate::host::{Reply, Scripted};
-use crate::items::Items;
+use crate::items::{assignments_of, functions_of, unexports_of};
 use crate::numbers::number_items;
 use crate::outcome::{push_bindings, push_error, push_outcome};
 use crate::questions::push_questions;
@@ -42,16 +42,16 @@ fn push_variables<'src>(
 /// Tells the module's variables, and its first recipe if it is asked for.
 fn push_evaluated<'src>(
     alloc: Global,
+    items: &[Item<'src>],
     told: &mut String,
     host: &mut Recorded<Scripted<'_>>,
     asked: &Asked<'_>,
-    items: &Items<'_, 'src>,
     context: &ExecutionContext<'_, 'src>,
 ) -> Result<(), AllocError> {
     let mut scope = context.scope.child(alloc)?;
     push_variables(alloc, told, host, context, &mut scope)?;
     match &asked.given {
-        Some(given) => push_first_recipe(alloc, told, host, given, items, context, &scope),
+        Some(given) => push_first_recipe(alloc, items, told, host, given, context, &scope),
         None => Ok(()),
     }
 }
@@ -59,23 +59,23 @@ fn push_evaluated<'src>(
 /// Tells what the module is evaluated to, and then the questions.
 fn push_asked<'src>(
     alloc: Global,
+    items: &[Item<'src>],
     told: &mut String,
     asked: &Asked<'_>,
-    items: &Items<'_, 'src>,
     context: &ExecutionContext<'_, 'src>,
 ) -> Result<(), AllocError> {
     let replies = asked.replies;
     let mut host = Recorded::new(alloc, Scripted { alloc, replies });
-    push_evaluated(alloc, told, &mut host, asked, items, context)?;
+    push_evaluated(alloc, items, told, &mut host, asked, context)?;
     push_questions(alloc, told, host.entries())
 }
 
 /// Tells the module in the constants' frame, without variables of files.
 fn push_rooted<'src>(
     alloc: Global,
+    items: &[Item<'src>],
     told: &mut String,
     asked: &Asked<'_>,
-    items: &Items<'_, 'src>,
     module: &ModuleView<'_, 'src>,
     root: &Scope<'_, 'src>,
 ) -> Result<(), AllocError> {
@@ -89,19 +89,19 @@ fn push_rooted<'src>(
         scope: root,
         root: "justfile",
     };
-    push_asked(alloc, told, asked, items, &context)
+    push_asked(alloc, items, told, asked, &context)
 }
 
 /// Tells the module inside the constants.
 fn push_module<'src>(
     alloc: Global,
+    items: &[Item<'src>],
     told: &mut String,
     asked: &Asked<'_>,
-    items: &Items<'_, 'src>,
     module: &ModuleView<'_, 'src>,
 ) -> Result<(), AllocError> {
     let root: Scope<'_, 'src> = Scope::root(alloc)?;
-    push_rooted(alloc, told, asked, items, module, &root)
+    push_rooted(alloc, items, told, asked, module, &root)
 }
 
 /// The module of a file that lies in the base folder.
@@ -127,35 +127,35 @@ fn view<'a, 'src>(
 /// Tells the module of these parts.
 fn push_parts<'src>(
     alloc: Global,
+    items: &[Item<'src>],
     told: &mut String,
     asked: &Asked<'_>,
-    items: &Items<'_, 'src>,
     assignments: &[AssignmentRef<'_, 'src>],
     functions: &[FunctionRef<'_, 'src>],
     settings: &Settings,
     unexports: &[Name<'src>],
 ) -> Result<(), AllocError> {
     let module = view(assignments, functions, settings, unexports);
-    push_module(alloc, told, asked, items, &module)
+    push_module(alloc, items, told, asked, &module)
 }
 
 /// Tells the settings, and then the module that has them.
 fn push_set<'src>(
     alloc: Global,
+    items: &[Item<'src>],
     told: &mut String,
     asked: &Asked<'_>,
-    items: &Items<'_, 'src>,
     assignments: &[AssignmentRef<'_, 'src>],
     settings: &Settings,
 ) -> Result<(), AllocError> {
     push_settings(told, settings)?;
-    let functions = items.functions(alloc)?;
-    let unexports = items.unexports(alloc)?;
+    let functions = functions_of(alloc, items)?;
+    let unexports = unexports_of(alloc, items)?;
     push_parts(
         alloc,
+        items,
         told,
         asked,
-        items,
         assignments,
         functions.as_slice(),
         settings,
@@ -166,36 +166,32 @@ fn push_set<'src>(
 /// Tells what the items are evaluated to, or why their settings are refused.
 fn push_items<'src>(
     alloc: Global,
+    items: &[Item<'src>],
     told: &mut String,
     asked: &Asked<'_>,
-    items: &Items<'_, 'src>,
 ) -> Result<(), AllocError> {
-    let assignments = items.assignments(alloc)?;
-    match settings_of(alloc, asked.overrides, items, assignments.as_slice()) {
-        Ok(settings) => push_set(alloc, told, asked, items, assignments.as_slice(), &settings),
+    let assignments = assignments_of(alloc, items)?;
+    match settings_of(alloc, items, asked.overrides, assignments.as_slice()) {
+        Ok(settings) => push_set(alloc, items, told, asked, assignments.as_slice(), &settings),
         Err(error) => push_error(told, &error),
     }
 }
 
 /// What the items are evaluated to, whose variables are numbered.
-fn told_items(
-    alloc: Global,
-    asked: &Asked<'_>,
-    items: &Items<'_, '_>,
-) -> Result<String, AllocError> {
+fn told_items(alloc: Global, items: &[Item], asked: &Asked<'_>) -> Result<String, AllocError> {
     let mut told = String::new(alloc);
-    push_items(alloc, &mut told, asked, items)?;
+    push_items(alloc, items, &mut told, asked)?;
     Ok(told)
 }
 
 /// Numbers the variables of the items, and tells what these are evaluated to.
 fn evaluated_items(
     alloc: Global,
-    asked: &Asked<'_>,
     items: &mut [Item],
+    asked: &Asked<'_>,
 ) -> Result<String, AllocError> {
     match number_items(alloc, items) {
-        Ok(()) => told_items(alloc, asked, &Items { items: &*items }),
+        Ok(()) => told_items(alloc, &*items, asked),
         Err(error) => Err(error),
     }
 }
@@ -210,7 +206,7 @@ pub fn evaluated_file(
 ) -> Result<String, AllocError> {
     match parsed(alloc, asked.config, source) {
         Ok(mut file) => {
-            let told = evaluated_items(alloc, asked, file.items.as_mut_slice());
+            let told = evaluated_items(alloc, file.items.as_mut_slice(), asked);
             drop(file);
             told
         }

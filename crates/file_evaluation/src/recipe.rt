@@ -1,6 +1,5 @@
 //! The first recipe of a file: its parameters and its lines.
 use crate::host::Scripted;
-use crate::items::Items;
 use crate::outcome::{push_bindings, push_outcome};
 use justfile_evaluator::{
     BoundParameters, Error, Evaluator, ExecutionContext, Pair, Recorded, Scope, Value,
@@ -80,10 +79,10 @@ fn push_parameters(
 /// Tells the lines.
 fn push_lines<'src>(
     alloc: Global,
+    lines: &[Line<'src>],
     told: &mut String,
     host: &mut Recorded<Scripted<'_>>,
     evaluator: &Evaluator<'_, 'src>,
-    lines: &[Line<'src>],
 ) -> Result<(), Error<'src>> {
     let mut continued = false;
     for line in lines {
@@ -97,10 +96,10 @@ fn push_lines<'src>(
 /// Tells the recipe in the frame of its parameters.
 fn push_bound<'src>(
     alloc: Global,
+    recipe: &Recipe<'src, UnresolvedDependency<'src>>,
     told: &mut String,
     host: &mut Recorded<Scripted<'_>>,
     given: &Given<'_>,
-    recipe: &Recipe<'src, UnresolvedDependency<'src>>,
     context: &ExecutionContext<'_, 'src>,
     bound: &BoundParameters,
     scope: &Scope<'_, 'src>,
@@ -114,15 +113,15 @@ fn push_bound<'src>(
         Some(recipe.name),
         &body,
     );
-    push_lines(alloc, told, host, &evaluator, recipe.body.as_slice())
+    push_lines(alloc, recipe.body.as_slice(), told, host, &evaluator)
 }
 
 /// The recipe's parameters, bound in the frame.
 fn bound_parameters<'src>(
     alloc: Global,
+    recipe: &Recipe<'src, UnresolvedDependency<'src>>,
     host: &mut Recorded<Scripted<'_>>,
     given: &Given<'_>,
-    recipe: &Recipe<'src, UnresolvedDependency<'src>>,
     context: &ExecutionContext<'_, 'src>,
     scope: &mut Scope<'_, 'src>,
 ) -> Result<BoundParameters, Error<'src>> {
@@ -142,29 +141,29 @@ fn bound_parameters<'src>(
 /// Tells the recipe in the context's scope.
 fn push_recipe<'src>(
     alloc: Global,
+    recipe: &Recipe<'src, UnresolvedDependency<'src>>,
     told: &mut String,
     host: &mut Recorded<Scripted<'_>>,
     given: &Given<'_>,
-    recipe: &Recipe<'src, UnresolvedDependency<'src>>,
     context: &ExecutionContext<'_, 'src>,
 ) -> Result<(), Error<'src>> {
     let mut scope = context.scope.child(alloc)?;
-    let bound = bound_parameters(alloc, host, given, recipe, context, &mut scope)?;
-    push_bound(alloc, told, host, given, recipe, context, &bound, &scope)
+    let bound = bound_parameters(alloc, recipe, host, given, context, &mut scope)?;
+    push_bound(alloc, recipe, told, host, given, context, &bound, &scope)
 }
 
 /// Tells the first recipe among the items, if there is one.
 fn push_first<'src>(
     alloc: Global,
+    items: &[Item<'src>],
     told: &mut String,
     host: &mut Recorded<Scripted<'_>>,
     given: &Given<'_>,
-    items: &[Item<'src>],
     context: &ExecutionContext<'_, 'src>,
 ) -> Result<(), Error<'src>> {
     for item in items {
         if let Item::Recipe(recipe) = item {
-            return push_recipe(alloc, told, host, given, recipe, context);
+            return push_recipe(alloc, recipe, told, host, given, context);
         }
     }
     Ok(())
@@ -173,10 +172,10 @@ fn push_first<'src>(
 /// Tells the first recipe among the items, if there is one, in the scope, and why it is refused.
 pub(crate) fn push_first_recipe<'src>(
     alloc: Global,
+    items: &[Item<'src>],
     told: &mut String,
     host: &mut Recorded<Scripted<'_>>,
     given: &Given<'_>,
-    items: &Items<'_, 'src>,
     context: &ExecutionContext<'_, 'src>,
     scope: &Scope<'_, 'src>,
 ) -> Result<(), AllocError> {
@@ -188,6 +187,6 @@ pub(crate) fn push_first_recipe<'src>(
         scope,
         root: context.root,
     };
-    let outcome = push_first(alloc, told, host, given, items.items, &context);
+    let outcome = push_first(alloc, items, told, host, given, &context);
     push_outcome(told, outcome)
 }

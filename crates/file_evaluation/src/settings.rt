@@ -1,9 +1,9 @@
 //! Constants, settings and overrides of a file.
-use crate::items::Items;
+use crate::items::sets_of;
 use justfile_evaluator::{
     AssignmentRef, ConstEvaluator, Error, Scope, Settings, evaluate_const_assignments,
 };
-use justfile_syntax::Number;
+use justfile_syntax::{Item, Number};
 use std::alloc::{AllocError, Global};
 use std::collections::{BTreeMap, BTreeSet};
 
@@ -62,11 +62,11 @@ fn setting_constants<'a, 'src>(
 /// The settings, which read variables whose names begin `setting_` alone.
 pub(crate) fn settings_of<'src>(
     alloc: Global,
+    items: &[Item<'src>],
     overrides: &[(&str, &str)],
-    items: &Items<'_, 'src>,
     assignments: &[AssignmentRef<'_, 'src>],
 ) -> Result<Settings, Error<'src>> {
-    let sets = items.sets(alloc)?;
+    let sets = sets_of(alloc, items)?;
     let root: Scope<'_, 'src> = Scope::root(alloc)?;
     let constants = setting_constants(alloc, overrides, assignments, &root)?;
     constants.evaluate_sets(alloc, sets.as_slice())

@@ -1,6 +1,6 @@
 //! The recipes that aliases stand for.
 use crate::fault::DependencyFault;
-use crate::recipe_resolver::{Named, RecipeResolver, target_of};
+use crate::recipe_resolver::{Named, RecipeResolver};
 use just_compilation::{Compilation, ModuleNode};
 use just_text::Namepath;
 use just_tree::Alias;
@@ -22,13 +22,12 @@ fn unknown<'a, 'src>(alias: &'a Alias<'src, Namepath<'src>>) -> DependencyFault<
 }
 
 fn alias_rank<'a, 'src>(
-    compilation: &Compilation<'src>,
-    resolver: &RecipeResolver,
+    resolver: &RecipeResolver<'src, '_, '_>,
     ranks: &[usize],
     module: usize,
     alias: &'a Alias<'src, Namepath<'src>>,
 ) -> Result<usize, DependencyFault<'a, 'src>> {
-    match target_of(compilation, resolver, module, &alias.target) {
+    match resolver.named(module, &alias.target) {
         Named::Recipe(place) => match ranks.get(place) {
             Some(rank) => Ok(*rank),
             None => Err(unknown(alias)),
@@ -43,7 +42,7 @@ fn alias_rank<'a, 'src>(
 pub fn resolved_aliases<'a, 'src>(
     alloc: Global,
     compilation: &'a Compilation<'src>,
-    resolver: &RecipeResolver,
+    resolver: &RecipeResolver<'src, '_, '_>,
     ranks: &[usize],
     module: usize,
     node: &ModuleNode<'src>,
@@ -51,7 +50,7 @@ pub fn resolved_aliases<'a, 'src>(
     let mut aliases = Vec::new(alloc);
     for place in &node.aliases {
         if let Some(alias) = compilation.alias(*place) {
-            let recipe = alias_rank(compilation, resolver, ranks, module, alias)?;
+            let recipe = alias_rank(resolver, ranks, module, alias)?;
             aliases.push(ResolvedAlias { alias, recipe })?;
         }
     }

@@ -1,25 +1,29 @@
 //! What recipes depend on, by places.
 use crate::fault::DependencyFault;
 use crate::recipe_node::RecipeNode;
-use crate::recipe_resolver::{RecipeResolver, add_places};
-use just_compilation::Compilation;
-use just_tree::{Recipe, UnresolvedDependency};
+use crate::recipe_resolver::RecipeResolver;
 use std::alloc::{AllocError, Global};
 
 /// What the recipe depends on, by places: the priors, then the subsequents.
 fn needs_of<'a, 'src>(
     alloc: Global,
-    compilation: &Compilation<'src>,
-    resolver: &RecipeResolver,
-    module: usize,
-    recipe: &'a Recipe<'src, UnresolvedDependency<'src>>,
+    resolver: &RecipeResolver<'src, 'a, '_>,
+    node: RecipeNode<'src, 'a>,
 ) -> Result<Vec<usize>, DependencyFault<'a, 'src>> {
-    let name = recipe.name;
-    let priors = recipe.priors.as_slice();
-    let subsequents = recipe.subsequents.as_slice();
+    let recipe = node.recipe;
     let mut needs = Vec::new(alloc);
-    add_places(compilation, resolver, &mut needs, module, name, priors)?;
-    add_places(compilation, resolver, &mut needs, module, name, subsequents)?;
+    resolver.add_places(
+        &mut needs,
+        node.module,
+        recipe.name,
+        recipe.priors.as_slice(),
+    )?;
+    resolver.add_places(
+        &mut needs,
+        node.module,
+        recipe.name,
+        recipe.subsequents.as_slice(),
+    )?;
     Ok(needs)
 }
 
@@ -28,13 +32,11 @@ fn needs_of<'a, 'src>(
 /// number of values; and where memory is.
 pub fn all_needs<'a, 'src>(
     alloc: Global,
-    compilation: &Compilation<'src>,
-    resolver: &RecipeResolver,
-    nodes: &[RecipeNode<'src, 'a>],
+    resolver: &RecipeResolver<'src, 'a, '_>,
 ) -> Result<Vec<Vec<usize>>, DependencyFault<'a, 'src>> {
     let mut all = Vec::new(alloc);
-    for node in nodes {
-        all.push(needs_of(alloc, compilation, resolver, node.module, node.recipe)?)?;
+    for node in resolver.nodes {
+        all.push(needs_of(alloc, resolver, *node)?)?;
     }
     Ok(all)
 }

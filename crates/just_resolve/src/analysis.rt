@@ -5,22 +5,42 @@ use crate::recipe_table::RecipeTable;
 use crate::recipes::ResolvedRecipe;
 use just_attribute_tree::AttributeKind;
 use just_builtins::{ModuleView, Settings};
-use just_compilation::{ModuleNode, Place};
-use just_dependencies::ResolvedAlias;
+use just_compilation::{Compilation, ModuleNode, Place};
+use just_dependencies::{ResolvedAlias, find, find_submodule, recipe_number};
 use just_reads::ModuleLists;
-use just_text::{Name, Number};
+use just_text::Number;
 use std::collections::BTreeMap;
 
 /// What is known of a justfile with all its modules. It borrows from the compilation.
 #[derive(Drop)]
 pub struct Analysis<'src, 'a> {
-    pub(crate) modules: &'a [ModuleNode<'src>],
+    pub(crate) compilation: &'a Compilation<'src>,
     pub(crate) variables: Box<ModuleVariables<'src, 'a>>,
     pub(crate) values: Box<KnownValues>,
     pub(crate) table: Box<RecipeTable<'src, 'a>>,
 }
 
 impl<'src, 'a> Analysis<'src, 'a> {
+    /// All that is known of these files and modules.
+    pub(crate) fn new(
+        compilation: &'a Compilation<'src>,
+        variables: Box<ModuleVariables<'src, 'a>>,
+        values: Box<KnownValues>,
+        table: Box<RecipeTable<'src, 'a>>,
+    ) -> Analysis<'src, 'a> {
+        Analysis {
+            compilation,
+            variables,
+            values,
+            table,
+        }
+    }
+
+    /// The files and modules.
+    pub fn compilation(&self) -> &'a Compilation<'src> {
+        self.compilation
+    }
+
     /// The texts that words give for variables, by the variables' numbers.
     pub fn overrides(&self) -> &BTreeMap<Number, String> {
         &self.values.overrides
@@ -28,12 +48,12 @@ impl<'src, 'a> Analysis<'src, 'a> {
 
     /// How many modules there are. The root is the first, and each stands behind its parent.
     pub fn module_count(&self) -> usize {
-        self.modules.len()
+        self.compilation.modules.len()
     }
 
     /// The module at the place: its parent, path and submodules among other things.
     pub fn module(&self, module: usize) -> Option<&'a ModuleNode<'src>> {
-        self.modules.get(module)
+        self.compilation.module(module)
     }
 
     /// What the module keeps.
@@ -66,13 +86,24 @@ impl<'src, 'a> Analysis<'src, 'a> {
 
     /// The place of the recipe that stands at this place of its file, if it is kept.
     pub fn recipe_place(&self, place: Place) -> Option<usize> {
-        self.table.places.get(&place).copied()
+        let number = recipe_number(self.compilation, place)?;
+        self.table.places.get(&number).copied()
+    }
+
+    /// The place of the module's recipe of this name; no alias.
+    pub fn find_recipe(&self, module: usize, name: &str) -> Option<usize> {
+        let node = self.module(module)?;
+        self.recipe_place(find(self.compilation, &node.recipes, name)?)
+    }
+
+    /// The place of the recipe that the module's alias of this name stands for.
+    pub fn find_alias(&self, module: usize, name: &str) -> Option<usize> {
+        alias_target(self.aliases(module)?, name)
     }
 
     /// The submodule of this name.
     pub fn find_submodule(&self, module: usize, name: &str) -> Option<usize> {
-        let node = self.module(module)?;
-        submodule_named(self.modules, node.submodules.as_slice(), name)
+        find_submodule(self.compilation, module, name)
     }
 
     /// The recipe that runs where none is named: the first with the attribute `default` in reading
@@ -80,7 +111,7 @@ impl<'src, 'a> Analysis<'src, 'a> {
     pub fn default_recipe(&self, module: usize) -> Option<usize> {
         let node = self.module(module)?;
         let places = node.recipes.as_slice();
-        match first_marked(&self.table, places) {
+        match first_marked(self.compilation, places) {
             Some(place) => self.recipe_place(place),
             None => self.recipe_place(first_of_file(places, node.first_file)?),
         }
@@ -107,30 +138,19 @@ impl<'src, 'a> Analysis<'src, 'a> {
     }
 }
 
-/// The name of the module, if it is there and no root.
-fn name_at<'src>(modules: &[ModuleNode<'src>], module: usize) -> Option<Name<'src>> {
-    modules.get(module)?.name
-}
-
-/// The one of these submodules that has the name.
-fn submodule_named(modules: &[ModuleNode], submodules: &[usize], name: &str) -> Option<usize> {
-    for submodule in submodules {
-        if let Some(found) = name_at(modules, *submodule) {
-            if found.lexeme() == name {
-                return Some(*submodule);
-            }
-        }
+/// The recipe that the alias of this name stands for. The aliases are in byte order of their names.
+fn alias_target(aliases: &[ResolvedAlias], name: &str) -> Option<usize> {
+    let place = aliases.partition_point(|known| known.alias.name.lexeme() < name);
+    match aliases.get(place) {
+        Some(known) if known.alias.name.lexeme() == name => Some(known.recipe),
+        _ => None,
     }
-    None
 }
 
 /// Whether there is a recipe with the attribute `default`.
-fn is_default(table: &RecipeTable, place: Place) -> bool {
-    let Some(rank) = table.places.get(&place) else {
-        return false;
-    };
-    match table.recipes.get(*rank) {
-        Some(known) => known.recipe.attributes.contains(AttributeKind::Default),
+fn is_default(compilation: &Compilation, place: Place) -> bool {
+    match compilation.recipe(place) {
+        Some(recipe) => recipe.attributes.contains(AttributeKind::Default),
         None => false,
     }
 }
@@ -144,10 +164,10 @@ fn earlier(found: Option<Place>, place: Place) -> Option<Place> {
 }
 
 /// The earliest of the places at which a recipe with the attribute `default` stands.
-fn first_marked(table: &RecipeTable, places: &[Place]) -> Option<Place> {
+fn first_marked(compilation: &Compilation, places: &[Place]) -> Option<Place> {
     let mut first = None;
     for place in places {
-        if is_default(table, *place) {
+        if is_default(compilation, *place) {
             first = earlier(first, *place);
         }
     }

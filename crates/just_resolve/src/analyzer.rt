@@ -20,12 +20,7 @@ fn with_recipes<'a, 'src>(
     values: Box<KnownValues>,
 ) -> Result<Analysis<'src, 'a>, Error<'src>> {
     let table = recipe_table(alloc, compilation, variables.reads.as_slice())?;
-    Ok(Analysis {
-        modules: compilation.modules.as_slice(),
-        variables,
-        values,
-        table,
-    })
+    Ok(Analysis::new(compilation, variables, values, table))
 }
 
 /// What is known of the modules, where these texts stand for variables. Keys of files are taken from

@@ -2,13 +2,14 @@
 use crate::circles::recipe_order;
 use crate::error::Error;
 use crate::recipes::{ResolvedRecipe, resolved_recipe};
-use just_compilation::{Compilation, Place};
+use just_compilation::{Compilation, ModuleNode};
 use just_dependencies::{
-    DependencyFault, RecipeNode, RecipeResolver, ResolvedAlias, add_place, all_needs,
-    check_dependencies, ranks, recipe_nodes, recipe_places, resolved_aliases, value_counts,
+    DependencyFault, RecipeNode, RecipeResolver, ResolvedAlias, add_place, all_needs, ranks,
+    recipe_nodes, recipe_places, resolved_aliases,
 };
 use just_reads::ModuleReads;
 use just_references::ReadFault;
+use just_text::Number;
 use std::alloc::{AllocError, Global};
 use std::collections::BTreeMap;
 
@@ -17,36 +18,22 @@ use std::collections::BTreeMap;
 pub struct RecipeTable<'src, 'a> {
     /// The recipes of all modules, each behind those that it depends on.
     pub recipes: Vec<ResolvedRecipe<'src, 'a>>,
-    /// The place of each recipe by where it stands.
-    pub places: BTreeMap<Place, usize>,
+    /// The place of each recipe by its number.
+    pub places: BTreeMap<Number, usize>,
     /// The aliases of each module.
     pub aliases: Vec<Vec<ResolvedAlias<'src, 'a>>>,
 }
 
 /// Whether the dependencies of the module's recipes that are disabled name recipes.
 fn check_module<'a, 'src>(
-    compilation: &'a Compilation<'src>,
-    resolver: &RecipeResolver,
+    resolver: &RecipeResolver<'src, 'a, '_>,
     module: usize,
-    disabled: &[Place],
+    node: &ModuleNode<'src>,
 ) -> Result<(), DependencyFault<'a, 'src>> {
-    for place in disabled {
-        if let Some(recipe) = compilation.recipe(*place) {
-            let name = recipe.name;
-            check_dependencies(
-                compilation,
-                resolver,
-                module,
-                name,
-                recipe.priors.as_slice(),
-            )?;
-            check_dependencies(
-                compilation,
-                resolver,
-                module,
-                name,
-                recipe.subsequents.as_slice(),
-            )?;
+    for place in &node.disabled {
+        if let Some(recipe) = resolver.compilation.recipe(*place) {
+            resolver.check_dependencies(module, recipe.name, recipe.priors.as_slice())?;
+            resolver.check_dependencies(module, recipe.name, recipe.subsequents.as_slice())?;
         }
     }
     Ok(())
@@ -54,17 +41,11 @@ fn check_module<'a, 'src>(
 
 /// The same of all modules.
 fn check_disabled<'a, 'src>(
-    compilation: &'a Compilation<'src>,
-    resolver: &RecipeResolver,
+    resolver: &RecipeResolver<'src, 'a, '_>,
 ) -> Result<(), DependencyFault<'a, 'src>> {
-    let modules = compilation.modules.as_slice();
+    let modules = resolver.compilation.modules.as_slice();
     for module in 0..modules.len() {
-        check_module(
-            compilation,
-            resolver,
-            module,
-            modules[module].disabled.as_slice(),
-        )?;
+        check_module(resolver, module, &modules[module])?;
     }
     Ok(())
 }
@@ -102,14 +83,14 @@ fn recipes_in_order<'src, 'a>(
     Ok(recipes)
 }
 
-/// The place of each recipe by where it stands.
+/// The place of each recipe by its number.
 fn places_of(
     alloc: Global,
     recipes: &[ResolvedRecipe],
-) -> Result<BTreeMap<Place, usize>, AllocError> {
+) -> Result<BTreeMap<Number, usize>, AllocError> {
     let mut places = BTreeMap::new(alloc);
     for place in 0..recipes.len() {
-        add_place(&mut places, recipes[place].place, place)?;
+        add_place(&mut places, recipes[place].recipe.number, place)?;
     }
     Ok(places)
 }
@@ -117,10 +98,10 @@ fn places_of(
 /// The aliases of each module.
 fn all_aliases<'src, 'a>(
     alloc: Global,
-    compilation: &'a Compilation<'src>,
-    resolver: &RecipeResolver,
+    resolver: &RecipeResolver<'src, 'a, '_>,
     ranks: &[usize],
 ) -> Result<Vec<Vec<ResolvedAlias<'src, 'a>>>, DependencyFault<'a, 'src>> {
+    let compilation = resolver.compilation;
     let modules = compilation.modules.as_slice();
     let mut all = Vec::new(alloc);
     for module in 0..modules.len() {
@@ -133,13 +114,12 @@ fn all_aliases<'src, 'a>(
 /// The table of these recipes.
 fn table_of<'src, 'a>(
     alloc: Global,
-    compilation: &'a Compilation<'src>,
-    resolver: &RecipeResolver,
+    resolver: &RecipeResolver<'src, 'a, '_>,
     recipes: Vec<ResolvedRecipe<'src, 'a>>,
     ranks: &[usize],
 ) -> Result<Box<RecipeTable<'src, 'a>>, Error<'src>> {
     let places = places_of(alloc, recipes.as_slice())?;
-    let aliases = all_aliases(alloc, compilation, resolver, ranks)?;
+    let aliases = all_aliases(alloc, resolver, ranks)?;
     let table = RecipeTable {
         recipes,
         places,
@@ -148,57 +128,45 @@ fn table_of<'src, 'a>(
     Ok(Box::new(alloc, table)?)
 }
 
-/// The table of these recipes in this order, with these needs.
+/// The table of the recipes in this order, with these needs.
 fn table_in_order<'src, 'a>(
     alloc: Global,
-    compilation: &'a Compilation<'src>,
-    resolver: &RecipeResolver,
-    nodes: &[RecipeNode<'src, 'a>],
+    resolver: &RecipeResolver<'src, 'a, '_>,
     reads: &[ModuleReads<'src>],
     needs: &[Vec<usize>],
     order: &[usize],
 ) -> Result<Box<RecipeTable<'src, 'a>>, Error<'src>> {
     let ranks = ranks(alloc, order)?;
-    let recipes = recipes_in_order(alloc, nodes, reads, needs, order, &ranks)?;
-    table_of(alloc, compilation, resolver, recipes, ranks.as_slice())
+    let recipes = recipes_in_order(alloc, resolver.nodes, reads, needs, order, &ranks)?;
+    table_of(alloc, resolver, recipes, ranks.as_slice())
 }
 
-/// The table of these recipes.
+/// The table of the recipes that are kept.
 fn resolved_table<'src, 'a>(
     alloc: Global,
-    compilation: &'a Compilation<'src>,
-    resolver: &RecipeResolver,
-    nodes: &[RecipeNode<'src, 'a>],
+    resolver: &RecipeResolver<'src, 'a, '_>,
     reads: &[ModuleReads<'src>],
 ) -> Result<Box<RecipeTable<'src, 'a>>, Error<'src>> {
-    check_disabled(compilation, resolver)?;
-    let needs = all_needs(alloc, compilation, resolver, nodes)?;
-    let order = recipe_order(alloc, nodes, needs.as_slice())?;
-    table_in_order(
-        alloc,
-        compilation,
-        resolver,
-        nodes,
-        reads,
-        needs.as_slice(),
-        order.as_slice(),
-    )
+    check_disabled(resolver)?;
+    let needs = all_needs(alloc, resolver)?;
+    let order = recipe_order(alloc, resolver.nodes, needs.as_slice())?;
+    table_in_order(alloc, resolver, reads, needs.as_slice(), order.as_slice())
 }
 
-/// The table of these recipes.
+/// The table of these recipes, whose places by their numbers are these.
 fn table_of_nodes<'src, 'a>(
     alloc: Global,
     compilation: &'a Compilation<'src>,
     nodes: &[RecipeNode<'src, 'a>],
+    places: &BTreeMap<Number, usize>,
     reads: &[ModuleReads<'src>],
 ) -> Result<Box<RecipeTable<'src, 'a>>, Error<'src>> {
-    let counts = value_counts(alloc, nodes)?;
-    let places = recipe_places(alloc, nodes)?;
     let resolver = RecipeResolver {
-        counts: counts.as_slice(),
-        places: &places,
+        compilation,
+        nodes,
+        places,
     };
-    resolved_table(alloc, compilation, &resolver, nodes, reads)
+    resolved_table(alloc, &resolver, reads)
 }
 
 /// The recipes that are kept, each behind those that it depends on, and what aliases stand for; the
@@ -212,5 +180,6 @@ pub fn recipe_table<'src, 'a>(
     reads: &[ModuleReads<'src>],
 ) -> Result<Box<RecipeTable<'src, 'a>>, Error<'src>> {
     let nodes = recipe_nodes(alloc, compilation)?;
-    table_of_nodes(alloc, compilation, nodes.as_slice(), reads)
+    let places = recipe_places(alloc, nodes.as_slice())?;
+    table_of_nodes(alloc, compilation, nodes.as_slice(), &places, reads)
 }

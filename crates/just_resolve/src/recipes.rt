@@ -1,5 +1,4 @@
 //! Recipes with what they depend on and read.
-use just_compilation::Place;
 use just_dependencies::RecipeNode;
 use just_numbering::recipe_references;
 use just_references::{ReadFault, VariableResolver};
@@ -11,8 +10,6 @@ use std::alloc::{AllocError, Global};
 pub struct ResolvedRecipe<'src, 'a> {
     pub recipe: &'a Recipe<'src, UnresolvedDependency<'src>>,
     pub module: usize,
-    /// Where it stands.
-    pub place: Place,
     /// The recipes that run before its body, in order, all at lower places.
     pub priors: Vec<usize>,
     /// The recipes that run behind its body, in order, all at lower places.
@@ -60,7 +57,6 @@ pub fn resolved_recipe<'a, 'src>(
     Ok(ResolvedRecipe {
         recipe: node.recipe,
         module: node.module,
-        place: node.place,
         priors,
         subsequents,
         reads,

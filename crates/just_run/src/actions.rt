@@ -44,10 +44,7 @@ fn invocations(
     driven: Driven,
     words: &[Text],
 ) -> Result<Vec<Invocation>, WordFault> {
-    let menus = menus(
-        alloc,
-        Justfile::from_resolved(driven.compilation, driven.analysis),
-    )?;
+    let menus = menus(alloc, Justfile::from_resolved(driven.analysis))?;
     InvocationParser::parse_invocations(alloc, &menus, words)
 }
 
@@ -77,7 +74,7 @@ fn list<'src, O: Out>(
 ) -> Result<Outcome, Fault<'src>>
     ensures kept { IfErr result (λ fault. IsKept (O.written out.old) fault (O.written out.new)) }
 {
-    let text = Justfile::from_resolved(driven.compilation, driven.analysis).listing(alloc)?;
+    let text = Justfile::from_resolved(driven.analysis).listing(alloc)?;
     write_text(out, text.as_str())?;
     Ok(Outcome::Listed)
 }
@@ -102,7 +99,7 @@ fn run<'src, H: RunHost + Drop, O: Out>(
 
 /// What the words ask to evaluate.
 fn target(alloc: Global, driven: Driven, words: &[Text]) -> Result<EvaluationTarget, WordFault> {
-    let root = Justfile::from_resolved(driven.compilation, driven.analysis);
+    let root = Justfile::from_resolved(driven.analysis);
     let Some((word, others)) = words.split_first() else {
         return Ok(EvaluationTarget::Module(root.module()));
     };
@@ -147,7 +144,7 @@ fn command<'src, H: RunHost + Drop, O: Out>(
 
 /// The root file.
 fn root_file<'a, 'src>(driven: Driven<'a, 'src>) -> Option<&'a Ast<'src>> {
-    let compilation = driven.compilation;
+    let compilation = driven.analysis.compilation();
     let root = compilation.module(0)?;
     match compilation.files.get(root.first_file) {
         Some(file) => Some(&file.ast),

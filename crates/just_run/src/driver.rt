@@ -27,7 +27,6 @@ use std::collections::BTreeMap;
 fn drive_analysis<'src, H: RunHost + Drop, O: Out>(
     alloc: Global,
     config: &Config,
-    compilation: &Compilation<'src>,
     analysis: &Analysis<'src, '_>,
     root: &str,
     words: &Positional,
@@ -38,7 +37,7 @@ fn drive_analysis<'src, H: RunHost + Drop, O: Out>(
     ensures kept { IfErr result (λ fault. IsKept (O.written out.old) fault (O.written out.new)) }
     ensures asks { Asks H.goes host.old host.new }
 {
-    let driven = Driven::new(config, compilation, analysis, root);
+    let driven = Driven::new(config, analysis, root);
     act(alloc, host, out, driven, action, words.arguments.as_slice())
 }
 
@@ -58,17 +57,7 @@ fn drive_modules<'src, H: RunHost + Drop, O: Out>(
 {
     let overrides = words.overrides.as_slice();
     let analysis = Analyzer::analyze(alloc, compilation, config, overrides)?;
-    drive_analysis(
-        alloc,
-        config,
-        compilation,
-        &analysis,
-        root,
-        words,
-        action,
-        host,
-        out,
-    )
+    drive_analysis(alloc, config, &analysis, root, words, action, host, out)
 }
 
 /// Numbers the variables of the modules, and does what is asked of them.

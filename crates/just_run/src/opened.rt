@@ -7,7 +7,6 @@ use crate::fault::Fault;
 use crate::outcome::Outcome;
 use crate::task::{Task, perform};
 use just_host::{Config, Recorded, RunHost};
-use just_modules::Compilation;
 use just_plain_run::Out;
 use just_resolve::Analysis;
 use just_runner::{Opened, Opening, open_modules};
@@ -21,7 +20,6 @@ use std::collections::BTreeSet;
 #[derive(Clone, Copy)]
 pub(crate) struct Driven<'a, 'src> {
     pub(crate) config: &'a Config,
-    pub(crate) compilation: &'a Compilation<'src>,
     pub(crate) analysis: &'a Analysis<'src, 'a>,
     pub(crate) root: &'a str,
 }
@@ -29,13 +27,11 @@ pub(crate) struct Driven<'a, 'src> {
 impl<'a, 'src> Driven<'a, 'src> {
     pub(crate) fn new(
         config: &'a Config,
-        compilation: &'a Compilation<'src>,
         analysis: &'a Analysis<'src, 'a>,
         root: &'a str,
     ) -> Driven<'a, 'src> {
         Driven {
             config,
-            compilation,
             analysis,
             root,
         }

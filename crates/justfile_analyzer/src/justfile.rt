@@ -38,14 +38,11 @@ fn all_at<'a, 'src>(
 }
 
 impl<'a, 'src> Justfile<'a, 'src> {
-    /// The root module of these modules, of which this is known.
-    pub fn from_resolved(
-        compilation: &'a Compilation<'src>,
-        analysis: &'a Analysis<'src, 'a>,
-    ) -> Justfile<'a, 'src> {
+    /// The root module.
+    pub fn from_resolved(analysis: &'a Analysis<'src, 'a>) -> Justfile<'a, 'src> {
         Justfile {
             analysis,
-            compilation,
+            compilation: analysis.compilation(),
             module: 0,
         }
     }

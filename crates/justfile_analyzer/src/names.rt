@@ -1,6 +1,6 @@
 //! What words may name of a justfile.
 use crate::justfile::Justfile;
-use just_compilation::{ModuleNode, Place};
+use just_compilation::{Compilation, ModuleNode, Place};
 use just_invocations::{Callable, Meaning, Menu, Menus, Slot};
 use just_resolve::{Analysis, ResolvedAlias, ResolvedRecipe};
 use just_text::{Name, Text};
@@ -59,23 +59,16 @@ fn callables<'a, 'src>(
     Ok(all)
 }
 
-/// The name of the recipe at the place.
-fn name_at<'src>(recipes: &[ResolvedRecipe<'src, '_>], place: usize) -> Option<Name<'src>> {
-    Some(recipes.get(place)?.recipe.name)
-}
-
 /// Puts the recipe at the place on the menu, if it is kept.
 fn put_recipe<'a, 'src>(
     analysis: &'a Analysis<'src, 'a>,
     menu: &mut Menu<'a>,
     place: Place,
 ) -> Result<(), AllocError> {
-    let Some(found) = analysis.recipe_place(place) else {
-        return Ok(());
-    };
-    match name_at(analysis.recipes(), found) {
-        Some(name) => menu.put(name.lexeme(), Meaning::Recipe(found)),
-        None => Ok(()),
+    let name = analysis.compilation().name(place);
+    match (name, analysis.recipe_place(place)) {
+        (Some(name), Some(recipe)) => menu.put(name.lexeme(), Meaning::Recipe(recipe)),
+        _ => Ok(()),
     }
 }
 
@@ -101,29 +94,29 @@ fn put_aliases<'a, 'src>(
 }
 
 /// The name of the module at the place; the root has none.
-fn name_of<'src>(analysis: &Analysis<'src, '_>, module: usize) -> Option<Name<'src>> {
-    analysis.module(module)?.name
+fn name_of<'src>(compilation: &Compilation<'src>, module: usize) -> Option<Name<'src>> {
+    compilation.module(module)?.name
 }
 
 /// Puts the submodule at the place on the menu.
 fn put_submodule<'a, 'src>(
-    analysis: &'a Analysis<'src, 'a>,
+    compilation: &'a Compilation<'src>,
     menu: &mut Menu<'a>,
     module: usize,
 ) -> Result<(), AllocError> {
-    match name_of(analysis, module) {
+    match name_of(compilation, module) {
         Some(name) => menu.put(name.lexeme(), Meaning::Submodule(module)),
         None => Ok(()),
     }
 }
 
 fn put_submodules<'a, 'src>(
-    analysis: &'a Analysis<'src, 'a>,
+    compilation: &'a Compilation<'src>,
     menu: &mut Menu<'a>,
     modules: &[usize],
 ) -> Result<(), AllocError> {
     for module in modules {
-        put_submodule(analysis, menu, *module)?;
+        put_submodule(compilation, menu, *module)?;
     }
     Ok(())
 }
@@ -149,7 +142,7 @@ fn put_names<'a, 'src>(
 ) -> Result<(), AllocError> {
     put_recipes(analysis, menu, node.recipes.as_slice())?;
     put_all_aliases(analysis, menu, module)?;
-    put_submodules(analysis, menu, node.submodules.as_slice())
+    put_submodules(analysis.compilation(), menu, node.submodules.as_slice())
 }
 
 /// The names of a module.
