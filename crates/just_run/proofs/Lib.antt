@@ -1,1 +1,19 @@
-mod Driven
+pub mod Growth
+pub mod Bodies
+pub mod Known
+pub mod Weight
+pub mod Owed
+pub mod OrderPlaces
+pub mod StackTurns
+pub mod Once
+pub mod Marking
+pub mod Places
+pub mod Walking
+pub mod Steps
+pub mod Work
+pub mod Listing
+pub mod Ranks
+pub mod Turns
+pub mod Checked
+pub mod Invoked
+pub mod Driven

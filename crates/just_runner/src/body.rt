@@ -1,6 +1,4 @@
 //! Bodies whose lines are commands.
-ghost use Rattle.just_builtins.specs.Asking.{Asks};
-
 use crate::fault::RunFault;
 use crate::script::run_script;
 use crate::site::{Site, judge};
@@ -94,18 +92,14 @@ fn hand_over<'src, H: RunHost + Drop>(
     site: &Site<'_, 'src>,
     command: &str,
     sigils: Sigils,
-) -> Result<bool, RunFault<'src>>
-    ensures asks { Asks H.goes host.old host.new }
-{
+) -> Result<bool, RunFault<'src>> {
     let job = job(alloc, site, command)?;
     let status = host.line(&job);
     judge(site.name, status, sigils, site.manner.is_silent)
 }
 
 /// Shows a command where it is to be shown.
-fn show<H: RunHost + Drop>(host: &mut Recorded<H>, site: &Site, command: &str, is_quiet: bool)
-    ensures asks { Asks H.goes host.old host.new }
-{
+fn show<H: RunHost + Drop>(host: &mut Recorded<H>, site: &Site, command: &str, is_quiet: bool) {
     let manner = site.manner;
     if manner.shows_line(site.context.config, is_quiet) {
         host.show(command);
@@ -118,9 +112,7 @@ fn run_line<'src, H: RunHost + Drop>(
     host: &mut Recorded<H>,
     site: &Site<'_, 'src>,
     command: &Command,
-) -> Result<bool, RunFault<'src>>
-    ensures asks { Asks H.goes host.old host.new }
-{
+) -> Result<bool, RunFault<'src>> {
     let text = command.behind_sigils();
     if text.is_empty() {
         return Ok(true);
@@ -140,9 +132,7 @@ fn read_line<'src, H: RunHost + Drop>(
     command: &mut Command,
     line: &Line<'src>,
     guards: bool,
-) -> Result<(), Error<'src>>
-    ensures asks { Asks H.goes host.old host.new }
-{
+) -> Result<(), Error<'src>> {
     let text = evaluator.evaluate_line(alloc, host, line, command.is_open)?;
     Ok(command.put(line, text, guards)?)
 }
@@ -155,9 +145,7 @@ fn turn_line<'src, H: RunHost + Drop>(
     site: &Site<'_, 'src>,
     command: &mut Command,
     line: &Line<'src>,
-) -> Result<bool, RunFault<'src>>
-    ensures asks { Asks H.goes host.old host.new }
-{
+) -> Result<bool, RunFault<'src>> {
     let guards = site.context.module.settings.guards;
     let skips = site.context.module.settings.ignore_comments;
     if !command.is_open && skips && line.is_comment() {
@@ -177,9 +165,7 @@ fn run_lines<'src, H: RunHost + Drop>(
     evaluator: &Evaluator<'_, 'src>,
     site: &Site<'_, 'src>,
     body: &[Line<'src>],
-) -> Result<(), RunFault<'src>>
-    ensures asks { Asks H.goes host.old host.new }
-{
+) -> Result<(), RunFault<'src>> {
     let mut command = Command::new(alloc);
     for line in body {
         if !turn_line(alloc, host, evaluator, site, &mut command, line)? {
@@ -200,9 +186,7 @@ pub(crate) fn run_body<'src, H: RunHost + Drop>(
     site: &Site<'_, 'src>,
     attributes: &AttributeSet<'src>,
     body: &[Line<'src>],
-) -> Result<(), RunFault<'src>>
-    ensures asks { Asks H.goes host.old host.new }
-{
+) -> Result<(), RunFault<'src>> {
     if site.manner.is_script {
         run_script(alloc, host, evaluator, site, attributes, body)
     } else {

@@ -1,6 +1,4 @@
 //! Confirmations.
-ghost use Rattle.just_builtins.specs.Asking.{Asks};
-
 use crate::fault::RunFault;
 use just_attribute_tree::{Attribute, AttributeKind};
 use just_expression_tree::Expression;
@@ -16,9 +14,7 @@ fn prompt_text<'src, H: RunHost + Drop>(
     host: &mut Recorded<H>,
     evaluator: &Evaluator<'_, 'src>,
     prompt: &Expression<'src>,
-) -> Result<String, Error<'src>>
-    ensures asks { Asks H.goes host.old host.new }
-{
+) -> Result<String, Error<'src>> {
     let value = evaluator.evaluate_value(alloc, host, prompt)?;
     Ok(value.join(alloc)?)
 }
@@ -34,9 +30,7 @@ fn prompt<'src, H: RunHost + Drop>(
     host: &mut Recorded<H>,
     evaluator: &Evaluator<'_, 'src>,
     recipe: &Recipe<'src, UnresolvedDependency<'src>>,
-) -> Result<Option<String>, Error<'src>>
-    ensures asks { Asks H.goes host.old host.new }
-{
+) -> Result<Option<String>, Error<'src>> {
     match recipe.attributes.get(AttributeKind::Confirm) {
         Some(Attribute::Confirm(Some(prompt))) => {
             Ok(Some(prompt_text(alloc, host, evaluator, prompt)?))
@@ -52,9 +46,7 @@ pub(crate) fn confirm<'src, H: RunHost + Drop>(
     host: &mut Recorded<H>,
     evaluator: &Evaluator<'_, 'src>,
     recipe: &Recipe<'src, UnresolvedDependency<'src>>,
-) -> Result<(), RunFault<'src>>
-    ensures asks { Asks H.goes host.old host.new }
-{
+) -> Result<(), RunFault<'src>> {
     let Some(prompt) = prompt(alloc, host, evaluator, recipe)? else {
         return Ok(());
     };

@@ -1,6 +1,4 @@
 //! A recipe's parameters, its confirmation, and the calls around its body.
-ghost use Rattle.just_builtins.specs.Asking.{Asks};
-
 use crate::block::block;
 use crate::body::run_body;
 use crate::call::Call;
@@ -37,9 +35,7 @@ fn bind<'src, H: RunHost + Drop>(
     groups: &[Value],
     is_dependency: bool,
     scope: &mut Scope<'_, 'src>,
-) -> Result<BoundParameters, RunFault<'src>>
-    ensures asks { Asks H.goes host.old host.new }
-{
+) -> Result<BoundParameters, RunFault<'src>> {
     let check = |parameter: &Parameter, count: usize| may_count(parameter, count);
     Ok(evaluate_parameters(
         alloc,
@@ -60,9 +56,7 @@ pub(crate) fn entered<'m, 'src, H: RunHost + Drop>(
     placed: &Placed<'m, 'src>,
     groups: &[Value],
     is_dependency: bool,
-) -> Result<Entered<'m, 'src>, RunFault<'src>>
-    ensures asks { Asks H.goes host.old host.new }
-{
+) -> Result<Entered<'m, 'src>, RunFault<'src>> {
     let mut scope = placed.context.scope.child(alloc)?;
     match bind(alloc, host, placed, groups, is_dependency, &mut scope) {
         Ok(BoundParameters { positional, env }) => Ok(Entered {
@@ -118,9 +112,7 @@ fn confirmed<'src, H: RunHost + Drop>(
     placed: &Placed<'_, 'src>,
     entered: &Entered<'_, 'src>,
     scope: &Scope<'_, 'src>,
-) -> Result<Vec<Call>, RunFault<'src>>
-    ensures asks { Asks H.goes host.old host.new }
-{
+) -> Result<Vec<Call>, RunFault<'src>> {
     let planned = placed.planned;
     let recipe = planned.recipe;
     let context = placed.context;
@@ -144,9 +136,7 @@ fn run_in<'src, H: RunHost + Drop>(
     entered: &Entered<'_, 'src>,
     scope: &Scope<'_, 'src>,
     folder: Option<&str>,
-) -> Result<(), RunFault<'src>>
-    ensures asks { Asks H.goes host.old host.new }
-{
+) -> Result<(), RunFault<'src>> {
     let recipe = placed.planned.recipe;
     let context = placed.context;
     let body = recipe.body.as_slice();
@@ -164,9 +154,7 @@ fn run<'src, H: RunHost + Drop>(
     placed: &Placed<'_, 'src>,
     entered: &Entered<'_, 'src>,
     scope: &Scope<'_, 'src>,
-) -> Result<(), RunFault<'src>>
-    ensures asks { Asks H.goes host.old host.new }
-{
+) -> Result<(), RunFault<'src>> {
     let recipe = placed.planned.recipe;
     let folder = folder_of(alloc, placed.context, &recipe.attributes)?;
     let folder = match &folder {
@@ -184,9 +172,7 @@ fn done<'src, H: RunHost + Drop>(
     placed: &Placed<'_, 'src>,
     entered: &Entered<'_, 'src>,
     scope: &Scope<'_, 'src>,
-) -> Result<Vec<Call>, RunFault<'src>>
-    ensures asks { Asks H.goes host.old host.new }
-{
+) -> Result<Vec<Call>, RunFault<'src>> {
     let planned = placed.planned;
     let recipe = planned.recipe;
     let context = placed.context;
@@ -213,9 +199,7 @@ pub(crate) fn begin<'src, H: RunHost + Drop>(
     runner: &Runner<'_, 'src>,
     placed: &Placed<'_, 'src>,
     entered: &Entered<'_, 'src>,
-) -> Result<Vec<Call>, RunFault<'src>>
-    ensures asks { Asks H.goes host.old host.new }
-{
+) -> Result<Vec<Call>, RunFault<'src>> {
     let scope = entered.scope.child(alloc)?;
     confirmed(alloc, host, runner, placed, entered, &scope)
 }
@@ -227,9 +211,7 @@ pub(crate) fn end<'src, H: RunHost + Drop>(
     runner: &Runner<'_, 'src>,
     placed: &Placed<'_, 'src>,
     entered: &Entered<'_, 'src>,
-) -> Result<Vec<Call>, RunFault<'src>>
-    ensures asks { Asks H.goes host.old host.new }
-{
+) -> Result<Vec<Call>, RunFault<'src>> {
     let scope = entered.scope.child(alloc)?;
     done(alloc, host, runner, placed, entered, &scope)
 }

@@ -1,6 +1,4 @@
 //! What modules open with: their files of variables, and their variables' values.
-ghost use Rattle.just_builtins.specs.Asking.{Asks};
-
 use crate::fault::RunFault;
 use just_host::{Config, DotenvRequest, HostFault, Pair, Recorded, RunHost};
 use just_text::{Number, Sequence, Text};
@@ -93,9 +91,7 @@ fn read_dotenv<'src, H: RunHost + Drop>(
     alloc: Global,
     host: &mut Recorded<H>,
     context: &ExecutionContext<'_, 'src>,
-) -> Result<BTreeMap<String, String>, RunFault<'src>>
-    ensures asks { Asks H.goes host.old host.new }
-{
+) -> Result<BTreeMap<String, String>, RunFault<'src>> {
     if !asks(context.module.settings) {
         return Ok(BTreeMap::new(alloc));
     }
@@ -129,9 +125,7 @@ fn dotenv_of<'x, 'src, H: RunHost + Drop>(
     opening: &Opening<'x, 'src>,
     module: &'x ModuleView<'x, 'src>,
     none: &'x BTreeMap<String, String>,
-) -> Result<BTreeMap<String, String>, RunFault<'src>>
-    ensures asks { Asks H.goes host.old host.new }
-{
+) -> Result<BTreeMap<String, String>, RunFault<'src>> {
     let context = opening.context(module, none);
     read_dotenv(alloc, host, &context)
 }
@@ -144,9 +138,7 @@ fn fill<'x, 'src, H: RunHost + Drop>(
     module: &'x ModuleView<'x, 'src>,
     dotenv: &'x BTreeMap<String, String>,
     scope: &mut Scope<'_, 'src>,
-) -> Result<(), RunFault<'src>>
-    ensures asks { Asks H.goes host.old host.new }
-{
+) -> Result<(), RunFault<'src>> {
     let context = opening.context(module, dotenv);
     let wanted = if module.settings.lazy {
         opening.wanted
@@ -166,9 +158,7 @@ fn open_module<'c, 'src, H: RunHost + Drop>(
     opening: &Opening<'c, 'src>,
     place: usize,
     module: &ModuleView<'_, 'src>,
-) -> Result<Opened<'c, 'src>, RunFault<'src>>
-    ensures asks { Asks H.goes host.old host.new }
-{
+) -> Result<Opened<'c, 'src>, RunFault<'src>> {
     let none = BTreeMap::new(alloc);
     let dotenv = dotenv_of(alloc, host, &*opening, &*module, &none)?;
     let mut scope = opening.constants.child(alloc)?;
@@ -195,9 +185,7 @@ pub fn open_modules<'c, 'src, H: RunHost + Drop>(
     opening: &Opening<'c, 'src>,
     modules: &[ModuleView<'_, 'src>],
     order: &[usize],
-) -> Result<Vec<Opened<'c, 'src>>, RunFault<'src>>
-    ensures asks { Asks H.goes host.old host.new }
-{
+) -> Result<Vec<Opened<'c, 'src>>, RunFault<'src>> {
     let mut opened = Vec::new(alloc);
     for place in order {
         if *place < modules.len() {

@@ -2,7 +2,6 @@
 ghost use Rattle.std.specs.Prelude.{◌≡◌, ◌<◌, ◌+◌, ◌∷◌, [], OnOk, IfOk};
 ghost use Rattle.just_runner.specs.Todo.{Calls, Body, After};
 ghost use Rattle.just_runner.specs.Weight.{weight, AreBelow};
-ghost use Rattle.just_builtins.specs.Asking.{Asks};
 
 use crate::call::{Call, Done, Pending};
 use crate::enter::{begin, end, entered};
@@ -17,7 +16,7 @@ use std::mem;
 
 /// The calls, if all are of recipes before that place.
 fn ranked<'src>(alloc: Global, calls: Vec<Call>, place: usize) -> Result<Pending, RunFault<'src>>
-    ensures below { IfOk result (AreBelow place) }
+    ensures { IfOk result (AreBelow place) }
 {
     let _count = calls.len();
     if calls.iter().any(|call| call.recipe >= place) {
@@ -38,9 +37,7 @@ fn boxed<'m, 'src, H: RunHost + Drop>(
     placed: &Placed<'m, 'src>,
     groups: &[Value],
     is_dependency: bool,
-) -> Result<Box<Entered<'m, 'src>>, RunFault<'src>>
-    ensures asks { Asks H.goes host.old host.new }
-{
+) -> Result<Box<Entered<'m, 'src>>, RunFault<'src>> {
     let entered = entered(alloc, host, placed, groups, is_dependency)?;
     Ok(Box::new(alloc, entered)?)
 }
@@ -54,8 +51,7 @@ fn priors<'src, H: RunHost + Drop>(
     entered: &Entered<'_, 'src>,
     place: usize,
 ) -> Result<Pending, RunFault<'src>>
-    ensures below { IfOk result (AreBelow place) }
-    ensures asks { Asks H.goes host.old host.new }
+    ensures { IfOk result (AreBelow place) }
 {
     let calls = begin(alloc, host, runner, placed, entered)?;
     ranked(alloc, calls, place)
@@ -70,8 +66,7 @@ fn enter_placed<'m, 'src, H: RunHost + Drop>(
     call: &Call,
     is_dependency: bool,
 ) -> Result<(Box<Entered<'m, 'src>>, Pending), RunFault<'src>>
-    ensures below { IfOk result (λ r. AreBelow call.now.recipe r.1) }
-    ensures asks { Asks H.goes host.old host.new }
+    ensures { IfOk result (λ r. AreBelow call.now.recipe r.1) }
 {
     let groups = call.groups.as_slice();
     let entered = boxed(alloc, host, placed, groups, is_dependency)?;
@@ -87,8 +82,7 @@ fn enter<'m, 'src, H: RunHost + Drop>(
     call: &Call,
     is_dependency: bool,
 ) -> Result<(Box<Entered<'m, 'src>>, Pending), RunFault<'src>>
-    ensures below { IfOk result (λ r. AreBelow call.now.recipe r.1) }
-    ensures asks { Asks H.goes host.old host.new }
+    ensures { IfOk result (λ r. AreBelow call.now.recipe r.1) }
 {
     let recipes = runner.recipes;
     let contexts = runner.contexts;
@@ -133,8 +127,7 @@ fn turn_calls<'m, 'src, H: RunHost + Drop>(
     mut pending: Pending,
     are_dependencies: bool,
 ) -> Result<(), RunFault<'src>>
-    ensures nearer { OnOk result (weight stack.new < weight (Calls pending ∷ stack.old)) }
-    ensures asks { Asks H.goes host.old host.new }
+    ensures { OnOk result (weight stack.new < weight (Calls pending ∷ stack.old)) }
 {
     let Some(call) = pending.next() else {
         return Ok(());
@@ -177,8 +170,7 @@ fn subsequents<'src, H: RunHost + Drop>(
     entered: &Entered<'_, 'src>,
     place: usize,
 ) -> Result<Pending, RunFault<'src>>
-    ensures below { IfOk result (AreBelow place) }
-    ensures asks { Asks H.goes host.old host.new }
+    ensures { IfOk result (AreBelow place) }
 {
     let calls = end(alloc, host, runner, placed, entered)?;
     ranked(alloc, calls, place)
@@ -192,8 +184,7 @@ fn leave<'src, H: RunHost + Drop>(
     place: usize,
     entered: &Entered<'_, 'src>,
 ) -> Result<Pending, RunFault<'src>>
-    ensures below { IfOk result (AreBelow place) }
-    ensures asks { Asks H.goes host.old host.new }
+    ensures { IfOk result (AreBelow place) }
 {
     let recipes = runner.recipes;
     let contexts = runner.contexts;
@@ -221,8 +212,7 @@ fn turn_body<'m, 'src, H: RunHost + Drop>(
     call: Call,
     entered: &Entered<'m, 'src>,
 ) -> Result<(), RunFault<'src>>
-    ensures nearer { OnOk result (weight stack.new < weight (Body call ∷ stack.old)) }
-    ensures asks { Asks H.goes host.old host.new }
+    ensures { OnOk result (weight stack.new < weight (Body call ∷ stack.old)) }
 {
     let subsequents = leave(alloc, host, runner, call.recipe, entered)?;
     Ok(push_subsequents(alloc, stack, done, call, subsequents)?)
@@ -234,9 +224,7 @@ fn run_stack<'m, 'src, H: RunHost + Drop>(
     runner: &Runner<'m, 'src>,
     stack: &mut Stack<'m, 'src>,
     done: &mut Done,
-) -> Result<(), RunFault<'src>>
-    ensures asks { Asks H.goes host.old host.new }
-{
+) -> Result<(), RunFault<'src>> {
     while let Some(frame) = stack.pop() {
         match frame {
             Frame::Calls {
@@ -271,9 +259,7 @@ pub fn run_calls<'m, 'src, H: RunHost + Drop>(
     host: &mut Recorded<H>,
     runner: &Runner<'m, 'src>,
     calls: Vec<Call>,
-) -> Result<(), RunFault<'src>>
-    ensures asks { Asks H.goes host.old host.new }
-{
+) -> Result<(), RunFault<'src>> {
     let mut done = Done::new(alloc);
     let mut stack = Stack::new(alloc);
     stack.push(Frame::Calls {

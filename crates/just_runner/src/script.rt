@@ -1,6 +1,4 @@
 //! Bodies that are one script.
-ghost use Rattle.just_builtins.specs.Asking.{Asks};
-
 use crate::fault::RunFault;
 use crate::site::{Site, extension_of, judge};
 use just_attribute_tree::{Attribute, AttributeKind, Interpreter};
@@ -27,9 +25,7 @@ fn script_line<'src, H: RunHost + Drop>(
     host: &mut Recorded<H>,
     evaluator: &Evaluator<'_, 'src>,
     line: &Line<'src>,
-) -> Result<Text, Error<'src>>
-    ensures asks { Asks H.goes host.old host.new }
-{
+) -> Result<Text, Error<'src>> {
     let text = evaluator.evaluate_line(alloc, host, line, false)?;
     Ok(Text::from_string(text))
 }
@@ -40,9 +36,7 @@ fn script_lines<'src, H: RunHost + Drop>(
     host: &mut Recorded<H>,
     evaluator: &Evaluator<'_, 'src>,
     body: &[Line<'src>],
-) -> Result<Vec<Text>, Error<'src>>
-    ensures asks { Asks H.goes host.old host.new }
-{
+) -> Result<Vec<Text>, Error<'src>> {
     let mut lines = Vec::new(alloc);
     for line in body {
         lines.push(script_line(alloc, host, evaluator, line)?)?;
@@ -87,9 +81,7 @@ fn written_words<'src, H: RunHost + Drop>(
     evaluator: &Evaluator<'_, 'src>,
     interpreter: &Interpreter<Expression<'src>>,
     name: Name<'src>,
-) -> Result<Sequence<Text>, Error<'src>>
-    ensures asks { Asks H.goes host.old host.new }
-{
+) -> Result<Sequence<Text>, Error<'src>> {
     let words = evaluator.evaluate_interpreter(alloc, host, interpreter, name)?;
     Ok(interpreter_words(alloc, &words)?)
 }
@@ -101,9 +93,7 @@ fn attribute_words<'src, H: RunHost + Drop>(
     evaluator: &Evaluator<'_, 'src>,
     attributes: &AttributeSet<'src>,
     recipe: Name<'src>,
-) -> Result<Option<Sequence<Text>>, Error<'src>>
-    ensures asks { Asks H.goes host.old host.new }
-{
+) -> Result<Option<Sequence<Text>>, Error<'src>> {
     let Some(Attribute::Script(Some(interpreter))) = attributes.get(AttributeKind::Script) else {
         return Ok(None);
     };
@@ -128,9 +118,7 @@ fn interpreter<'src, H: RunHost + Drop>(
     site: &Site<'_, 'src>,
     attributes: &AttributeSet<'src>,
     lines: &[Text],
-) -> Result<Sequence<Text>, Error<'src>>
-    ensures asks { Asks H.goes host.old host.new }
-{
+) -> Result<Sequence<Text>, Error<'src>> {
     match attribute_words(alloc, host, evaluator, attributes, site.name)? {
         Some(words) => Ok(words),
         None => Ok(default_words(alloc, site, lines)?),
@@ -189,9 +177,7 @@ fn show<H: RunHost + Drop>(
     host: &mut Recorded<H>,
     site: &Site,
     lines: &[Text],
-) -> Result<(), AllocError>
-    ensures asks { Asks H.goes host.old host.new }
-{
+) -> Result<(), AllocError> {
     let config = site.context.config;
     if config.dry_run || config.loquacious || site.manner.is_quiet {
         let text = joined(alloc, lines)?;
@@ -208,9 +194,7 @@ pub(crate) fn run_script<'src, H: RunHost + Drop>(
     site: &Site<'_, 'src>,
     attributes: &AttributeSet<'src>,
     body: &[Line<'src>],
-) -> Result<(), RunFault<'src>>
-    ensures asks { Asks H.goes host.old host.new }
-{
+) -> Result<(), RunFault<'src>> {
     let lines = script_lines(alloc, host, evaluator, body)?;
     show(alloc, host, site, lines.as_slice())?;
     if site.context.config.dry_run {
@@ -227,9 +211,7 @@ fn hand_over<'src, H: RunHost + Drop>(
     site: &Site<'_, 'src>,
     attributes: &AttributeSet<'src>,
     lines: Vec<Text>,
-) -> Result<(), RunFault<'src>>
-    ensures asks { Asks H.goes host.old host.new }
-{
+) -> Result<(), RunFault<'src>> {
     let words = lines.as_slice();
     let interpreter = interpreter(alloc, host, evaluator, site, attributes, words)?;
     let extension = extension_of(alloc, attributes)?;

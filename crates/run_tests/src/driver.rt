@@ -4,7 +4,7 @@ use just_host::{
     Answer, CommandJob, Confirmation, DotenvRequest, Entry, Host, HostFault, Pair, Question,
     ScriptJob, Status,
 };
-use just_plain_run::{Action, Collected, Config, Fault, Outcome, Recorded, RunHost, drive};
+use just_run::{Action, Collected, Config, Fault, Outcome, Recorded, RunHost, drive};
 use justfile_syntax::{ExpandFault, Expander, Os, Sequence, Text};
 use semver::Version;
 use std::alloc::{AllocError, Global};
@@ -175,7 +175,7 @@ struct Given {
     words: Vec<String>,
 }
 
-fn given(alloc: Global, source: Option<&str>, text: &str) -> Result<Given, AllocError> {
+fn make_given(alloc: Global, source: Option<&str>, text: &str) -> Result<Given, AllocError> {
     let sources = sources(alloc, source)?;
     let roots = roots(alloc)?;
     let words = words(alloc, text)?;
@@ -258,7 +258,7 @@ fn tells(
     scripted: Scripted<'_>,
     want: &str,
 ) -> Result<bool, AllocError> {
-    let given = given(alloc, source, words)?;
+    let given = make_given(alloc, source, words)?;
     let mut host = Recorded::new(alloc, scripted);
     Ok(run(alloc, flags, &given, &mut host)?.as_str() == want)
 }
