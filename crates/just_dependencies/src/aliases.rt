@@ -1,6 +1,6 @@
 //! The recipes that aliases stand for.
 use crate::fault::DependencyFault;
-use crate::recipe_resolver::{Named, RecipeResolver};
+use crate::recipe_resolver::{Named, RecipeResolver, target_of};
 use just_compilation::{Compilation, ModuleNode};
 use just_text::Namepath;
 use just_tree::Alias;
@@ -22,12 +22,13 @@ fn unknown<'a, 'src>(alias: &'a Alias<'src, Namepath<'src>>) -> DependencyFault<
 }
 
 fn alias_rank<'a, 'src>(
-    resolver: &RecipeResolver<'src, '_, '_>,
+    compilation: &Compilation<'src>,
+    resolver: &RecipeResolver,
     ranks: &[usize],
     module: usize,
     alias: &'a Alias<'src, Namepath<'src>>,
 ) -> Result<usize, DependencyFault<'a, 'src>> {
-    match resolver.named(module, &alias.target) {
+    match target_of(compilation, resolver, module, &alias.target) {
         Named::Recipe(place) => match ranks.get(place) {
             Some(rank) => Ok(*rank),
             None => Err(unknown(alias)),
@@ -42,7 +43,7 @@ fn alias_rank<'a, 'src>(
 pub fn resolved_aliases<'a, 'src>(
     alloc: Global,
     compilation: &'a Compilation<'src>,
-    resolver: &RecipeResolver<'src, '_, '_>,
+    resolver: &RecipeResolver,
     ranks: &[usize],
     module: usize,
     node: &ModuleNode<'src>,
@@ -50,7 +51,7 @@ pub fn resolved_aliases<'a, 'src>(
     let mut aliases = Vec::new(alloc);
     for place in &node.aliases {
         if let Some(alias) = compilation.alias(*place) {
-            let recipe = alias_rank(resolver, ranks, module, alias)?;
+            let recipe = alias_rank(compilation, resolver, ranks, module, alias)?;
             aliases.push(ResolvedAlias { alias, recipe })?;
         }
     }

@@ -10,7 +10,9 @@ pub mod recipe_resolver;
 
 pub use aliases::{ResolvedAlias, resolved_aliases};
 pub use fault::DependencyFault;
-pub use lookup::{find, find_module, find_submodule, recipe_number};
+pub use lookup::{find, find_module, find_submodule};
 pub use needs::{all_needs, ranks};
-pub use recipe_node::{RecipeNode, ValueCount, add_place, recipe_nodes, recipe_places};
-pub use recipe_resolver::RecipeResolver;
+pub use recipe_node::{
+    RecipeNode, ValueCount, add_place, recipe_nodes, recipe_places, value_counts,
+};
+pub use recipe_resolver::{RecipeResolver, check_dependencies};

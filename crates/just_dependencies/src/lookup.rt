@@ -1,7 +1,7 @@
 //! What a compilation holds, by names.
 use crate::recipe_node::ValueCount;
 use just_compilation::{Compilation, Place};
-use just_text::{Name, Number};
+use just_text::Name;
 use std::cmp::Ordering;
 
 /// The name at the place, which is empty where nothing has a name.
@@ -32,14 +32,6 @@ pub fn find(compilation: &Compilation, places: &[Place], name: &str) -> Option<P
         }
     }
     found
-}
-
-/// The number of the recipe at the place, if there is one. Takes no memory.
-pub fn recipe_number(compilation: &Compilation, place: Place) -> Option<Number> {
-    match compilation.recipe(place) {
-        Some(recipe) => Some(recipe.number),
-        None => None,
-    }
 }
 
 /// How many values the recipe at the place takes, if there is one.

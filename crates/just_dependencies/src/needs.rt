@@ -1,29 +1,25 @@
 //! What recipes depend on, by places.
 use crate::fault::DependencyFault;
 use crate::recipe_node::RecipeNode;
-use crate::recipe_resolver::RecipeResolver;
+use crate::recipe_resolver::{RecipeResolver, add_places};
+use just_compilation::Compilation;
+use just_tree::{Recipe, UnresolvedDependency};
 use std::alloc::{AllocError, Global};
 
 /// What the recipe depends on, by places: the priors, then the subsequents.
 fn needs_of<'a, 'src>(
     alloc: Global,
-    resolver: &RecipeResolver<'src, 'a, '_>,
-    node: RecipeNode<'src, 'a>,
+    compilation: &Compilation<'src>,
+    resolver: &RecipeResolver,
+    module: usize,
+    recipe: &'a Recipe<'src, UnresolvedDependency<'src>>,
 ) -> Result<Vec<usize>, DependencyFault<'a, 'src>> {
-    let recipe = node.recipe;
+    let name = recipe.name;
+    let priors = recipe.priors.as_slice();
+    let subsequents = recipe.subsequents.as_slice();
     let mut needs = Vec::new(alloc);
-    resolver.add_places(
-        &mut needs,
-        node.module,
-        recipe.name,
-        recipe.priors.as_slice(),
-    )?;
-    resolver.add_places(
-        &mut needs,
-        node.module,
-        recipe.name,
-        recipe.subsequents.as_slice(),
-    )?;
+    add_places(compilation, resolver, &mut needs, module, name, priors)?;
+    add_places(compilation, resolver, &mut needs, module, name, subsequents)?;
     Ok(needs)
 }
 
@@ -32,11 +28,13 @@ fn needs_of<'a, 'src>(
 /// number of values; and where memory is.
 pub fn all_needs<'a, 'src>(
     alloc: Global,
-    resolver: &RecipeResolver<'src, 'a, '_>,
+    compilation: &Compilation<'src>,
+    resolver: &RecipeResolver,
+    nodes: &[RecipeNode<'src, 'a>],
 ) -> Result<Vec<Vec<usize>>, DependencyFault<'a, 'src>> {
     let mut all = Vec::new(alloc);
-    for node in resolver.nodes {
-        all.push(needs_of(alloc, resolver, *node)?)?;
+    for node in nodes {
+        all.push(needs_of(alloc, compilation, resolver, node.module, node.recipe)?)?;
     }
     Ok(all)
 }

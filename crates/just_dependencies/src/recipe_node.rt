@@ -1,6 +1,5 @@
 //! Recipes with their modules, and how many values they take.
-use just_compilation::{Compilation, ModuleNode};
-use just_text::Number;
+use just_compilation::{Compilation, ModuleNode, Place};
 use just_tree::{Parameter, ParameterKind, Recipe, UnresolvedDependency};
 use std::alloc::{AllocError, Global};
 use std::collections::BTreeMap;
@@ -54,21 +53,8 @@ impl ValueCount {
 pub struct RecipeNode<'src, 'a> {
     pub recipe: &'a Recipe<'src, UnresolvedDependency<'src>>,
     pub module: usize,
-    pub count: ValueCount,
-}
-
-impl<'src, 'a> RecipeNode<'src, 'a> {
-    /// The recipe in this module.
-    fn new(
-        recipe: &'a Recipe<'src, UnresolvedDependency<'src>>,
-        module: usize,
-    ) -> RecipeNode<'src, 'a> {
-        RecipeNode {
-            recipe,
-            module,
-            count: ValueCount::of(recipe.parameters.as_slice()),
-        }
-    }
+    /// Where it stands.
+    pub place: Place,
 }
 
 fn add_nodes<'a, 'src>(
@@ -79,7 +65,11 @@ fn add_nodes<'a, 'src>(
 ) -> Result<(), AllocError> {
     for place in &node.recipes {
         if let Some(recipe) = compilation.recipe(*place) {
-            nodes.push(RecipeNode::new(recipe, module))?;
+            nodes.push(RecipeNode {
+                recipe,
+                module,
+                place: *place,
+            })?;
         }
     }
     Ok(())
@@ -98,25 +88,34 @@ pub fn recipe_nodes<'a, 'src>(
     Ok(nodes)
 }
 
-/// The place of each recipe by its number. Refused only where memory is.
+/// How many values each recipe takes. Refused only where memory is.
+pub fn value_counts(alloc: Global, nodes: &[RecipeNode]) -> Result<Vec<ValueCount>, AllocError> {
+    let mut counts = Vec::new(alloc);
+    for node in nodes {
+        counts.push(ValueCount::of(node.recipe.parameters.as_slice()))?;
+    }
+    Ok(counts)
+}
+
+/// The place of each recipe among these, by where it stands. Refused only where memory is.
 pub fn recipe_places(
     alloc: Global,
     nodes: &[RecipeNode],
-) -> Result<BTreeMap<Number, usize>, AllocError> {
+) -> Result<BTreeMap<Place, usize>, AllocError> {
     let mut places = BTreeMap::new(alloc);
     for place in 0..nodes.len() {
-        add_place(&mut places, nodes[place].recipe.number, place)?;
+        add_place(&mut places, nodes[place].place, place)?;
     }
     Ok(places)
 }
 
-/// Gives the number this place, in place of an earlier one. Refused only where memory is.
+/// Gives what stands there this place, in place of an earlier one. Refused only where memory is.
 pub fn add_place(
-    places: &mut BTreeMap<Number, usize>,
-    number: Number,
+    places: &mut BTreeMap<Place, usize>,
+    item: Place,
     place: usize,
 ) -> Result<(), AllocError> {
-    match places.insert(number, place) {
+    match places.insert(item, place) {
         Ok(_) => Ok(()),
         Err(_) => Err(AllocError),
     }

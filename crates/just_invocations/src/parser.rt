@@ -15,9 +15,9 @@ pub struct Invocation {
 
 /// Reads the words one by one.
 #[derive(Drop)]
-pub struct InvocationParser<'a> {
+pub struct InvocationParser<'a, 'm> {
     alloc: Global,
-    menus: &'a Menus<'a>,
+    menus: &'a Menus<'m>,
     invocations: Vec<Invocation>,
     /// The place of the module in which the next name is looked up.
     module: usize,
@@ -25,7 +25,7 @@ pub struct InvocationParser<'a> {
     taking: Option<Taking>,
 }
 
-impl<'a> InvocationParser<'a> {
+impl<'a, 'm> InvocationParser<'a, 'm> {
     /// The recipes that the words name, in order, with what the words give to their parameters.
     ///
     /// A word is a recipe or an alias of the current module, or a submodule, in which the next word
@@ -39,7 +39,7 @@ impl<'a> InvocationParser<'a> {
     /// `NoRecipes`, `DefaultNeedsArguments`; `OutOfMemory` where memory runs out.
     pub fn parse_invocations(
         alloc: Global,
-        menus: &'a Menus<'a>,
+        menus: &'a Menus<'m>,
         words: &[Text],
     ) -> Result<Vec<Invocation>, WordFault> {
         if words.is_empty() && menus.default_list {

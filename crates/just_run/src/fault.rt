@@ -1,137 +1,176 @@
 //! Why a call is refused, or how a run failed.
-ghost use Rattle.std.specs.Prelude.{◌≡◌, Some};
+ghost use Rattle.std.specs.Prelude.{◌≡◌};
+ghost use Rattle.just_run.specs.Statuses.{command_status, status_of};
+ghost use Rattle.just_run.specs.declared.fault.Fault.TheVariants.{OutOfMemory, Write};
 
-use crate::order::OrderFault;
-use crate::run::RunFault;
-use justfile_syntax::{CompileError, CompileErrorKind, Name, Sequence, Text, Token};
+use just_host::{HostFault, Status};
+use just_invocations::WordFault;
+use just_plain_run::{Fault as PlainFault, WriteFailed};
+use just_runner::RunFault;
+use justfile_evaluator::Error as EvaluationError;
+use justfile_syntax::{Name, Text, Token};
 use std::alloc::{AllocError, AllocFailed};
 use std::fmt;
 
-/// Why a call is refused, or how a run failed. The rules come before any command is handed over; it
-/// prints its name in lower case and its fields between backticks, a failed recipe a sentence.
+/// How the command that the words are failed.
+#[derive(Debug, Drop)]
+pub struct CommandFault {
+    /// The first word.
+    pub word: Text,
+    pub status: Status,
+    /// Whether nothing is to be said of it.
+    pub is_silent: bool,
+}
+
+/// Why a call is refused, or how a run failed. Rules of files and words come before anything is
+/// asked of the host. It prints its name in lower case and its fields between backticks, a failed
+/// command a sentence.
 #[derive(Debug, Drop)]
 pub enum Fault<'src> {
     /// Memory ran out.
     OutOfMemory,
     /// There is no root file for this search directory, which is empty where none was given.
     NoRootForWord(Text),
-    /// There is no text at this path of the root file.
-    MissingRoot(Text),
-    /// The root file is no justfile, or no number is left for what it says.
-    Syntax(CompileError<'src>),
-    /// The root file at this path is a justfile, but has more than plain recipes, which can't be run yet.
-    NotYet(Text),
-    /// A second recipe has this name.
-    Redefinition(Name<'src>),
-    /// A recipe depends on a name that is no recipe's.
-    UnknownDependency {
-        recipe: Name<'src>,
-        dependency: Name<'src>,
-    },
-    /// Each recipe depends on the next, and the last is the first again.
-    CircularRecipe(Sequence<Name<'src>>),
-    /// A word gives a value for a variable that is not there.
-    UnknownOverride(Text),
-    /// A word names no recipe.
-    UnknownRecipe(Text),
-    /// A word has `::` in it, and its front names no module.
-    UnknownModule(Text),
-    /// There is no recipe to run.
-    NoRecipes,
+    /// A rule of a file of plain recipes, of words for it, or how its run failed.
+    Plain(PlainFault<'src>),
+    /// A rule of files, modules, names or orders.
+    Justfile(just_resolve::Error<'src>),
+    /// A rule of words.
+    Words(WordFault),
+    /// The files of variables of a module could not be read.
+    Dotenv(HostFault),
+    /// A variable of a module has no value.
+    Opening(EvaluationError<'src>),
+    /// A recipe's parameter, attribute, dependency or body has no value.
+    Evaluation(EvaluationError<'src>),
     /// A command of the recipe ended with this code.
-    Code(Name<'src>, u8),
+    Code {
+        recipe: Name<'src>,
+        code: u8,
+        /// Whether nothing is to be said of it.
+        is_silent: bool,
+    },
     /// A command of the recipe was ended by this signal.
-    Signal(Name<'src>, u8),
+    Signal {
+        recipe: Name<'src>,
+        signal: u8,
+        /// Whether nothing is to be said of it.
+        is_silent: bool,
+    },
     /// A command of the recipe could not start.
     CouldNotStart(Name<'src>),
+    /// The user did not confirm that the recipe runs.
+    NotConfirmed(Name<'src>),
+    /// The command that the words are failed.
+    Command(CommandFault),
+    /// The output took no more.
+    Write,
+    /// The root file at this path has a line that can't be printed so that it is read as it was.
+    NotPrintable(Text),
+}
+
+/// The status of a program whose command ended so.
+fn status_code(status: Status) -> u8
+    ensures { result ≡ command_status status }
+{
+    match status {
+        Status::Code(code) => code,
+        Status::Signal(signal) => signal.saturating_add(128),
+        Status::NotStarted => 1,
+    }
 }
 
 impl<'src> Fault<'src> {
-    ghost use Rattle.just_run.specs.Faulted.{status_of, fault_place};
-
     /// The status that a program ends with: the code of a failed command; 128 and the number of a
     /// signal, at most 255; else 1.
     pub fn status(&self) -> u8
         ensures { result ≡ status_of self.now }
     {
         match self {
-            Fault::Code(_, code) => *code,
-            Fault::Signal(_, signal) => signal.saturating_add(128),
+            Fault::Plain(fault) => fault.status(),
+            Fault::Code { code, .. } => *code,
+            Fault::Signal { signal, .. } => signal.saturating_add(128),
+            Fault::Command(fault) => status_code(fault.status),
             _ => 1,
         }
     }
 
-    /// Where in a source the refusal stands: at the token that is refused, the later definition's name, the
-    /// dependency that isn't there, or the name of a recipe of the circle. Other faults have no place.
-    pub fn place(&self) -> Option<Token<'src>>
-        ensures { result ≡ fault_place self.now }
-    {
+    /// Where in a source the refusal stands, if it has a place.
+    pub fn place(&self) -> Option<Token<'src>> {
         match self {
-            Fault::Syntax(error) => error.place(),
-            Fault::Redefinition(name) => Some(name.token),
-            Fault::UnknownDependency { dependency, .. } => Some(dependency.token),
-            Fault::CircularRecipe(names) => Some(names.as_slice().first()?.token),
+            Fault::Plain(fault) => fault.place(),
+            Fault::Justfile(error) => error.place(),
             _ => None,
+        }
+    }
+
+    /// Whether nothing is to be said of it: a command failed, and its exit has no message.
+    pub fn is_silent(&self) -> bool {
+        match self {
+            Fault::Code { is_silent, .. } | Fault::Signal { is_silent, .. } => *is_silent,
+            Fault::Command(fault) => fault.is_silent,
+            _ => false,
         }
     }
 }
 
-/// Names between backticks, joined by `, `.
-#[derive(Clone, Copy)]
-struct TickedNames<'a, 'src>(&'a [Name<'src>]);
-
-impl fmt::Display for TickedNames<'_, '_> {
-    ghost use Rattle.std.specs.Prelude.{map};
-    ghost use Rattle.just_plain.specs.Shape.{name_text};
-    ghost use Rattle.just_text.specs.Fields.{ticked_list};
-
-    ghost output = { λ t. Some (ticked_list (map name_text t.0.now)) };
-
+impl fmt::Display for CommandFault {
     fn fmt<W: fmt::Write>(&self, f: &mut fmt::Formatter<W>) -> fmt::Result {
-        let names = self.0;
-        let Some((first, others)) = names.split_first() else {
-            return Ok(());
-        };
-        write!(f, "`{first}`")?;
-        for name in others {
-            write!(f, ", `{name}`")?;
+        let word = &self.word;
+        match self.status {
+            Status::Code(code) => write!(f, "recipe `{word}` failed with exit code {code}"),
+            Status::Signal(signal) => write!(f, "recipe `{word}` was ended by signal {signal}"),
+            Status::NotStarted => write!(f, "recipe `{word}` could not start its command"),
         }
-        Ok(())
+    }
+}
+
+/// Writes why a recipe or a command failed, nothing of other faults.
+fn write_failure<W: fmt::Write>(f: &mut fmt::Formatter<W>, fault: &Fault) -> fmt::Result {
+    match fault {
+        Fault::Code { recipe, code, .. } => {
+            write!(f, "recipe `{recipe}` failed with exit code {code}")
+        }
+        Fault::Signal { recipe, signal, .. } => {
+            write!(f, "recipe `{recipe}` was ended by signal {signal}")
+        }
+        Fault::CouldNotStart(recipe) => write!(f, "recipe `{recipe}` could not start its command"),
+        Fault::NotConfirmed(recipe) => write!(f, "recipe `{recipe}` was not confirmed"),
+        Fault::Command(fault) => write!(f, "{fault}"),
+        _ => Ok(()),
+    }
+}
+
+/// Writes which rule is broken, nothing of other faults.
+fn write_rule<W: fmt::Write>(f: &mut fmt::Formatter<W>, fault: &Fault) -> fmt::Result {
+    match fault {
+        Fault::Plain(fault) => write!(f, "{fault}"),
+        Fault::Justfile(error) => write!(f, "{error}"),
+        Fault::Words(fault) => write!(f, "{fault}"),
+        Fault::NoRootForWord(word) => write!(f, "no root for word: `{word}`"),
+        Fault::NotPrintable(path) => write!(f, "not printable: `{path}`"),
+        _ => Ok(()),
     }
 }
 
 impl fmt::Display for Fault<'_> {
-    ghost use Rattle.just_run.specs.Faulted.{fault_text};
-
-    ghost output = { λ fault. Some (fault_text fault) };
-
     fn fmt<W: fmt::Write>(&self, f: &mut fmt::Formatter<W>) -> fmt::Result {
         match self {
-            Fault::OutOfMemory => write!(f, "out of memory"),
-            Fault::NoRootForWord(word) => write!(f, "no root for word: `{word}`"),
-            Fault::MissingRoot(path) => write!(f, "missing root: `{path}`"),
-            Fault::Syntax(error) => write!(f, "{error}"),
-            Fault::NotYet(path) => write!(f, "not yet: `{path}`"),
-            Fault::Redefinition(name) => write!(f, "redefinition: `{name}`"),
-            Fault::UnknownDependency { recipe, dependency } => {
-                write!(f, "unknown dependency: `{recipe}`, `{dependency}`")
-            }
-            Fault::CircularRecipe(names) => {
-                write!(f, "circular recipe: {}", TickedNames(names.as_slice()))
-            }
-            Fault::UnknownOverride(name) => write!(f, "unknown override: `{name}`"),
-            Fault::UnknownRecipe(word) => write!(f, "unknown recipe: `{word}`"),
-            Fault::UnknownModule(word) => write!(f, "unknown module: `{word}`"),
-            Fault::NoRecipes => write!(f, "no recipes"),
-            Fault::Code(recipe, code) => {
-                write!(f, "recipe `{recipe}` failed with exit code {code}")
-            }
-            Fault::Signal(recipe, signal) => {
-                write!(f, "recipe `{recipe}` was ended by signal {signal}")
-            }
-            Fault::CouldNotStart(recipe) => {
-                write!(f, "recipe `{recipe}` could not start its command")
-            }
+            Fault::OutOfMemory => f.write_str("out of memory"),
+            Fault::Write => f.write_str("write"),
+            Fault::Dotenv(fault) => write!(f, "dotenv: `{fault}`"),
+            Fault::Opening(error) => write!(f, "opening: `{error}`"),
+            Fault::Evaluation(error) => write!(f, "evaluation: `{error}`"),
+            Fault::Plain(_)
+            | Fault::Justfile(_)
+            | Fault::Words(_)
+            | Fault::NoRootForWord(_)
+            | Fault::NotPrintable(_) => write_rule(f, self),
+            Fault::Code { .. }
+            | Fault::Signal { .. }
+            | Fault::CouldNotStart(_)
+            | Fault::NotConfirmed(_)
+            | Fault::Command(_) => write_failure(f, self),
         }
     }
 }
@@ -139,8 +178,6 @@ impl fmt::Display for Fault<'_> {
 impl std::error::Error for Fault<'_> {}
 
 impl From<AllocError> for Fault<'_> {
-    ghost use Rattle.just_run.specs.declared.fault.Fault.TheVariants.{OutOfMemory};
-
     ghost from_gives = { λ _ e. e ≡ OutOfMemory };
 
     fn from(_refused: AllocError) -> Self {
@@ -149,8 +186,6 @@ impl From<AllocError> for Fault<'_> {
 }
 
 impl<T: Drop> From<AllocFailed<T>> for Fault<'_> {
-    ghost use Rattle.just_run.specs.declared.fault.Fault.TheVariants.{OutOfMemory};
-
     ghost from_gives = { λ _ e. e ≡ OutOfMemory };
 
     fn from(_refused: AllocFailed<T>) -> Self {
@@ -158,47 +193,82 @@ impl<T: Drop> From<AllocFailed<T>> for Fault<'_> {
     }
 }
 
-impl<'src> From<CompileError<'src>> for Fault<'src> {
-    ghost use Rattle.just_run.specs.Faulted.{by_syntax};
+impl From<WriteFailed> for Fault<'_> {
+    ghost from_gives = { λ _ e. e ≡ Write };
 
-    ghost from_gives = { λ lower upper. upper ≡ by_syntax lower };
+    fn from(_failed: WriteFailed) -> Self {
+        Fault::Write
+    }
+}
 
-    fn from(error: CompileError<'src>) -> Self {
-        match error.kind {
-            CompileErrorKind::OutOfMemory => Fault::OutOfMemory,
-            _ => Fault::Syntax(error),
+impl<'src> From<PlainFault<'src>> for Fault<'src> {
+    ghost use Rattle.just_run.specs.Plain.{fault_of};
+
+    ghost from_gives = { λ f e. e ≡ fault_of f };
+
+    fn from(fault: PlainFault<'src>) -> Self {
+        match fault {
+            PlainFault::OutOfMemory => Fault::OutOfMemory,
+            PlainFault::NoRootForWord(word) => Fault::NoRootForWord(word),
+            other => Fault::Plain(other),
         }
     }
 }
 
-impl<'src> From<OrderFault<'src>> for Fault<'src> {
-    ghost use Rattle.just_run.specs.Faulted.{by_order};
+impl<'src> From<just_resolve::Error<'src>> for Fault<'src> {
+    fn from(error: just_resolve::Error<'src>) -> Self {
+        match error {
+            just_resolve::Error::OutOfMemory => Fault::OutOfMemory,
+            other => Fault::Justfile(other),
+        }
+    }
+}
 
-    ghost from_gives = { λ lower upper. upper ≡ by_order lower };
+impl<'src> From<just_modules::Error<'src>> for Fault<'src> {
+    fn from(error: just_modules::Error<'src>) -> Self {
+        match error {
+            just_modules::Error::OutOfMemory => Fault::OutOfMemory,
+            other => Fault::Justfile(just_resolve::Error::Compile(other)),
+        }
+    }
+}
 
-    fn from(fault: OrderFault<'src>) -> Self {
+impl From<WordFault> for Fault<'_> {
+    fn from(fault: WordFault) -> Self {
         match fault {
-            OrderFault::OutOfMemory => Fault::OutOfMemory,
-            OrderFault::Redefinition(name) => Fault::Redefinition(name),
-            OrderFault::UnknownDependency { recipe, dependency } => {
-                Fault::UnknownDependency { recipe, dependency }
-            }
-            OrderFault::CircularRecipe(names) => Fault::CircularRecipe(names),
+            WordFault::OutOfMemory => Fault::OutOfMemory,
+            other => Fault::Words(other),
         }
     }
 }
 
 impl<'src> From<RunFault<'src>> for Fault<'src> {
-    ghost use Rattle.just_run.specs.Faulted.{by_run};
-
-    ghost from_gives = { λ lower upper. upper ≡ by_run lower };
-
     fn from(fault: RunFault<'src>) -> Self {
         match fault {
             RunFault::OutOfMemory => Fault::OutOfMemory,
-            RunFault::Code(recipe, code) => Fault::Code(recipe, code),
-            RunFault::Signal(recipe, signal) => Fault::Signal(recipe, signal),
+            RunFault::Dotenv(fault) => Fault::Dotenv(fault),
+            RunFault::Opening(error) => Fault::Opening(error),
+            RunFault::Evaluation(error) => Fault::Evaluation(error),
+            RunFault::Code {
+                recipe,
+                code,
+                is_silent,
+            } => Fault::Code {
+                recipe,
+                code,
+                is_silent,
+            },
+            RunFault::Signal {
+                recipe,
+                signal,
+                is_silent,
+            } => Fault::Signal {
+                recipe,
+                signal,
+                is_silent,
+            },
             RunFault::CouldNotStart(recipe) => Fault::CouldNotStart(recipe),
+            RunFault::NotConfirmed(recipe) => Fault::NotConfirmed(recipe),
         }
     }
 }

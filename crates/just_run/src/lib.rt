@@ -1,27 +1,21 @@
-//! From a justfile and words to the commands of a run.
+//! From texts and words to what a justfile does: runs, texts and single commands.
 #![tactic(auto)]
 
-mod checks;
+mod actions;
+mod command;
 pub mod driver;
 pub mod fault;
-pub mod frame;
-mod invocations;
-mod marks;
-pub mod order;
+mod opened;
 pub mod outcome;
-pub mod output;
-mod root;
-pub mod run;
-mod search;
-pub mod stack;
+mod task;
+mod texts;
 
 pub use driver::drive;
-pub use fault::Fault;
+pub use fault::{CommandFault, Fault};
 pub use just_host::{
     Answer, CommandJob, Config, Confirmation, DotenvRequest, Entry, Host, HostFault, MachineFact,
     Pair, Question, Recorded, RunHost, ScriptJob, Status,
 };
+pub use just_plain_run::{Collected, Device, Out, WriteFailed, write_all};
 pub use just_value::{Override, Positional};
-pub use order::{Order, OrderFault, Planned};
 pub use outcome::{Action, Outcome};
-pub use output::{Collected, Device, Out, WriteFailed, write_all};

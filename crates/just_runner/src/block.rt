@@ -1,9 +1,10 @@
 //! What a block of dependencies calls.
 ghost use Rattle.std.specs.Prelude.{◌<◌, length};
+ghost use Rattle.just_builtins.specs.Asking.{Asks};
 
 use crate::call::Call;
-use crate::fault::RunFault;
 use crate::plan::Runner;
+use just_bodies::RunFault;
 use just_host::{Recorded, RunHost};
 use just_tree::{DependencyArgument, Parameter, UnresolvedDependency};
 use just_value::Value;
@@ -24,7 +25,9 @@ fn arguments<'src, H: RunHost + Drop>(
     host: &mut Recorded<H>,
     evaluator: &Evaluator<'_, 'src>,
     arguments: &[DependencyArgument<'src>],
-) -> Result<Vec<Value>, Error<'src>> {
+) -> Result<Vec<Value>, Error<'src>>
+    ensures asks { Asks H.goes host.old host.new }
+{
     let mut values = Vec::new(alloc);
     for argument in arguments {
         values.push(evaluator.evaluate_value(alloc, host, &argument.expression)?)?;
@@ -126,7 +129,9 @@ fn push_dependency<'src, H: RunHost + Drop>(
     calls: &mut Vec<Call>,
     callee: Callee<'_, 'src>,
     dependency: &UnresolvedDependency<'src>,
-) -> Result<(), RunFault<'src>> {
+) -> Result<(), RunFault<'src>>
+    ensures asks { Asks H.goes host.old host.new }
+{
     let written = dependency.arguments.as_slice();
     let mut values = arguments(alloc, host, evaluator, written)?;
     Ok(push_calls(
@@ -166,7 +171,9 @@ pub(crate) fn block<'src, H: RunHost + Drop>(
     runner: &Runner<'_, 'src>,
     dependencies: &[UnresolvedDependency<'src>],
     places: &[usize],
-) -> Result<Vec<Call>, RunFault<'src>> {
+) -> Result<Vec<Call>, RunFault<'src>>
+    ensures asks { Asks H.goes host.old host.new }
+{
     let recipes = runner.recipes;
     let modules = runner.contexts.len();
     let mut calls = Vec::new(alloc);

@@ -1,6 +1,8 @@
 //! Confirmations.
-use crate::fault::RunFault;
+ghost use Rattle.just_builtins.specs.Asking.{Asks};
+
 use just_attribute_tree::{Attribute, AttributeKind};
+use just_bodies::RunFault;
 use just_expression_tree::Expression;
 use just_host::{Confirmation, Recorded, RunHost};
 use just_text::Name;
@@ -14,7 +16,9 @@ fn prompt_text<'src, H: RunHost + Drop>(
     host: &mut Recorded<H>,
     evaluator: &Evaluator<'_, 'src>,
     prompt: &Expression<'src>,
-) -> Result<String, Error<'src>> {
+) -> Result<String, Error<'src>>
+    ensures asks { Asks H.goes host.old host.new }
+{
     let value = evaluator.evaluate_value(alloc, host, prompt)?;
     Ok(value.join(alloc)?)
 }
@@ -30,7 +34,9 @@ fn prompt<'src, H: RunHost + Drop>(
     host: &mut Recorded<H>,
     evaluator: &Evaluator<'_, 'src>,
     recipe: &Recipe<'src, UnresolvedDependency<'src>>,
-) -> Result<Option<String>, Error<'src>> {
+) -> Result<Option<String>, Error<'src>>
+    ensures asks { Asks H.goes host.old host.new }
+{
     match recipe.attributes.get(AttributeKind::Confirm) {
         Some(Attribute::Confirm(Some(prompt))) => {
             Ok(Some(prompt_text(alloc, host, evaluator, prompt)?))
@@ -40,18 +46,37 @@ fn prompt<'src, H: RunHost + Drop>(
     }
 }
 
+/// Whether the recipe runs behind the user's answer.
+fn judged<'src>(answer: Confirmation, recipe: Name<'src>) -> Result<(), RunFault<'src>> {
+    match answer {
+        Confirmation::Yes => Ok(()),
+        Confirmation::No | Confirmation::Failed => Err(RunFault::NotConfirmed(recipe)),
+    }
+}
+
+/// Asks the user by the prompt.
+fn ask<'src, H: RunHost + Drop>(
+    host: &mut Recorded<H>,
+    prompt: &str,
+    recipe: Name<'src>,
+) -> Result<(), RunFault<'src>>
+    ensures asks { Asks H.goes host.old host.new }
+{
+    let answer = host.confirm(prompt);
+    judged(answer, recipe)
+}
+
 /// Asks the user whether the recipe runs, where it wants to be confirmed.
 pub(crate) fn confirm<'src, H: RunHost + Drop>(
     alloc: Global,
     host: &mut Recorded<H>,
     evaluator: &Evaluator<'_, 'src>,
     recipe: &Recipe<'src, UnresolvedDependency<'src>>,
-) -> Result<(), RunFault<'src>> {
+) -> Result<(), RunFault<'src>>
+    ensures asks { Asks H.goes host.old host.new }
+{
     let Some(prompt) = prompt(alloc, host, evaluator, recipe)? else {
         return Ok(());
     };
-    match host.confirm(prompt.as_str()) {
-        Confirmation::Yes => Ok(()),
-        Confirmation::No | Confirmation::Failed => Err(RunFault::NotConfirmed(recipe.name)),
-    }
+    ask(host, prompt.as_str(), recipe.name)
 }

@@ -1,12 +1,12 @@
 //! A recipe's parameters, its confirmation, and the calls around its body.
+ghost use Rattle.just_builtins.specs.Asking.{Asks};
+
 use crate::block::block;
-use crate::body::run_body;
 use crate::call::Call;
 use crate::confirm::confirm;
-use crate::fault::RunFault;
 use crate::frame::Entered;
 use crate::plan::{Placed, Runner};
-use crate::site::{Manner, Site, folder_of};
+use just_bodies::{Manner, RunFault, Site, folder_of, run_body};
 use just_host::{Recorded, RunHost};
 use just_text::Name;
 use just_tree::Parameter;
@@ -35,7 +35,9 @@ fn bind<'src, H: RunHost + Drop>(
     groups: &[Value],
     is_dependency: bool,
     scope: &mut Scope<'_, 'src>,
-) -> Result<BoundParameters, RunFault<'src>> {
+) -> Result<BoundParameters, RunFault<'src>>
+    ensures asks { Asks H.goes host.old host.new }
+{
     let check = |parameter: &Parameter, count: usize| may_count(parameter, count);
     Ok(evaluate_parameters(
         alloc,
@@ -56,7 +58,9 @@ pub(crate) fn entered<'m, 'src, H: RunHost + Drop>(
     placed: &Placed<'m, 'src>,
     groups: &[Value],
     is_dependency: bool,
-) -> Result<Entered<'m, 'src>, RunFault<'src>> {
+) -> Result<Entered<'m, 'src>, RunFault<'src>>
+    ensures asks { Asks H.goes host.old host.new }
+{
     let mut scope = placed.context.scope.child(alloc)?;
     match bind(alloc, host, placed, groups, is_dependency, &mut scope) {
         Ok(BoundParameters { positional, env }) => Ok(Entered {
@@ -112,7 +116,9 @@ fn confirmed<'src, H: RunHost + Drop>(
     placed: &Placed<'_, 'src>,
     entered: &Entered<'_, 'src>,
     scope: &Scope<'_, 'src>,
-) -> Result<Vec<Call>, RunFault<'src>> {
+) -> Result<Vec<Call>, RunFault<'src>>
+    ensures asks { Asks H.goes host.old host.new }
+{
     let planned = placed.planned;
     let recipe = planned.recipe;
     let context = placed.context;
@@ -136,7 +142,9 @@ fn run_in<'src, H: RunHost + Drop>(
     entered: &Entered<'_, 'src>,
     scope: &Scope<'_, 'src>,
     folder: Option<&str>,
-) -> Result<(), RunFault<'src>> {
+) -> Result<(), RunFault<'src>>
+    ensures asks { Asks H.goes host.old host.new }
+{
     let recipe = placed.planned.recipe;
     let context = placed.context;
     let body = recipe.body.as_slice();
@@ -154,7 +162,9 @@ fn run<'src, H: RunHost + Drop>(
     placed: &Placed<'_, 'src>,
     entered: &Entered<'_, 'src>,
     scope: &Scope<'_, 'src>,
-) -> Result<(), RunFault<'src>> {
+) -> Result<(), RunFault<'src>>
+    ensures asks { Asks H.goes host.old host.new }
+{
     let recipe = placed.planned.recipe;
     let folder = folder_of(alloc, placed.context, &recipe.attributes)?;
     let folder = match &folder {
@@ -172,7 +182,9 @@ fn done<'src, H: RunHost + Drop>(
     placed: &Placed<'_, 'src>,
     entered: &Entered<'_, 'src>,
     scope: &Scope<'_, 'src>,
-) -> Result<Vec<Call>, RunFault<'src>> {
+) -> Result<Vec<Call>, RunFault<'src>>
+    ensures asks { Asks H.goes host.old host.new }
+{
     let planned = placed.planned;
     let recipe = planned.recipe;
     let context = placed.context;
@@ -199,7 +211,9 @@ pub(crate) fn begin<'src, H: RunHost + Drop>(
     runner: &Runner<'_, 'src>,
     placed: &Placed<'_, 'src>,
     entered: &Entered<'_, 'src>,
-) -> Result<Vec<Call>, RunFault<'src>> {
+) -> Result<Vec<Call>, RunFault<'src>>
+    ensures asks { Asks H.goes host.old host.new }
+{
     let scope = entered.scope.child(alloc)?;
     confirmed(alloc, host, runner, placed, entered, &scope)
 }
@@ -211,7 +225,9 @@ pub(crate) fn end<'src, H: RunHost + Drop>(
     runner: &Runner<'_, 'src>,
     placed: &Placed<'_, 'src>,
     entered: &Entered<'_, 'src>,
-) -> Result<Vec<Call>, RunFault<'src>> {
+) -> Result<Vec<Call>, RunFault<'src>>
+    ensures asks { Asks H.goes host.old host.new }
+{
     let scope = entered.scope.child(alloc)?;
     done(alloc, host, runner, placed, entered, &scope)
 }

@@ -3,21 +3,17 @@
 #![tactic(auto)]
 
 mod block;
-mod body;
 mod call;
 mod confirm;
 mod enter;
-mod fault;
 mod frame;
 mod opening;
 mod plan;
 mod running;
-mod script;
-mod site;
 mod stack;
 
 pub use call::{Call, Done, Pending};
-pub use fault::RunFault;
+pub use just_bodies::RunFault;
 pub use opening::{Opened, Opening, open_modules};
 pub use plan::{Planned, Runner};
 pub use running::run_calls;

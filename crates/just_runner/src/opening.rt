@@ -1,5 +1,7 @@
 //! What modules open with: their files of variables, and their variables' values.
-use crate::fault::RunFault;
+ghost use Rattle.just_builtins.specs.Asking.{Asks};
+
+use just_bodies::RunFault;
 use just_host::{Config, DotenvRequest, HostFault, Pair, Recorded, RunHost};
 use just_text::{Number, Sequence, Text};
 use just_value::{Scope, Value};
@@ -86,18 +88,30 @@ fn told<'src>(
     }
 }
 
+/// Asks for what the files of variables give.
+fn ask_dotenv<'src, H: RunHost + Drop>(
+    host: &mut Recorded<H>,
+    request: &DotenvRequest,
+) -> Result<Sequence<Pair>, RunFault<'src>>
+    ensures asks { Asks H.goes host.old host.new }
+{
+    let asked = host.dotenv(request);
+    told(asked, host.exhausted())
+}
+
 /// What the module's files of variables give: nothing where it asks for none.
 fn read_dotenv<'src, H: RunHost + Drop>(
     alloc: Global,
     host: &mut Recorded<H>,
     context: &ExecutionContext<'_, 'src>,
-) -> Result<BTreeMap<String, String>, RunFault<'src>> {
+) -> Result<BTreeMap<String, String>, RunFault<'src>>
+    ensures asks { Asks H.goes host.old host.new }
+{
     if !asks(context.module.settings) {
         return Ok(BTreeMap::new(alloc));
     }
     let request = request(alloc, context)?;
-    let asked = host.dotenv(&request);
-    let pairs = told(asked, host.exhausted())?;
+    let pairs = ask_dotenv(host, &request)?;
     Ok(by_name(alloc, pairs)?)
 }
 
@@ -125,7 +139,9 @@ fn dotenv_of<'x, 'src, H: RunHost + Drop>(
     opening: &Opening<'x, 'src>,
     module: &'x ModuleView<'x, 'src>,
     none: &'x BTreeMap<String, String>,
-) -> Result<BTreeMap<String, String>, RunFault<'src>> {
+) -> Result<BTreeMap<String, String>, RunFault<'src>>
+    ensures asks { Asks H.goes host.old host.new }
+{
     let context = opening.context(module, none);
     read_dotenv(alloc, host, &context)
 }
@@ -138,7 +154,9 @@ fn fill<'x, 'src, H: RunHost + Drop>(
     module: &'x ModuleView<'x, 'src>,
     dotenv: &'x BTreeMap<String, String>,
     scope: &mut Scope<'_, 'src>,
-) -> Result<(), RunFault<'src>> {
+) -> Result<(), RunFault<'src>>
+    ensures asks { Asks H.goes host.old host.new }
+{
     let context = opening.context(module, dotenv);
     let wanted = if module.settings.lazy {
         opening.wanted
@@ -158,7 +176,9 @@ fn open_module<'c, 'src, H: RunHost + Drop>(
     opening: &Opening<'c, 'src>,
     place: usize,
     module: &ModuleView<'_, 'src>,
-) -> Result<Opened<'c, 'src>, RunFault<'src>> {
+) -> Result<Opened<'c, 'src>, RunFault<'src>>
+    ensures asks { Asks H.goes host.old host.new }
+{
     let none = BTreeMap::new(alloc);
     let dotenv = dotenv_of(alloc, host, &*opening, &*module, &none)?;
     let mut scope = opening.constants.child(alloc)?;
@@ -176,6 +196,24 @@ fn open_module<'c, 'src, H: RunHost + Drop>(
     }
 }
 
+/// Opens the module at the place, if there is one, behind those that are open.
+fn push_opened<'c, 'src, H: RunHost + Drop>(
+    alloc: Global,
+    host: &mut Recorded<H>,
+    opening: &Opening<'c, 'src>,
+    modules: &[ModuleView<'_, 'src>],
+    place: usize,
+    opened: &mut Vec<Opened<'c, 'src>>,
+) -> Result<(), RunFault<'src>>
+    ensures asks { Asks H.goes host.old host.new }
+{
+    if place >= modules.len() {
+        return Ok(());
+    }
+    opened.push(open_module(alloc, host, opening, place, &modules[place])?)?;
+    Ok(())
+}
+
 /// Opens the modules at these places one after another: each asks for the pairs of its files of
 /// variables, where its settings say so, and then its variables are evaluated, each behind those
 /// that it reads. Refused as `Dotenv` or `Opening` at the first fault.
@@ -185,13 +223,12 @@ pub fn open_modules<'c, 'src, H: RunHost + Drop>(
     opening: &Opening<'c, 'src>,
     modules: &[ModuleView<'_, 'src>],
     order: &[usize],
-) -> Result<Vec<Opened<'c, 'src>>, RunFault<'src>> {
+) -> Result<Vec<Opened<'c, 'src>>, RunFault<'src>>
+    ensures asks { Asks H.goes host.old host.new }
+{
     let mut opened = Vec::new(alloc);
     for place in order {
-        if *place < modules.len() {
-            let module = &modules[*place];
-            opened.push(open_module(alloc, host, opening, *place, module)?)?;
-        }
+        push_opened(alloc, host, opening, modules, *place, &mut opened)?;
     }
     Ok(opened)
 }

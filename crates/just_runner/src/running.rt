@@ -2,13 +2,14 @@
 ghost use Rattle.std.specs.Prelude.{◌≡◌, ◌<◌, ◌+◌, ◌∷◌, [], OnOk, IfOk};
 ghost use Rattle.just_runner.specs.Todo.{Calls, Body, After};
 ghost use Rattle.just_runner.specs.Weight.{weight, AreBelow};
+ghost use Rattle.just_builtins.specs.Asking.{Asks};
 
 use crate::call::{Call, Done, Pending};
 use crate::enter::{begin, end, entered};
-use crate::fault::RunFault;
 use crate::frame::{Entered, Frame};
 use crate::plan::{Placed, Runner};
 use crate::stack::Stack;
+use just_bodies::RunFault;
 use just_host::{Recorded, RunHost};
 use just_value::Value;
 use std::alloc::{AllocError, Global};
@@ -16,7 +17,7 @@ use std::mem;
 
 /// The calls, if all are of recipes before that place.
 fn ranked<'src>(alloc: Global, calls: Vec<Call>, place: usize) -> Result<Pending, RunFault<'src>>
-    ensures { IfOk result (AreBelow place) }
+    ensures below { IfOk result (AreBelow place) }
 {
     let _count = calls.len();
     if calls.iter().any(|call| call.recipe >= place) {
@@ -37,7 +38,9 @@ fn boxed<'m, 'src, H: RunHost + Drop>(
     placed: &Placed<'m, 'src>,
     groups: &[Value],
     is_dependency: bool,
-) -> Result<Box<Entered<'m, 'src>>, RunFault<'src>> {
+) -> Result<Box<Entered<'m, 'src>>, RunFault<'src>>
+    ensures asks { Asks H.goes host.old host.new }
+{
     let entered = entered(alloc, host, placed, groups, is_dependency)?;
     Ok(Box::new(alloc, entered)?)
 }
@@ -51,7 +54,8 @@ fn priors<'src, H: RunHost + Drop>(
     entered: &Entered<'_, 'src>,
     place: usize,
 ) -> Result<Pending, RunFault<'src>>
-    ensures { IfOk result (AreBelow place) }
+    ensures below { IfOk result (AreBelow place) }
+    ensures asks { Asks H.goes host.old host.new }
 {
     let calls = begin(alloc, host, runner, placed, entered)?;
     ranked(alloc, calls, place)
@@ -66,7 +70,8 @@ fn enter_placed<'m, 'src, H: RunHost + Drop>(
     call: &Call,
     is_dependency: bool,
 ) -> Result<(Box<Entered<'m, 'src>>, Pending), RunFault<'src>>
-    ensures { IfOk result (λ r. AreBelow call.now.recipe r.1) }
+    ensures below { IfOk result (λ r. AreBelow call.now.recipe r.1) }
+    ensures asks { Asks H.goes host.old host.new }
 {
     let groups = call.groups.as_slice();
     let entered = boxed(alloc, host, placed, groups, is_dependency)?;
@@ -82,7 +87,8 @@ fn enter<'m, 'src, H: RunHost + Drop>(
     call: &Call,
     is_dependency: bool,
 ) -> Result<(Box<Entered<'m, 'src>>, Pending), RunFault<'src>>
-    ensures { IfOk result (λ r. AreBelow call.now.recipe r.1) }
+    ensures below { IfOk result (λ r. AreBelow call.now.recipe r.1) }
+    ensures asks { Asks H.goes host.old host.new }
 {
     let recipes = runner.recipes;
     let contexts = runner.contexts;
@@ -127,7 +133,8 @@ fn turn_calls<'m, 'src, H: RunHost + Drop>(
     mut pending: Pending,
     are_dependencies: bool,
 ) -> Result<(), RunFault<'src>>
-    ensures { OnOk result (weight stack.new < weight (Calls pending ∷ stack.old)) }
+    ensures nearer { OnOk result (weight stack.new < weight (Calls pending ∷ stack.old)) }
+    ensures asks { Asks H.goes host.old host.new }
 {
     let Some(call) = pending.next() else {
         return Ok(());
@@ -170,7 +177,8 @@ fn subsequents<'src, H: RunHost + Drop>(
     entered: &Entered<'_, 'src>,
     place: usize,
 ) -> Result<Pending, RunFault<'src>>
-    ensures { IfOk result (AreBelow place) }
+    ensures below { IfOk result (AreBelow place) }
+    ensures asks { Asks H.goes host.old host.new }
 {
     let calls = end(alloc, host, runner, placed, entered)?;
     ranked(alloc, calls, place)
@@ -184,7 +192,8 @@ fn leave<'src, H: RunHost + Drop>(
     place: usize,
     entered: &Entered<'_, 'src>,
 ) -> Result<Pending, RunFault<'src>>
-    ensures { IfOk result (AreBelow place) }
+    ensures below { IfOk result (AreBelow place) }
+    ensures asks { Asks H.goes host.old host.new }
 {
     let recipes = runner.recipes;
     let contexts = runner.contexts;
@@ -212,7 +221,8 @@ fn turn_body<'m, 'src, H: RunHost + Drop>(
     call: Call,
     entered: &Entered<'m, 'src>,
 ) -> Result<(), RunFault<'src>>
-    ensures { OnOk result (weight stack.new < weight (Body call ∷ stack.old)) }
+    ensures nearer { OnOk result (weight stack.new < weight (Body call ∷ stack.old)) }
+    ensures asks { Asks H.goes host.old host.new }
 {
     let subsequents = leave(alloc, host, runner, call.recipe, entered)?;
     Ok(push_subsequents(alloc, stack, done, call, subsequents)?)
@@ -224,7 +234,9 @@ fn run_stack<'m, 'src, H: RunHost + Drop>(
     runner: &Runner<'m, 'src>,
     stack: &mut Stack<'m, 'src>,
     done: &mut Done,
-) -> Result<(), RunFault<'src>> {
+) -> Result<(), RunFault<'src>>
+    ensures asks { Asks H.goes host.old host.new }
+{
     while let Some(frame) = stack.pop() {
         match frame {
             Frame::Calls {
@@ -259,7 +271,9 @@ pub fn run_calls<'m, 'src, H: RunHost + Drop>(
     host: &mut Recorded<H>,
     runner: &Runner<'m, 'src>,
     calls: Vec<Call>,
-) -> Result<(), RunFault<'src>> {
+) -> Result<(), RunFault<'src>>
+    ensures asks { Asks H.goes host.old host.new }
+{
     let mut done = Done::new(alloc);
     let mut stack = Stack::new(alloc);
     stack.push(Frame::Calls {

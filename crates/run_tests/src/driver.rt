@@ -4,7 +4,7 @@ use just_host::{
     Answer, CommandJob, Confirmation, DotenvRequest, Entry, Host, HostFault, Pair, Question,
     ScriptJob, Status,
 };
-use just_run::{Action, Collected, Config, Fault, Outcome, Recorded, RunHost, drive};
+use just_plain_run::{Action, Collected, Config, Fault, Outcome, Recorded, RunHost, drive};
 use justfile_syntax::{ExpandFault, Expander, Os, Sequence, Text};
 use semver::Version;
 use std::alloc::{AllocError, Global};

@@ -1,6 +1,6 @@
 //! Outputs in memory and over writers.
 
-use just_run::{Collected, Device, Out, write_all};
+use just_plain_run::{Collected, Device, Out, write_all};
 use std::alloc::Global;
 use std::io;
 use std::io::Write;

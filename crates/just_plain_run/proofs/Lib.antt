@@ -1,0 +1,16 @@
+pub mod Growth
+pub mod Bodies
+pub mod Known
+pub mod Weight
+pub mod Owed
+pub mod OrderPlaces
+pub mod StackTurns
+pub mod Once
+pub mod Places
+pub mod Naming
+pub mod Listing
+pub mod Planning
+pub mod Ranks
+pub mod Checked
+pub mod Invoked
+pub mod Driven

@@ -1,0 +1,10 @@
+use Rattle.std.proofs.Common.{map}
+use Rattle.just_plain.specs.Shape.{recipe_shape}
+use Rattle.just_order.specs.Needs.{rows}
+use Rattle.just_plain_run.specs.Order.{planned_shape}
+use Rattle.just_plain_run.specs.Plan.{ArePlanned}
+use Rattle.just_plain_run.proofs.plan.all_planned.Given as goal
+
+-- the recipes so far
+abbrev pub invariant-loop-place : goal.invariant-loop-place
+invariant-loop-place l = ArePlanned (map recipe_shape l.recipes) (rows l.needs) l.ranks l.order l.place-index (map planned_shape l.planned.items)
