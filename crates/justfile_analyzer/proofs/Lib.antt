@@ -1,2 +1,0 @@
-mod Comments
-mod Kept

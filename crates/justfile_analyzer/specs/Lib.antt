@@ -1,5 +1,0 @@
-pub mod Justfiles
-pub mod Listings
-pub mod Offers
-pub mod Printed
-pub mod Variables
