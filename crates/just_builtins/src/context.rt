@@ -9,7 +9,7 @@ use crate::settings::Settings;
 use just_environment::JobEnvironment;
 use just_host::{Config, Pair};
 use just_text::{Name, Number};
-use just_tree::{Assignment, FunctionDefinition, Set};
+use just_tree::{Assignment, FunctionDefinition};
 use just_value::{Scope, path};
 use std::alloc::{AllocError, Global};
 use std::collections::BTreeMap;
@@ -24,12 +24,6 @@ pub struct AssignmentRef<'run, 'src> {
 #[derive(Clone, Copy)]
 pub struct FunctionRef<'run, 'src> {
     pub definition: &'run FunctionDefinition<'src>,
-}
-
-/// A setting of a module that is lent.
-#[derive(Clone, Copy)]
-pub struct SetRef<'run, 'src> {
-    pub set: &'run Set<'src>,
 }
 
 /// What evaluation sees of a module. All lists are lent.

@@ -16,9 +16,7 @@ mod variable;
 
 pub use call::call_builtin;
 pub use command::{command_output, line_job, run_command};
-pub use context::{
-    AssignmentRef, ExecutionContext, FunctionRef, ModuleView, SetRef, find_function,
-};
+pub use context::{AssignmentRef, ExecutionContext, FunctionRef, ModuleView, find_function};
 pub use error::Error;
 pub use just_environment::JobEnvironment;
 pub use just_functions::{ArgumentCount, Function, FunctionFault, text_at, text_of};

@@ -2,14 +2,14 @@
 use crate::fault::DependencyFault;
 use crate::recipe_resolver::{Named, RecipeResolver, target_of};
 use just_compilation::{Compilation, ModuleNode};
-use just_text::Namepath;
+use just_text::{Name, Namepath};
 use just_tree::Alias;
 use std::alloc::Global;
 
-/// An alias, and the place of its recipe.
+/// An alias by its name, and the place of its recipe.
 #[derive(Clone, Copy)]
-pub struct ResolvedAlias<'src, 'a> {
-    pub alias: &'a Alias<'src, Namepath<'src>>,
+pub struct ResolvedAlias<'src> {
+    pub name: Name<'src>,
     pub recipe: usize,
 }
 
@@ -47,12 +47,13 @@ pub fn resolved_aliases<'a, 'src>(
     ranks: &[usize],
     module: usize,
     node: &ModuleNode<'src>,
-) -> Result<Vec<ResolvedAlias<'src, 'a>>, DependencyFault<'a, 'src>> {
+) -> Result<Vec<ResolvedAlias<'src>>, DependencyFault<'a, 'src>> {
     let mut aliases = Vec::new(alloc);
     for place in &node.aliases {
         if let Some(alias) = compilation.alias(*place) {
             let recipe = alias_rank(compilation, resolver, ranks, module, alias)?;
-            aliases.push(ResolvedAlias { alias, recipe })?;
+            let name = alias.name;
+            aliases.push(ResolvedAlias { name, recipe })?;
         }
     }
     Ok(aliases)

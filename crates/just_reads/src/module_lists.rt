@@ -1,14 +1,13 @@
-//! What each module keeps, lent from the files.
-use just_builtins::{AssignmentRef, FunctionRef, SetRef};
+//! The variables and functions that each module keeps, lent from the files.
+use just_builtins::{AssignmentRef, FunctionRef};
 use just_compilation::{Compilation, ModuleNode, Place};
 use std::alloc::{AllocError, Global};
 
-/// What a module keeps, in byte order of names.
+/// The variables and functions that a module keeps, each in byte order of names.
 #[derive(Drop)]
 pub struct ModuleLists<'src, 'a> {
     pub assignments: Vec<AssignmentRef<'a, 'src>>,
     pub functions: Vec<FunctionRef<'a, 'src>>,
-    pub sets: Vec<SetRef<'a, 'src>>,
 }
 
 fn assignments<'a, 'src>(
@@ -39,20 +38,6 @@ fn functions<'a, 'src>(
     Ok(list)
 }
 
-fn sets<'a, 'src>(
-    alloc: Global,
-    compilation: &'a Compilation<'src>,
-    places: &[Place],
-) -> Result<Vec<SetRef<'a, 'src>>, AllocError> {
-    let mut list = Vec::new(alloc);
-    for place in places {
-        if let Some(set) = compilation.set(*place) {
-            list.push(SetRef { set })?;
-        }
-    }
-    Ok(list)
-}
-
 fn lists_of<'a, 'src>(
     alloc: Global,
     compilation: &'a Compilation<'src>,
@@ -60,15 +45,13 @@ fn lists_of<'a, 'src>(
 ) -> Result<ModuleLists<'src, 'a>, AllocError> {
     let assignments = assignments(alloc, compilation, node.assignments.as_slice())?;
     let functions = functions(alloc, compilation, node.functions.as_slice())?;
-    let sets = sets(alloc, compilation, node.sets.as_slice())?;
     Ok(ModuleLists {
         assignments,
         functions,
-        sets,
     })
 }
 
-/// What each module keeps, by its place. Refused only where memory is.
+/// The variables and functions that each module keeps, by its place. Refused only where memory is.
 pub fn all_lists<'a, 'src>(
     alloc: Global,
     compilation: &'a Compilation<'src>,

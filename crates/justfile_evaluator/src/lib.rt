@@ -10,7 +10,7 @@ pub use assignments::{evaluate_assignments, open_assignments};
 pub use const_evaluator::{ConstEvaluator, evaluate_const_assignments};
 pub use just_builtins::{
     ArgumentCount, AssignmentRef, Error, ExecutionContext, Function, FunctionRef, ModuleView,
-    SetRef, Settings, find_function, line_job, run_command,
+    Settings, find_function, line_job, run_command,
 };
 pub use just_evaluation::Evaluator;
 pub use just_host::{

@@ -2,7 +2,7 @@
 use crate::const_evaluator::ConstEvaluator;
 use just_attribute_tree::Setting;
 use just_attributes::Indentation;
-use just_builtins::{Error, SetRef, Settings};
+use just_builtins::{Error, Settings};
 use just_expression_tree::Expression;
 use just_text::{Name, Text};
 use just_tree::Set;
@@ -67,8 +67,9 @@ impl<'a, 'src> ConstEvaluator<'a, 'src> {
         Ok(())
     }
 
-    /// Sets what the item says.
-    fn evaluate_set(
+    /// Sets what the item says, in place of what an earlier item of the name said. Refused where its
+    /// value isn't constant or is refused, and where memory is.
+    pub fn evaluate_set(
         &self,
         alloc: Global,
         settings: &mut Settings,
@@ -96,35 +97,6 @@ impl<'a, 'src> ConstEvaluator<'a, 'src> {
             other => {
                 set_truth(settings, other);
                 Ok(())
-            }
-        }
-    }
-
-    fn evaluate_all(
-        &self,
-        alloc: Global,
-        settings: &mut Settings,
-        sets: &[SetRef<'_, 'src>],
-    ) -> Result<(), Error<'src>> {
-        for lent in sets {
-            self.evaluate_set(alloc, settings, lent.set)?;
-        }
-        Ok(())
-    }
-
-    /// What the items set, a later one of a name in place of an earlier one. What they say has to be
-    /// constant.
-    pub fn evaluate_sets(
-        &self,
-        alloc: Global,
-        sets: &[SetRef<'_, 'src>],
-    ) -> Result<Settings, Error<'src>> {
-        let mut settings = Settings::new(alloc);
-        match self.evaluate_all(alloc, &mut settings, sets) {
-            Ok(()) => Ok(settings),
-            Err(error) => {
-                drop(settings);
-                Err(error)
             }
         }
     }

@@ -1,0 +1,31 @@
+//! The recipes of all modules in their order, and what aliases stand for.
+use just_compilation::Place;
+use just_dependencies::ResolvedAlias;
+use just_text::Name;
+use std::collections::BTreeMap;
+
+/// A recipe, and the places of what it depends on and reads.
+#[derive(Drop)]
+pub struct ResolvedRecipe<'src> {
+    pub name: Name<'src>,
+    pub module: usize,
+    /// Where it stands.
+    pub place: Place,
+    /// The recipes that run before its body, in order, all at lower places.
+    pub priors: Vec<usize>,
+    /// The recipes that run behind its body, in order, all at lower places.
+    pub subsequents: Vec<usize>,
+    /// What it reads and calls among the module's variables and functions.
+    pub reads: Vec<usize>,
+}
+
+/// The recipes of all modules, and what aliases stand for.
+#[derive(Drop)]
+pub struct RecipeTable<'src> {
+    /// The recipes of all modules, each behind those that it depends on.
+    pub recipes: Vec<ResolvedRecipe<'src>>,
+    /// The place of each recipe by where it stands.
+    pub places: BTreeMap<Place, usize>,
+    /// The aliases of each module.
+    pub aliases: Vec<Vec<ResolvedAlias<'src>>>,
+}

@@ -1,0 +1,87 @@
+//! From modules to what is known of them.
+use crate::error::Error;
+use crate::known_values::known_values;
+use crate::module_variables::module_variables;
+use crate::overrides::resolve_overrides;
+use crate::recipe_table::recipe_table;
+use just_analysis::{Analysis, KnownValues, ModuleVariables, RecipeTable};
+use just_compilation::Compilation;
+use just_host::Config;
+use just_text::Number;
+use just_value::Override;
+use std::alloc::{AllocError, Global};
+use std::collections::BTreeMap;
+
+/// What is known of the modules, all of it.
+fn analysis_of<'a, 'src>(
+    alloc: Global,
+    compilation: &'a Compilation<'src>,
+    variables: ModuleVariables<'src, 'a>,
+    values: Box<KnownValues>,
+    table: Box<RecipeTable<'src>>,
+) -> Result<Analysis<'src, 'a>, AllocError> {
+    let variables = Box::new(alloc, variables)?;
+    Ok(Analysis {
+        modules: compilation.modules.as_slice(),
+        variables,
+        values,
+        table,
+    })
+}
+
+/// What is known of the modules, once their recipes are resolved too.
+fn with_recipes<'a, 'src>(
+    alloc: Global,
+    compilation: &'a Compilation<'src>,
+    variables: ModuleVariables<'src, 'a>,
+    values: Box<KnownValues>,
+) -> Result<Analysis<'src, 'a>, Error<'src>> {
+    let table = recipe_table(alloc, compilation, variables.reads.as_slice())?;
+    Ok(analysis_of(alloc, compilation, variables, values, table)?)
+}
+
+/// What is known of the modules, where these texts stand for variables. Keys of files are taken from
+/// the folder `base`.
+fn analyzed<'a, 'src>(
+    alloc: Global,
+    compilation: &'a Compilation<'src>,
+    base: &str,
+    overrides: BTreeMap<Number, String>,
+) -> Result<Analysis<'src, 'a>, Error<'src>> {
+    let variables = module_variables(alloc, compilation, &overrides)?;
+    let values = known_values(
+        alloc,
+        compilation,
+        base,
+        variables.lists.as_slice(),
+        variables.reads.as_slice(),
+        variables.orders.as_slice(),
+        overrides,
+    )?;
+    with_recipes(alloc, compilation, variables, values)
+}
+
+/// Resolves justfiles.
+#[derive(Clone, Copy, Debug)]
+pub struct Analyzer;
+
+impl Analyzer {
+    /// What is known of the modules, whose variables have their numbers; the words give these values
+    /// for variables, of which the last for one variable counts.
+    ///
+    /// Refused where a value is given for no variable; where an expression reads a name that stands
+    /// for nothing, or calls no function or one with another number of arguments; where variables
+    /// read each other in a circle; where a setting is no constant or has no value; where a
+    /// dependency names no recipe, or one that takes another number of values, also one of a recipe
+    /// that is disabled; where a dependency or an alias names a module; where recipes depend on each
+    /// other in a circle; and where memory is. Of recipes and variables those that are kept count.
+    pub fn analyze<'a, 'src>(
+        alloc: Global,
+        compilation: &'a Compilation<'src>,
+        config: &Config,
+        overrides: &[Override],
+    ) -> Result<Analysis<'src, 'a>, Error<'src>> {
+        let overrides = resolve_overrides(alloc, compilation, overrides)?;
+        analyzed(alloc, compilation, config.base.as_str(), overrides)
+    }
+}

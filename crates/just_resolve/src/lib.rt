@@ -1,0 +1,21 @@
+//! Names, orders and constants: from the modules of a justfile to what is known of it.
+#![tactic(auto)]
+
+pub mod analyzer;
+pub mod circles;
+pub mod error;
+mod error_text;
+pub mod known_values;
+pub mod module_variables;
+pub mod overrides;
+pub mod recipe_table;
+pub mod recipes;
+pub mod settled;
+
+pub use analyzer::Analyzer;
+pub use error::Error;
+pub use just_analysis::{
+    Analysis, KnownValues, ModuleLists, ModuleVariables, RecipeTable, ResolvedAlias,
+    ResolvedRecipe, collect_references, default_recipe, views,
+};
+pub use just_reads::number_variables;

@@ -1,0 +1,66 @@
+//! The variables of all modules, what they read, and their orders.
+use crate::circles::variables_in_order;
+use crate::error::Error;
+use just_analysis::{ModuleVariables, VariableOrder};
+use just_compilation::Compilation;
+use just_reads::{ModuleLists, ModuleReads, all_lists, reads_of};
+use just_references::ReadFault;
+use just_text::Number;
+use std::alloc::Global;
+use std::collections::BTreeMap;
+
+/// What each module's variables and functions read.
+fn all_reads<'src>(
+    alloc: Global,
+    lists: &[ModuleLists<'src, '_>],
+    overrides: &BTreeMap<Number, String>,
+) -> Result<Vec<ModuleReads<'src>>, ReadFault<'src>> {
+    let mut all = Vec::new(alloc);
+    for one in lists {
+        all.push(reads_of(alloc, one, overrides)?)?;
+    }
+    Ok(all)
+}
+
+/// The order of each module's variables.
+fn all_orders<'src, 'a>(
+    alloc: Global,
+    lists: &[ModuleLists<'src, 'a>],
+    reads: &[ModuleReads<'src>],
+) -> Result<Vec<VariableOrder<'src, 'a>>, Error<'src>> {
+    let mut orders = Vec::new(alloc);
+    for module in 0..lists.len() {
+        if module < reads.len() {
+            let variables = variables_in_order(alloc, &lists[module], &reads[module])?;
+            orders.push(VariableOrder { variables })?;
+        }
+    }
+    Ok(orders)
+}
+
+/// What the modules keep and read.
+fn read_variables<'src, 'a>(
+    alloc: Global,
+    overrides: &BTreeMap<Number, String>,
+    lists: Vec<ModuleLists<'src, 'a>>,
+) -> Result<ModuleVariables<'src, 'a>, Error<'src>> {
+    let reads = all_reads(alloc, lists.as_slice(), overrides)?;
+    let orders = all_orders(alloc, lists.as_slice(), reads.as_slice())?;
+    Ok(ModuleVariables {
+        lists,
+        reads,
+        orders,
+    })
+}
+
+/// What the modules keep and read, where words give texts for the variables of these numbers. Refused
+/// where an expression reads a name that stands for nothing, or calls no function or one with another
+/// number of arguments; where variables read each other in a circle; and where memory is.
+pub fn module_variables<'src, 'a>(
+    alloc: Global,
+    compilation: &'a Compilation<'src>,
+    overrides: &BTreeMap<Number, String>,
+) -> Result<ModuleVariables<'src, 'a>, Error<'src>> {
+    let lists = all_lists(alloc, compilation)?;
+    read_variables(alloc, overrides, lists)
+}

@@ -1,0 +1,53 @@
+//! Recipes with what they depend on and read.
+use just_analysis::ResolvedRecipe;
+use just_dependencies::RecipeNode;
+use just_numbering::recipe_references;
+use just_references::{ReadFault, VariableResolver};
+use just_tree::{Recipe, UnresolvedDependency};
+use std::alloc::{AllocError, Global};
+
+/// The ranks of these places.
+fn ranks_at(alloc: Global, ranks: &[usize], places: &[usize]) -> Result<Vec<usize>, AllocError> {
+    let mut found = Vec::new(alloc);
+    for place in places {
+        if let Some(rank) = ranks.get(*place) {
+            found.push(*rank)?;
+        }
+    }
+    Ok(found)
+}
+
+/// What the recipe reads and calls.
+fn reads_of<'src>(
+    alloc: Global,
+    resolver: &VariableResolver<'src>,
+    recipe: &Recipe<'src, UnresolvedDependency<'src>>,
+) -> Result<Vec<usize>, ReadFault<'src>> {
+    let references = recipe_references(alloc, recipe)?;
+    resolver.resolve_references(alloc, &references)
+}
+
+/// The recipe with the ranks of these needs: the priors, then the subsequents. Refused where it reads a
+/// name that stands for no variable, or calls no function or one that takes another number of
+/// arguments; and where memory is.
+pub fn resolved_recipe<'src>(
+    alloc: Global,
+    node: &RecipeNode<'src, '_>,
+    resolver: &VariableResolver<'src>,
+    ranks: &[usize],
+    needs: &[usize],
+) -> Result<ResolvedRecipe<'src>, ReadFault<'src>> {
+    let count = node.recipe.priors.len().min(needs.len());
+    let (priors, subsequents) = needs.split_at(count);
+    let priors = ranks_at(alloc, ranks, priors)?;
+    let subsequents = ranks_at(alloc, ranks, subsequents)?;
+    let reads = reads_of(alloc, resolver, node.recipe)?;
+    Ok(ResolvedRecipe {
+        name: node.recipe.name,
+        module: node.module,
+        place: node.place,
+        priors,
+        subsequents,
+        reads,
+    })
+}

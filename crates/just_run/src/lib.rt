@@ -1,0 +1,21 @@
+//! From texts and words to what a justfile does: runs, texts and single commands.
+#![tactic(auto)]
+
+mod actions;
+mod command;
+pub mod driver;
+pub mod fault;
+mod opened;
+pub mod outcome;
+mod task;
+mod texts;
+
+pub use driver::drive;
+pub use fault::{CommandFault, Fault};
+pub use just_host::{
+    Answer, CommandJob, Config, Confirmation, DotenvRequest, Entry, Host, HostFault, MachineFact,
+    Pair, Question, Recorded, RunHost, ScriptJob, Status,
+};
+pub use just_plain_run::{Collected, Device, Out, WriteFailed, write_all};
+pub use just_value::{Override, Positional};
+pub use outcome::{Action, Outcome};

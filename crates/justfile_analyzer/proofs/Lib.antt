@@ -1,0 +1,2 @@
+mod Comments
+mod Kept

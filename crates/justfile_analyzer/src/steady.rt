@@ -1,0 +1,176 @@
+//! Whether recipes are entered alike as dependencies and by words.
+use crate::calls::references_ask;
+use just_analysis::{ModuleLists, ResolvedRecipe};
+use just_attribute_tree::Attribute;
+use just_attributes::AttributeSet;
+use just_builtins::FunctionRef;
+use just_compilation::{Compilation, Place};
+use just_references::References;
+use just_tree::{DependencyArgument, Parameter, Recipe, UnresolvedDependency};
+use std::alloc::{AllocError, Global};
+
+fn add_attribute<'src>(
+    references: &mut References<'src>,
+    attribute: &Attribute<'src>,
+) -> Result<(), AllocError> {
+    match attribute {
+        Attribute::Confirm(Some(prompt)) => references.add(prompt),
+        Attribute::Env { key, value } => {
+            references.add(key)?;
+            references.add(value)
+        }
+        _ => Ok(()),
+    }
+}
+
+fn add_attributes<'src>(
+    references: &mut References<'src>,
+    attributes: &AttributeSet<'src>,
+) -> Result<(), AllocError> {
+    for item in attributes.iter() {
+        add_attribute(references, &item.attribute)?;
+    }
+    Ok(())
+}
+
+fn add_parameter<'src>(
+    references: &mut References<'src>,
+    parameter: &Parameter<'src>,
+) -> Result<(), AllocError> {
+    match &parameter.default {
+        Some(default) => references.add(default),
+        None => Ok(()),
+    }
+}
+
+fn add_parameters<'src>(
+    references: &mut References<'src>,
+    parameters: &[Parameter<'src>],
+) -> Result<(), AllocError> {
+    for parameter in parameters {
+        add_parameter(references, parameter)?;
+    }
+    Ok(())
+}
+
+fn add_arguments<'src>(
+    references: &mut References<'src>,
+    arguments: &[DependencyArgument<'src>],
+) -> Result<(), AllocError> {
+    for argument in arguments {
+        references.add(&argument.expression)?;
+    }
+    Ok(())
+}
+
+fn add_priors<'src>(
+    references: &mut References<'src>,
+    priors: &[UnresolvedDependency<'src>],
+) -> Result<(), AllocError> {
+    for dependency in priors {
+        add_arguments(references, dependency.arguments.as_slice())?;
+    }
+    Ok(())
+}
+
+/// Adds what is evaluated before the recipe's body.
+fn add_recipe<'src>(
+    references: &mut References<'src>,
+    recipe: &Recipe<'src, UnresolvedDependency<'src>>,
+) -> Result<(), AllocError> {
+    add_attributes(references, &recipe.attributes)?;
+    add_parameters(references, recipe.parameters.as_slice())?;
+    add_priors(references, recipe.priors.as_slice())
+}
+
+/// What is evaluated before the bodies of the recipes at these places.
+fn front<'src>(
+    alloc: Global,
+    compilation: &Compilation<'src>,
+    places: &[Place],
+) -> Result<References<'src>, AllocError> {
+    let mut references = References::new(alloc);
+    for place in places {
+        if let Some(recipe) = compilation.recipe(*place) {
+            add_recipe(&mut references, recipe)?;
+        }
+    }
+    Ok(references)
+}
+
+/// Whether a parameter's value is replaced where words call its recipe.
+fn any_value(parameters: &[Parameter]) -> bool {
+    for parameter in parameters {
+        if parameter.value.is_some() {
+            return true;
+        }
+    }
+    false
+}
+
+/// Whether the recipe at the place has such a parameter.
+fn has_value(compilation: &Compilation, place: Place) -> bool {
+    match compilation.recipe(place) {
+        Some(recipe) => any_value(recipe.parameters.as_slice()),
+        None => false,
+    }
+}
+
+/// Whether one of the recipes has such a parameter.
+fn any_recipe_value(compilation: &Compilation, recipes: &[ResolvedRecipe]) -> bool {
+    for resolved in recipes {
+        if has_value(compilation, resolved.place) {
+            return true;
+        }
+    }
+    false
+}
+
+/// Whether what is evaluated before the bodies of the module's recipes, which stand at these places,
+/// asks for the flag of dependencies.
+fn recipes_ask<'src>(
+    alloc: Global,
+    compilation: &Compilation<'src>,
+    places: &[Place],
+    functions: &[FunctionRef<'_, 'src>],
+) -> Result<bool, AllocError> {
+    let references = front(alloc, compilation, places)?;
+    references_ask(alloc, functions, references.as_slice())
+}
+
+/// The same of one of the modules, which keep this.
+fn any_module_asks<'src>(
+    alloc: Global,
+    compilation: &Compilation<'src>,
+    lists: &[ModuleLists<'src, '_>],
+) -> Result<bool, AllocError> {
+    let modules = compilation.modules.as_slice();
+    for module in 0..modules.len().min(lists.len()) {
+        let places = modules[module].recipes.as_slice();
+        if recipes_ask(
+            alloc,
+            compilation,
+            places,
+            lists[module].functions.as_slice(),
+        )? {
+            return Ok(true);
+        }
+    }
+    Ok(false)
+}
+
+/// Whether each of these recipes of all modules, which keep this, is entered alike as a dependency and
+/// by words: no call of the built-in `is_dependency` is written in a default, an `env` attribute, an
+/// argument of a dependency before a body or a confirmation, or in a function that is called from there
+/// through any chain of calls, and no parameter has a `value`. Refused only where memory is.
+pub fn is_steady<'src>(
+    alloc: Global,
+    compilation: &Compilation<'src>,
+    recipes: &[ResolvedRecipe<'src>],
+    lists: &[ModuleLists<'src, '_>],
+) -> Result<bool, AllocError> {
+    if any_recipe_value(compilation, recipes) {
+        return Ok(false);
+    }
+    Ok(!any_module_asks(alloc, compilation, lists)?)
+}
