@@ -1,4 +1,0 @@
-pub mod Plain
-pub mod Statuses
-pub mod Texts
-pub mod Writes
