@@ -1,7 +1,7 @@
 //! A file's items, evaluated.
 use crate::asked::Asked;
 use crate::file::{parsed, refusal};
-use crate::items::{RecipeRef, assignments_of, functions_of, recipes_of, unexports_of};
+use crate::items::{RecipeRef, assignments_of, functions_of, places, recipes_of, unexports_of};
 use crate::module::push_module;
 use crate::numbers::number_items;
 use crate::outcome::push_error;
@@ -10,16 +10,18 @@ use justfile_evaluator::{AssignmentRef, FunctionRef, ModuleView, Settings};
 use justfile_syntax::{Ast, Item, Name};
 use std::alloc::{AllocError, Global};
 
-/// The module of a file that lies in the base folder.
+/// The module of a file that lies in the base folder, whose variables are evaluated in the order of
+/// these places.
 fn view<'a, 'src>(
     assignments: &'a [AssignmentRef<'a, 'src>],
+    evaluation_order: &'a [usize],
     functions: &'a [FunctionRef<'a, 'src>],
     settings: &'a Settings,
     unexports: &'a [Name<'src>],
 ) -> ModuleView<'a, 'src> {
     ModuleView {
         assignments,
-        evaluation_order: assignments,
+        evaluation_order,
         functions,
         settings,
         source: "justfile",
@@ -41,7 +43,14 @@ fn push_parts<'src>(
     asked: &Asked<'_>,
     told: &mut String,
 ) -> Result<(), AllocError> {
-    let module = view(assignments, functions, settings, unexports);
+    let order = places(alloc, assignments.len())?;
+    let module = view(
+        assignments,
+        order.as_slice(),
+        functions,
+        settings,
+        unexports,
+    );
     push_module(alloc, &module, recipes, asked, told)
 }
 

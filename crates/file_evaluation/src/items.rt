@@ -9,6 +9,15 @@ pub(crate) struct RecipeRef<'a, 'src> {
     pub(crate) recipe: &'a Recipe<'src, UnresolvedDependency<'src>>,
 }
 
+/// The places of so many things, in order.
+pub(crate) fn places(alloc: Global, count: usize) -> Result<Vec<usize>, AllocError> {
+    let mut places = Vec::new(alloc);
+    for place in 0..count {
+        places.push(place)?;
+    }
+    Ok(places)
+}
+
 /// The variables, in the order of the file.
 pub(crate) fn assignments_of<'a, 'src>(
     alloc: Global,

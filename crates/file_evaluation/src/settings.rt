@@ -1,4 +1,5 @@
 //! Constants, settings and overrides of a file.
+use crate::items::places;
 use justfile_evaluator::{
     AssignmentRef, ConstEvaluator, Error, Scope, Settings, Value, evaluate_const_assignments,
 };
@@ -112,8 +113,16 @@ fn known_settings<'src>(
     root: &Scope<'_, 'src>,
     read: &BTreeSet<Number>,
 ) -> Result<Settings, Error<'src>> {
-    let lists = sets_lists(items);
-    let known = evaluate_const_assignments(alloc, assignments, overrides, root, read, lists)?;
+    let order = places(alloc, assignments.len())?;
+    let known = evaluate_const_assignments(
+        alloc,
+        assignments,
+        order.as_slice(),
+        overrides,
+        root,
+        read,
+        sets_lists(items),
+    )?;
     settings_among(alloc, items, &known)
 }
 

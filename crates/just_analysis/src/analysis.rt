@@ -9,7 +9,7 @@ use just_compilation::ModuleNode;
 pub struct Analysis<'src, 'a> {
     /// The modules: the root is the first, and each stands behind its parent.
     pub modules: &'a [ModuleNode<'src>],
-    pub variables: Box<ModuleVariables<'src, 'a>>,
+    pub variables: ModuleVariables<'src, 'a>,
     pub values: Box<KnownValues>,
     pub table: Box<RecipeTable<'src>>,
 }

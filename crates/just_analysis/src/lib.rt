@@ -19,4 +19,4 @@ pub use module_views::views;
 pub use names::{default_recipe, find_submodule};
 pub use opening::collect_references;
 pub use recipes::{RecipeTable, ResolvedRecipe};
-pub use variables::{ModuleVariables, VariableOrder};
+pub use variables::ModuleVariables;

@@ -1,6 +1,6 @@
 //! What evaluation sees of modules.
 use crate::known_values::KnownValues;
-use crate::variables::{ModuleVariables, VariableOrder};
+use crate::variables::ModuleVariables;
 use just_builtins::{ModuleView, Settings};
 use just_compilation::ModuleNode;
 use just_reads::ModuleLists;
@@ -11,13 +11,13 @@ use std::alloc::{AllocError, Global};
 fn view_of<'l, 'a, 'src>(
     node: &'l ModuleNode<'src>,
     lists: &'l ModuleLists<'src, 'a>,
-    order: &'l VariableOrder<'src, 'a>,
+    evaluation_order: &'l [usize],
     settings: &'l Settings,
     folder: &'l Text,
 ) -> ModuleView<'l, 'src> {
     ModuleView {
         assignments: lists.assignments.as_slice(),
-        evaluation_order: order.variables.as_slice(),
+        evaluation_order,
         functions: lists.functions.as_slice(),
         settings,
         source: node.source,
@@ -45,7 +45,7 @@ pub fn views<'l, 'a, 'src>(
         views.push(view_of(
             &modules[module],
             &lists[module],
-            &orders[module],
+            orders[module].as_slice(),
             &settings[module],
             &folders[module],
         ))?;

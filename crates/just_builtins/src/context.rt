@@ -31,8 +31,8 @@ pub struct FunctionRef<'run, 'src> {
 pub struct ModuleView<'run, 'src> {
     /// The variables, in byte order of their names.
     pub assignments: &'run [AssignmentRef<'run, 'src>],
-    /// The variables, each behind those that it reads.
-    pub evaluation_order: &'run [AssignmentRef<'run, 'src>],
+    /// The variables' places, each behind those that it reads.
+    pub evaluation_order: &'run [usize],
     /// The functions, in byte order of their names.
     pub functions: &'run [FunctionRef<'run, 'src>],
     pub settings: &'run Settings,

@@ -119,22 +119,15 @@ pub fn reads_of<'src>(
     })
 }
 
-/// The module's variables, each behind those that it reads directly or through functions. Refused
-/// where they read each other in a circle, which is told by their places in the list, the first again
-/// at the end; and where memory is.
-pub fn evaluation_order<'src, 'a>(
+/// The places of the module's variables, each behind those that it reads directly or through
+/// functions. Refused where they read each other in a circle, which is told by their places, the first
+/// again at the end; and where memory is.
+pub fn evaluation_order<'src>(
     alloc: Global,
-    lists: &ModuleLists<'src, 'a>,
+    lists: &ModuleLists<'src, '_>,
     reads: &ModuleReads<'src>,
-) -> Result<Vec<AssignmentRef<'a, 'src>>, OrderFault> {
-    let places = variable_order(alloc, reads.graph.as_slice(), lists.assignments.len())?;
-    let mut lent = Vec::new(alloc);
-    for place in &places {
-        if let Some(found) = lists.assignments.get(*place) {
-            lent.push(*found)?;
-        }
-    }
-    Ok(lent)
+) -> Result<Vec<usize>, OrderFault> {
+    variable_order(alloc, reads.graph.as_slice(), lists.assignments.len())
 }
 
 impl ModuleReads<'_> {

@@ -4,30 +4,13 @@ use crate::known_values::known_values;
 use crate::module_variables::module_variables;
 use crate::overrides::resolve_overrides;
 use crate::recipe_table::recipe_table;
-use just_analysis::{Analysis, KnownValues, ModuleVariables, RecipeTable};
+use just_analysis::{Analysis, KnownValues, ModuleVariables};
 use just_compilation::Compilation;
 use just_host::Config;
 use just_text::Number;
 use just_value::Override;
-use std::alloc::{AllocError, Global};
+use std::alloc::Global;
 use std::collections::BTreeMap;
-
-/// What is known of the modules, all of it.
-fn analysis_of<'a, 'src>(
-    alloc: Global,
-    compilation: &'a Compilation<'src>,
-    variables: ModuleVariables<'src, 'a>,
-    values: Box<KnownValues>,
-    table: Box<RecipeTable<'src>>,
-) -> Result<Analysis<'src, 'a>, AllocError> {
-    let variables = Box::new(alloc, variables)?;
-    Ok(Analysis {
-        modules: compilation.modules.as_slice(),
-        variables,
-        values,
-        table,
-    })
-}
 
 /// What is known of the modules, once their recipes are resolved too.
 fn with_recipes<'a, 'src>(
@@ -37,7 +20,12 @@ fn with_recipes<'a, 'src>(
     values: Box<KnownValues>,
 ) -> Result<Analysis<'src, 'a>, Error<'src>> {
     let table = recipe_table(alloc, compilation, variables.reads.as_slice())?;
-    Ok(analysis_of(alloc, compilation, variables, values, table)?)
+    Ok(Analysis {
+        modules: compilation.modules.as_slice(),
+        variables,
+        values,
+        table,
+    })
 }
 
 /// What is known of the modules, where these texts stand for variables. Keys of files are taken from

@@ -1,6 +1,5 @@
 //! Orders, and the names of what stands in a circle.
 use crate::error::Error;
-use just_builtins::AssignmentRef;
 use just_dependencies::RecipeNode;
 use just_order::{OrderFault, order};
 use just_reads::{ModuleLists, ModuleReads, evaluation_order};
@@ -72,15 +71,15 @@ pub fn recipe_order<'src>(
     }
 }
 
-/// The module's variables, each behind those that it reads directly or through functions. Refused
-/// where they read each other in a circle, and where memory is.
-pub fn variables_in_order<'src, 'a>(
+/// The places of the module's variables, each behind those that it reads directly or through
+/// functions. Refused where they read each other in a circle, and where memory is.
+pub fn variables_in_order<'src>(
     alloc: Global,
-    lists: &ModuleLists<'src, 'a>,
+    lists: &ModuleLists<'src, '_>,
     reads: &ModuleReads<'src>,
-) -> Result<Vec<AssignmentRef<'a, 'src>>, Error<'src>> {
+) -> Result<Vec<usize>, Error<'src>> {
     match evaluation_order(alloc, lists, reads) {
-        Ok(lent) => Ok(lent),
+        Ok(places) => Ok(places),
         Err(OrderFault::Circle(places)) => Err(circular_variable(variable_names(
             alloc,
             lists,

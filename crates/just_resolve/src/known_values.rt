@@ -1,7 +1,7 @@
 //! What is known before anything is evaluated: the texts that words give, settings and folders.
 use crate::error::Error;
 use crate::settled::settled;
-use just_analysis::{KnownValues, VariableOrder};
+use just_analysis::KnownValues;
 use just_builtins::Settings;
 use just_compilation::{Compilation, ModuleNode};
 use just_reads::{ModuleLists, ModuleReads};
@@ -35,7 +35,7 @@ fn all_settled<'src>(
     compilation: &Compilation<'src>,
     lists: &[ModuleLists<'src, '_>],
     reads: &[ModuleReads<'src>],
-    orders: &[VariableOrder<'src, '_>],
+    orders: &[Vec<usize>],
     overrides: &BTreeMap<Number, String>,
     constants: &Scope<'_, 'src>,
 ) -> Result<Vec<Settings>, Error<'src>> {
@@ -44,14 +44,13 @@ fn all_settled<'src>(
     let mut all = Vec::new(alloc);
     for module in 0..modules.len() {
         if module < count {
-            let order = orders[module].variables.as_slice();
             let settings = settled(
                 alloc,
                 compilation,
                 modules[module].sets.as_slice(),
                 &lists[module],
                 &reads[module],
-                order,
+                orders[module].as_slice(),
                 overrides,
                 constants,
             )?;
@@ -67,7 +66,7 @@ fn all_settings<'src>(
     compilation: &Compilation<'src>,
     lists: &[ModuleLists<'src, '_>],
     reads: &[ModuleReads<'src>],
-    orders: &[VariableOrder<'src, '_>],
+    orders: &[Vec<usize>],
     overrides: &BTreeMap<Number, String>,
 ) -> Result<Vec<Settings>, Error<'src>> {
     let constants = Scope::root(alloc)?;
@@ -91,7 +90,7 @@ pub fn known_values<'src>(
     base: &str,
     lists: &[ModuleLists<'src, '_>],
     reads: &[ModuleReads<'src>],
-    orders: &[VariableOrder<'src, '_>],
+    orders: &[Vec<usize>],
     overrides: BTreeMap<Number, String>,
 ) -> Result<Box<KnownValues>, Error<'src>> {
     let settings = all_settings(alloc, compilation, lists, reads, orders, &overrides)?;

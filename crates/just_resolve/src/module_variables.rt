@@ -1,7 +1,7 @@
 //! The variables of all modules, what they read, and their orders.
 use crate::circles::variables_in_order;
 use crate::error::Error;
-use just_analysis::{ModuleVariables, VariableOrder};
+use just_analysis::ModuleVariables;
 use just_compilation::Compilation;
 use just_reads::{ModuleLists, ModuleReads, all_lists, reads_of};
 use just_references::ReadFault;
@@ -23,16 +23,15 @@ fn all_reads<'src>(
 }
 
 /// The order of each module's variables.
-fn all_orders<'src, 'a>(
+fn all_orders<'src>(
     alloc: Global,
-    lists: &[ModuleLists<'src, 'a>],
+    lists: &[ModuleLists<'src, '_>],
     reads: &[ModuleReads<'src>],
-) -> Result<Vec<VariableOrder<'src, 'a>>, Error<'src>> {
+) -> Result<Vec<Vec<usize>>, Error<'src>> {
     let mut orders = Vec::new(alloc);
     for module in 0..lists.len() {
         if module < reads.len() {
-            let variables = variables_in_order(alloc, &lists[module], &reads[module])?;
-            orders.push(VariableOrder { variables })?;
+            orders.push(variables_in_order(alloc, &lists[module], &reads[module])?)?;
         }
     }
     Ok(orders)

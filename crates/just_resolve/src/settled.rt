@@ -122,18 +122,27 @@ fn known_settings<'src>(
     alloc: Global,
     compilation: &Compilation<'src>,
     sets: &[Place],
-    order: &[AssignmentRef<'_, 'src>],
+    assignments: &[AssignmentRef<'_, 'src>],
+    order: &[usize],
     overrides: &BTreeMap<Number, String>,
     constants: &Scope<'_, 'src>,
     numbers: &BTreeSet<Number>,
 ) -> Result<Settings, just_builtins::Error<'src>> {
     let lists = sets_lists(compilation, sets);
-    let known = evaluate_const_assignments(alloc, order, overrides, constants, numbers, lists)?;
+    let known = evaluate_const_assignments(
+        alloc,
+        assignments,
+        order,
+        overrides,
+        constants,
+        numbers,
+        lists,
+    )?;
     settings_at(alloc, compilation, sets, &known)
 }
 
 /// The values of the module's settings, which stand at these places, by constants alone; its
-/// variables are given each behind those that it reads. Refused where a setting reads or calls what
+/// variables' places are given each behind those that it reads. Refused where a setting reads or calls what
 /// is not there, is no constant or has no value, or where a constant that it reads has none; and
 /// where memory is.
 pub fn settled<'src>(
@@ -142,7 +151,7 @@ pub fn settled<'src>(
     sets: &[Place],
     lists: &ModuleLists<'src, '_>,
     reads: &ModuleReads<'src>,
-    order: &[AssignmentRef<'_, 'src>],
+    order: &[usize],
     overrides: &BTreeMap<Number, String>,
     constants: &Scope<'_, 'src>,
 ) -> Result<Settings, Error<'src>> {
@@ -151,6 +160,7 @@ pub fn settled<'src>(
         alloc,
         compilation,
         sets,
+        lists.assignments.as_slice(),
         order,
         overrides,
         constants,

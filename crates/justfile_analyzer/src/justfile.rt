@@ -37,7 +37,10 @@ fn all_at<'src, 'a>(
 
 impl<'src, 'a> Justfile<'src, 'a> {
     /// The root module.
-    pub fn from_resolved(compilation: &'a Compilation<'src>) -> Justfile<'src, 'a> {
+    pub fn from_resolved(compilation: &'a Compilation<'src>) -> Justfile<'src, 'a>
+        ensures root { place_of result ≡ 0 }
+        ensures same { result.compilation.now ≡ compilation.now }
+    {
         Justfile {
             compilation,
             module: 0,

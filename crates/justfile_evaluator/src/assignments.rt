@@ -34,6 +34,27 @@ fn is_read(references: Option<&BTreeSet<Number>>, number: Number) -> bool {
     }
 }
 
+/// Evaluates the variable into the scope's innermost frame, if it is among those that are read and is
+/// not bound already.
+fn open_assignment<'src, H: Host + Drop>(
+    alloc: Global,
+    host: &mut Recorded<H>,
+    context: &ExecutionContext<'_, 'src>,
+    scope: &mut Scope<'_, 'src>,
+    references: Option<&BTreeSet<Number>>,
+    assignment: &Assignment<'src>,
+) -> Result<(), Error<'src>>
+    ensures asks { Asks H.goes host.old host.new }
+{
+    let number = assignment.number;
+    if is_read(references, number) && scope.binding(number).is_none() {
+        let value = assigned_value(alloc, host, context, &*scope, assignment)?;
+        let export = assignment.export || context.module.settings.export;
+        scope.bind_value(assignment.name, number, export, value)?;
+    }
+    Ok(())
+}
+
 /// Evaluates the module's variables in their order into the scope's innermost frame: those of these
 /// numbers alone where numbers are given, and none that is bound already. The context's scope is the
 /// one around that frame. A refused one leaves those before it bound.
@@ -46,13 +67,11 @@ pub fn open_assignments<'src, H: Host + Drop>(
 ) -> Result<(), Error<'src>>
     ensures asks { Asks H.goes host.old host.new }
 {
-    for lent in context.module.evaluation_order {
-        let assignment = lent.assignment;
-        let number = assignment.number;
-        if is_read(references, number) && scope.binding(number).is_none() {
-            let value = assigned_value(alloc, host, context, &*scope, assignment)?;
-            let export = assignment.export || context.module.settings.export;
-            scope.bind_value(assignment.name, number, export, value)?;
+    let assignments = context.module.assignments;
+    for place in context.module.evaluation_order {
+        if *place < assignments.len() {
+            let assignment = assignments[*place].assignment;
+            open_assignment(alloc, host, context, scope, references, assignment)?;
         }
     }
     Ok(())

@@ -134,31 +134,45 @@ fn constant_value<'src>(
     }
 }
 
-/// Evaluates the variables of these numbers, in their order.
+/// Evaluates the variable into the frame, if it is a constant.
+fn evaluate_constant<'src>(
+    alloc: Global,
+    overrides: &BTreeMap<Number, String>,
+    constants: &mut ConstEvaluator<'_, 'src>,
+    assignment: &Assignment<'src>,
+) -> Result<(), Error<'src>> {
+    let value = constant_value(alloc, overrides, &*constants, assignment)?;
+    constants.keep(assignment, value)
+}
+
+/// Evaluates the variables of these numbers, in the order of these places.
 fn evaluate_constants<'src>(
     alloc: Global,
-    evaluation_order: &[AssignmentRef<'_, 'src>],
+    assignments: &[AssignmentRef<'_, 'src>],
+    evaluation_order: &[usize],
     overrides: &BTreeMap<Number, String>,
     references: &BTreeSet<Number>,
     constants: &mut ConstEvaluator<'_, 'src>,
 ) -> Result<(), Error<'src>> {
-    for lent in evaluation_order {
-        let assignment = lent.assignment;
-        if references.contains(&assignment.number) {
-            let value = constant_value(alloc, overrides, &*constants, assignment)?;
-            constants.keep(assignment, value)?;
+    for place in evaluation_order {
+        if *place < assignments.len() {
+            let assignment = assignments[*place].assignment;
+            if references.contains(&assignment.number) {
+                evaluate_constant(alloc, overrides, constants, assignment)?;
+            }
         }
     }
     Ok(())
 }
 
-/// Evaluates the variables of these numbers, in their order, as far as they are constants, in a frame
-/// inside the scope. One that reaches a command, a call or a variable that is no constant is none;
+/// Evaluates those of the variables that have these numbers, in the order of these places, as far as
+/// they are constants, in a frame inside the scope. One that reaches a command, a call or a variable that is no constant is none;
 /// what it does not reach does not matter, and one that is overridden is a constant. Other faults of
 /// an expression are refusals.
 pub fn evaluate_const_assignments<'a, 'src>(
     alloc: Global,
-    evaluation_order: &[AssignmentRef<'_, 'src>],
+    assignments: &[AssignmentRef<'_, 'src>],
+    evaluation_order: &[usize],
     overrides: &BTreeMap<Number, String>,
     scope: &'a Scope<'_, 'src>,
     references: &BTreeSet<Number>,
@@ -171,6 +185,7 @@ pub fn evaluate_const_assignments<'a, 'src>(
     };
     match evaluate_constants(
         alloc,
+        assignments,
         evaluation_order,
         overrides,
         references,

@@ -1,16 +1,18 @@
 //! The program: runs what its words name of the justfile of a folder.
 #![tactic(auto)]
 
+mod replace;
 mod switch;
 
 use anyhow::{Context, Result, bail};
 use just_excerpt::Excerpt;
 use just_expander::Environment;
 use just_loader::{base_folder, find_root, load};
-use just_plain_run::{Action, Config, Device, Fault, Recorded, drive};
+use just_run::{Config, Device, Fault, Outcome, Recorded, drive};
 use just_shell::Shell;
 use just_value::Positional;
 use justfile_syntax::{Os, Text};
+use replace::replace;
 use semver::Version;
 use std::alloc::Global;
 use std::collections::BTreeMap;
@@ -108,8 +110,11 @@ fn read_project(rt: &HostRuntime, current: &str, directory: Option<&Text>) -> Re
     })
 }
 
-/// Shows why the run ended, and gives the status to end with.
+/// Shows why the run ended, unless nothing is to be said of it, and gives the status to end with.
 fn report<W: Write>(shown: &mut W, fault: &Fault) -> u8 {
+    if fault.is_silent() {
+        return fault.status();
+    }
     let _ = writeln!(shown, "error: {fault}");
     if let Some(token) = fault.place() {
         let _ = writeln!(shown, "{}", Excerpt(&token));
@@ -118,10 +123,15 @@ fn report<W: Write>(shown: &mut W, fault: &Fault) -> u8 {
     fault.status()
 }
 
-/// Sends on what was shown, and gives the status of a run without a fault.
-fn finish<W: Write>(shown: &mut W) -> u8 {
-    let _ = shown.flush();
-    0
+/// Puts the formatted text in the place of the root file.
+fn rewrite(rt: &HostRuntime, base: &str, outcome: Outcome) -> Result<()> {
+    let Outcome::Formatted { path, text } = outcome else {
+        return Ok(());
+    };
+    if !replace(rt, base, path.as_str(), text.as_str())? {
+        bail!("no free name");
+    }
+    Ok(())
 }
 
 /// Drives the project by the words, and gives the status to end with.
@@ -129,6 +139,7 @@ fn drive_project(
     rt: &HostRuntime,
     config: &Config,
     project: &Project,
+    start: Start,
     words: &[String],
 ) -> Result<u8> {
     let alloc = rt.alloc();
@@ -144,32 +155,35 @@ fn drive_project(
         &project.sources,
         &project.roots,
         words,
-        Action::Run,
+        start.action,
         &mut host,
         &mut out,
     );
     let exhausted = host.exhausted();
     let mut shown = host.into_host().into_shown();
-    Ok(match answer {
-        Ok(_) if exhausted => report(&mut shown, &Fault::OutOfMemory),
-        Ok(_) => finish(&mut shown),
-        Err(fault) => report(&mut shown, &fault),
-    })
+    match answer {
+        Ok(_) if exhausted => Ok(report(&mut shown, &Fault::OutOfMemory)),
+        Ok(outcome) => {
+            let _ = shown.flush();
+            rewrite(rt, config.base.as_str(), outcome)?;
+            Ok(0)
+        }
+        Err(fault) => Ok(report(&mut shown, &fault)),
+    }
 }
 
 /// Does what the program's words ask, and gives the status to end with.
 fn run(rt: &HostRuntime) -> Result<u8> {
     let alloc = rt.alloc();
     let words = words(rt)?;
-    let start = read_start(words.as_slice());
-    if let Some(word) = start.not_yet {
-        bail!("not yet: `{word}`");
-    }
-    let positional = Positional::from_values(alloc, start.rest)?;
+    let given = words.as_slice();
+    let start = read_start(given);
+    let rest = &given[start.count..];
+    let positional = Positional::from_values(alloc, rest)?;
     let current = current_folder(rt)?;
     let project = read_project(rt, current.as_str(), positional.search_directory.as_ref())?;
     let config = config(alloc, project.base.as_str(), current.as_str(), &start)?;
-    drive_project(rt, &config, &project, start.rest)
+    drive_project(rt, &config, &project, start, rest)
 }
 
 fn main(rt: HostRuntime) -> ExitCode {

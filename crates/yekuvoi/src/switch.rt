@@ -1,45 +1,54 @@
 //! What the first word asks.
+ghost use Rattle.std.specs.Prelude.{◌≤◌, length};
+
+use just_run::Action;
 
 /// What the first word asks, if it is a switch.
 #[derive(Clone, Copy)]
-pub struct Start<'a> {
+pub struct Start {
+    /// What is done.
+    pub action: Action,
     /// Whether commands are printed and none is run.
     pub dry_run: bool,
     /// Whether each prompt counts as confirmed.
     pub yes: bool,
-    /// The first word, where it asks for what can't be done yet.
-    pub not_yet: Option<&'a str>,
-    /// The words that are left: all, or those behind the switch.
-    pub rest: &'a [String],
+    /// How many words were read.
+    pub count: usize,
 }
 
-/// Whether the word asks for what can't be done yet.
-fn is_not_yet(word: &str) -> bool {
-    matches!(
-        word,
-        "--evaluate" | "--command" | "--dump" | "--fmt" | "--list"
-    )
+/// The action that the word asks for, if it does.
+fn action(word: &str) -> Option<Action> {
+    match word {
+        "--evaluate" => Some(Action::Evaluate),
+        "--command" => Some(Action::Command),
+        "--dump" => Some(Action::Dump),
+        "--fmt" => Some(Action::Format),
+        "--list" => Some(Action::List),
+        "--dry-run" | "--yes" => Some(Action::Run),
+        _ => None,
+    }
 }
 
-/// What the first of the words asks; nothing where it is no switch.
-pub fn read_start(words: &[String]) -> Start<'_> {
+/// What the first of the words asks; a run of recipes where it is no switch.
+pub fn read_start(words: &[String]) -> Start
+    ensures { result.count ≤ length words.now }
+{
     let mut start = Start {
+        action: Action::Run,
         dry_run: false,
         yes: false,
-        not_yet: None,
-        rest: words,
+        count: 0,
     };
-    let Some((first, rest)) = words.split_first() else {
+    let Some(first) = words.first() else {
         return start;
     };
     let word = first.as_str();
+    let Some(action) = action(word) else {
+        return start;
+    };
+    start.action = action;
     start.dry_run = word == "--dry-run";
     start.yes = word == "--yes";
-    if start.dry_run || start.yes {
-        start.rest = rest;
-    }
-    if is_not_yet(word) {
-        start.not_yet = Some(word);
-    }
+    start.count = 1;
     start
 }

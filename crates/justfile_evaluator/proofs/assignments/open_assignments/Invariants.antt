@@ -2,5 +2,5 @@
 use Rattle.just_builtins.specs.Asking.{Asks}
 use Rattle.justfile_evaluator.proofs.assignments.open_assignments.Given as goal
 
-abbrev pub invariant-loop-lent : goal.invariant-loop-lent
-invariant-loop-lent g l = Asks g.H.Host.goes l.initial.host l.host
+abbrev pub invariant-loop-place : goal.invariant-loop-place
+invariant-loop-place g l = Asks g.H.Host.goes l.initial.host l.host

@@ -1,0 +1,13 @@
+//! Tests of what is handed over, asked and answered, for small justfiles of the whole language.
+#![tactic(auto)]
+
+#[cfg(test)]
+mod actions;
+#[cfg(test)]
+mod driven;
+#[cfg(test)]
+mod failures;
+#[cfg(test)]
+mod scripted;
+#[cfg(test)]
+mod told;

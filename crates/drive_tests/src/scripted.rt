@@ -1,0 +1,122 @@
+//! A host that answers by a few fixed rules.
+use just_run::{
+    Answer, CommandJob, Confirmation, DotenvRequest, Host, HostFault, Pair, Question, RunHost,
+    ScriptJob, Status,
+};
+use justfile_syntax::{Sequence, Text};
+use std::alloc::{AllocError, Global};
+
+/// Answers each prompt with `confirmation`, and fails the question or event at one place. The command `false` ends with code 1, `kill` by signal 9,
+/// `missing` doesn't start, and all others end with code 0. A command of an expression prints its own
+/// text, unless it begins with `fail`. Files of variables give `D=1`, unless they are required.
+#[derive(Drop)]
+pub struct Scripted {
+    alloc: Global,
+    confirmation: Confirmation,
+    /// How many questions and events are still to come before the one that fails.
+    left: usize,
+}
+
+impl Scripted {
+    /// Fails the question or event behind `left` others.
+    pub fn new(alloc: Global, confirmation: Confirmation, left: usize) -> Scripted {
+        Scripted {
+            alloc,
+            confirmation,
+            left,
+        }
+    }
+
+    /// Whether this question or event fails; counts it.
+    fn fails(&mut self) -> bool {
+        let fails = self.left == 0;
+        self.left = self.left.wrapping_sub(1);
+        fails
+    }
+}
+
+/// How the command ends.
+fn status(command: &str) -> Status {
+    match command {
+        "false" => Status::Code(1),
+        "kill" => Status::Signal(9),
+        "missing" => Status::NotStarted,
+        _ => Status::Code(0),
+    }
+}
+
+fn memory<T>(made: Result<T, AllocError>) -> Result<T, HostFault> {
+    match made {
+        Ok(value) => Ok(value),
+        Err(_) => Err(HostFault::Memory),
+    }
+}
+
+/// The one pair.
+fn pairs(alloc: Global) -> Result<Sequence<Pair>, AllocError> {
+    let mut pairs = Sequence::new(alloc);
+    pairs.push(Pair {
+        name: Text::from_text(alloc, "D")?,
+        value: Text::from_text(alloc, "1")?,
+    })?;
+    Ok(pairs)
+}
+
+impl Host for Scripted {
+    ghost goes = { λ _ _ _. Unit {0} };
+
+    fn ask(&mut self, question: &Question) -> Answer {
+        if self.fails() {
+            return Answer::Fault(HostFault::Signal(2));
+        }
+        let Question::Command(job) = question else {
+            return Answer::Absent;
+        };
+        if job.command.as_str().starts_with("fail") {
+            return Answer::Fault(HostFault::Code(3));
+        }
+        match job.command.clone() {
+            Ok(text) => Answer::Text(text),
+            Err(_) => Answer::Fault(HostFault::Memory),
+        }
+    }
+
+    ghost nothing = { λ _. tt };
+
+    ghost joins = { λ _ _ _ _ _ _ _. tt };
+}
+
+impl RunHost for Scripted {
+    fn line(&mut self, job: &CommandJob) -> Status {
+        if self.fails() {
+            return Status::NotStarted;
+        }
+        status(job.command.as_str())
+    }
+
+    fn script(&mut self, job: &ScriptJob) -> Status {
+        if self.fails() {
+            return Status::Code(2);
+        }
+        match job.lines.as_slice().last() {
+            Some(line) => status(line.as_str()),
+            None => Status::Code(0),
+        }
+    }
+
+    fn confirm(&mut self, _prompt: &str) -> Confirmation {
+        if self.fails() {
+            return Confirmation::Failed;
+        }
+        self.confirmation
+    }
+
+    fn show(&mut self, _text: &str) {}
+
+    fn dotenv(&mut self, request: &DotenvRequest) -> Result<Sequence<Pair>, HostFault> {
+        if self.fails() || request.required {
+            return Err(HostFault::NotStarted);
+        }
+        memory(pairs(self.alloc))
+    }
+}

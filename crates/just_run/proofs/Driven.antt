@@ -1,0 +1,74 @@
+-- How an answer for plain recipes is the call's.
+use Rattle.std.proofs.Common.{◌≡◌, List, [], true, false, Option, Result, Ok, Err, IfErr, refl, sym, ◌∙◌}
+use Rattle.just_host.specs.Record.{Record}
+use Rattle.just_host.specs.Follows.{Follows, Nothing}
+use Rattle.just_host.specs.Steps.{idle}
+use Rattle.just_host.specs.declared.entry.Entry.{Entry}
+use Rattle.just_plain_run.specs.Inputs.{Inputs}
+use Rattle.just_plain_run.specs.Setup.{Setup}
+use Rattle.just_plain_run.specs.Rules.{Rule, Broken, is_of_words}
+use Rattle.just_plain_run.specs.Goes.{Failure}
+use Rattle.just_plain_run.specs.Drives.{Verdict, ran_out, breaks, fails, verdict, NamesBroken, IsRefusal, IsRefused, RunsOf, IfRun, Ended}
+use Rattle.just_plain_run.specs.Stages.{IsTold}
+use Rattle.just_plain_run.specs.declared.fault.Fault as plain_fault
+use Rattle.just_plain_run.specs.declared.fault.Fault.TheVariants as plain_faults
+use Rattle.just_plain_run.specs.declared.outcome.Outcome as plain_outcome
+use Rattle.just_run.specs.Plain.{AnswersPlain, fault_of, answer_of}
+use Rattle.just_run.specs.declared.fault.Fault.TheVariants.{OutOfMemory}
+
+-- what is told is no rule of words
+told_refuses : {H : Type 0} (i : Inputs) (v : Verdict) (host : Record H) → IsTold i v → NamesBroken i v host host
+told_refuses i ran_out host h = tt
+told_refuses i (breaks broken) host h = record { holds = h.0; last = λ e. absurd (let f : true ≡ false = sym e ∙ h.1 in cc); nothing = refl }
+told_refuses i (fails f) host h = tt
+
+told_answers : (i : Inputs) (v : Verdict) → IsTold i v → IsRefused v
+told_answers i ran_out h = tt
+told_answers i (breaks broken) h = tt
+told_answers i (fails f) h = h
+
+told_ends : {H : Type 0} (i : Inputs) (v : Verdict) (log : Record H) (P : Option Failure → Type 0) → IsTold i v → Ended log v P
+told_ends i ran_out log P h = tt
+told_ends i (breaks broken) log P h = tt
+told_ends i (fails f) log P h = absurd h
+
+-- want of memory answers anything
+pub ran_out_answers : {H : Type 0} (goes : H → List Entry → H → Type 0) → Nothing goes → (i : Inputs) (s : Setup) (host : Record H) → AnswersPlain goes i s (Err OutOfMemory) host host
+ran_out_answers goes nothing i s host = record {
+  answer = Err plain_faults.OutOfMemory;
+  told = refl;
+  refused = tt;
+  complete = λ rule broken. tt;
+  runs = tt;
+  piece = [];
+  followed = idle goes nothing host;
+}
+
+-- a root file that is refused
+pub told_answers_plain : {H : Type 0} (goes : H → List Entry → H → Type 0) → Nothing goes → (i : Inputs) (s : Setup) (host : Record H) (fault : plain_fault.Fault) → IsTold i (verdict fault) → AnswersPlain goes i s (Err (fault_of fault)) host host
+told_answers_plain goes nothing i s host fault h = record {
+  answer = Err fault;
+  told = refl;
+  refused = told_refuses i (verdict fault) host h;
+  complete = λ rule broken. told_answers i (verdict fault) h;
+  runs = told_ends i (verdict fault) host (RunsOf i s host.entries host.entries) h;
+  piece = [];
+  followed = idle goes nothing host;
+}
+
+-- a run of what the root file says
+pub file_answers : {H : Type 0} (goes : H → List Entry → H → Type 0) (i : Inputs) (s : Setup) (answer : Result plain_outcome.Outcome plain_fault.Fault) (old new : Record H)
+    → IfErr answer (λ fault. NamesBroken i (verdict fault) old new)
+    → ((rule : Rule) → Broken i rule → IsRefusal answer)
+    → IfRun new answer (RunsOf i s old.entries new.entries)
+    → ((piece : List Entry) × Follows goes old piece new)
+    → AnswersPlain goes i s (answer_of answer) old new
+file_answers goes i s answer old new refused complete runs followed = record {
+  answer = answer;
+  told = refl;
+  refused = refused;
+  complete = complete;
+  runs = runs;
+  piece = followed.0;
+  followed = followed.1;
+}

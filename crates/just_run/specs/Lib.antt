@@ -1,0 +1,4 @@
+pub mod Plain
+pub mod Statuses
+pub mod Texts
+pub mod Writes

@@ -1,0 +1,43 @@
+-- What a call does whose root file has plain recipes alone, or none that can be read.
+use Rattle.std.specs.Prelude.{◌≡◌, ℕ, List, Result, Ok, Err, IfErr}
+use Rattle.just_host.specs.Record.{Record}
+use Rattle.just_host.specs.Follows.{Follows}
+use Rattle.just_host.specs.declared.entry.Entry.{Entry}
+use Rattle.just_plain_run.specs.Inputs.{Inputs}
+use Rattle.just_plain_run.specs.Setup.{Setup}
+use Rattle.just_plain_run.specs.Rules.{Rule, Broken, not_yet}
+use Rattle.just_plain_run.specs.Drives.{verdict, NamesBroken, IsRefusal, RunsOf, IfRun}
+use Rattle.just_plain_run.specs.declared.fault.Fault as plain_fault
+use Rattle.just_plain_run.specs.declared.fault.Fault.TheVariants as plain_faults
+use Rattle.just_plain_run.specs.declared.outcome.Outcome as plain_outcome
+use Rattle.just_run.specs.declared.fault.Fault.{Fault}
+use Rattle.just_run.specs.declared.fault.Fault.TheVariants.{OutOfMemory, NoRootForWord, Plain}
+use Rattle.just_run.specs.declared.outcome.Outcome.{Outcome}
+use Rattle.just_run.specs.declared.outcome.Outcome.TheVariants.{Ran}
+
+-- no root file that can be read says more than plain recipes
+abbrev pub IsPlain : Inputs → Type 0
+IsPlain i = (path : List ℕ) → Broken i (not_yet path) → ⊥
+
+-- a fault of plain recipes as the call tells it
+abbrev pub fault_of : plain_fault.Fault → Fault
+fault_of plain_faults.OutOfMemory = OutOfMemory
+fault_of (plain_faults.NoRootForWord word) = NoRootForWord word
+fault_of fault = Plain fault
+
+-- an answer for plain recipes as the call tells it
+abbrev pub answer_of : Result plain_outcome.Outcome plain_fault.Fault → Result Outcome Fault
+answer_of (Ok outcome) = Ok Ran
+answer_of (Err fault) = Err (fault_of fault)
+
+-- A rule that is named is broken, a rule of words only where no other is, and then nothing was asked; where a rule is
+-- broken, one is named, unless memory ran out; otherwise record and answer are a run of what the words name, which enters no
+-- recipe twice. The record has exactly what was asked, however the call ended.
+pub record AnswersPlain {H : Type 0} (goes : H → List Entry → H → Type 0) (i : Inputs) (s : Setup) (result : Result Outcome Fault) (old new : Record H) : Type 0 where
+  pub answer : Result plain_outcome.Outcome plain_fault.Fault
+  pub told : result ≡ answer_of answer
+  pub refused : IfErr answer (λ fault. NamesBroken i (verdict fault) old new)
+  pub complete : (rule : Rule) → Broken i rule → IsRefusal answer
+  pub runs : IfRun new answer (RunsOf i s old.entries new.entries)
+  pub piece : List Entry
+  pub followed : Follows goes old piece new

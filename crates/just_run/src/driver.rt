@@ -1,0 +1,266 @@
+//! The whole: from texts and words to what is done.
+ghost use Rattle.std.specs.Prelude.{◌≡◌, IfErr, option_map};
+ghost use Rattle.just_plain.specs.Shape.{shape_of};
+ghost use Rattle.just_plain_run.specs.Inputs.{Inputs, inputs_of, reader_of};
+ghost use Rattle.just_plain_run.specs.Setup.{setup_of};
+ghost use Rattle.just_plain_run.specs.Stages.{IsRead, IsRoot};
+ghost use Rattle.just_run.specs.Plain.{IsPlain, AnswersPlain};
+ghost use Rattle.just_run.specs.Writes.{IsKept};
+ghost use Rattle.just_run.specs.declared.outcome.Action.TheVariants.{Run};
+ghost use Rattle.just_builtins.specs.Asking.{Asks, IsAsked};
+
+use crate::fault::Fault;
+use crate::outcome::{Action, Outcome};
+use crate::prepared::perform_task;
+use crate::request::{Request, request_of};
+use crate::texts::{tell, write_performed};
+use just_host::{Config, Recorded, RunHost};
+use just_modules::{Compilation, Compiler, Parsed};
+use just_plain::Ast as PlainAst;
+use just_plain_run::{Out, Root, read_root, run_file};
+use just_resolve::{Analysis, Analyzer, number_variables};
+use just_tasks::Task;
+use just_value::Positional;
+use justfile_syntax::Expander;
+use std::alloc::Global;
+use std::collections::BTreeMap;
+
+/// Opens all modules, does the task, and writes what it gave.
+fn drive_task<'src, H: RunHost + Drop, O: Out>(
+    alloc: Global,
+    compilation: &Compilation<'src>,
+    analysis: &Analysis<'src, '_>,
+    config: &Config,
+    root: &str,
+    task: Task,
+    host: &mut Recorded<H>,
+    out: &mut O,
+) -> Result<Outcome, Fault<'src>>
+    ensures kept { IfErr result (λ fault. IsKept (O.written out.old) fault (O.written out.new)) }
+    ensures asks { Asks H.goes host.old host.new }
+{
+    let performed = perform_task(alloc, compilation, analysis, config, root, host, task)?;
+    write_performed(performed, out)
+}
+
+/// Does what is asked of the resolved modules.
+fn drive_analysis<'src, H: RunHost + Drop, O: Out>(
+    alloc: Global,
+    compilation: &Compilation<'src>,
+    analysis: &Analysis<'src, '_>,
+    config: &Config,
+    root: &str,
+    words: &Positional,
+    action: Action,
+    host: &mut Recorded<H>,
+    out: &mut O,
+) -> Result<Outcome, Fault<'src>>
+    ensures kept { IfErr result (λ fault. IsKept (O.written out.old) fault (O.written out.new)) }
+    ensures asks { Asks H.goes host.old host.new }
+{
+    let words = words.arguments.as_slice();
+    match request_of(alloc, compilation, analysis, action, words)? {
+        Request::Task(task) => drive_task(
+            alloc,
+            compilation,
+            analysis,
+            config,
+            root,
+            task,
+            host,
+            out,
+        ),
+        Request::Text(text) => tell(alloc, compilation, root, config.os, text, out),
+    }
+}
+
+/// Does what is asked of the modules.
+fn drive_modules<'src, H: RunHost + Drop, O: Out>(
+    alloc: Global,
+    compilation: &Compilation<'src>,
+    config: &Config,
+    root: &str,
+    words: &Positional,
+    action: Action,
+    host: &mut Recorded<H>,
+    out: &mut O,
+) -> Result<Outcome, Fault<'src>>
+    ensures kept { IfErr result (λ fault. IsKept (O.written out.old) fault (O.written out.new)) }
+    ensures asks { Asks H.goes host.old host.new }
+{
+    let overrides = words.overrides.as_slice();
+    match Analyzer::analyze(alloc, compilation, config, overrides) {
+        Ok(analysis) => drive_analysis(
+            alloc,
+            compilation,
+            &analysis,
+            config,
+            root,
+            words,
+            action,
+            host,
+            out,
+        ),
+        Err(error) => Err(Fault::from(error)),
+    }
+}
+
+/// Numbers the variables of the modules, and does what is asked of them.
+fn drive_compilation<'src, H: RunHost + Drop, O: Out>(
+    alloc: Global,
+    config: &Config,
+    mut compilation: Compilation<'src>,
+    root: &str,
+    words: &Positional,
+    action: Action,
+    host: &mut Recorded<H>,
+    out: &mut O,
+) -> Result<Outcome, Fault<'src>>
+    ensures kept { IfErr result (λ fault. IsKept (O.written out.old) fault (O.written out.new)) }
+    ensures asks { Asks H.goes host.old host.new }
+{
+    match number_variables(alloc, &mut compilation) {
+        Ok(()) => drive_modules(alloc, &compilation, config, root, words, action, host, out),
+        Err(error) => Err(Fault::from(error)),
+    }
+}
+
+/// Reads all that the root file names, and does what is asked of them.
+fn drive_files<'src, E: Expander, H: RunHost + Drop, O: Out>(
+    alloc: Global,
+    config: &Config,
+    expander: &E,
+    sources: &'src BTreeMap<String, String>,
+    path: &'src str,
+    parsed: Parsed<'src>,
+    words: &Positional,
+    action: Action,
+    host: &mut Recorded<H>,
+    out: &mut O,
+) -> Result<Outcome, Fault<'src>>
+    ensures kept { IfErr result (λ fault. IsKept (O.written out.old) fault (O.written out.new)) }
+    ensures asks { Asks H.goes host.old host.new }
+{
+    match Compiler::compile_parsed(alloc, config, expander, sources, path, parsed) {
+        Ok(compilation) => drive_compilation(
+            alloc,
+            config,
+            compilation,
+            path,
+            words,
+            action,
+            host,
+            out,
+        ),
+        Err(error) => Err(Fault::from(error)),
+    }
+}
+
+/// Runs what the words name of a root file of plain recipes.
+fn run_plain<'src, H: RunHost + Drop>(
+    alloc: Global,
+    config: &Config,
+    recipes: &PlainAst<'src>,
+    words: &Positional,
+    host: &mut Recorded<H>,
+) -> Result<Outcome, Fault<'src>>
+    ensures plain { (i : Inputs) → i.words ≡ words.now → IsRead i (shape_of recipes.now) → AnswersPlain H.goes i (setup_of config.now) result host.old host.new }
+    ensures asks { Asks H.goes host.old host.new }
+{
+    match run_file(alloc, config, recipes, words, host) {
+        Ok(_) => Ok(Outcome::Ran),
+        Err(fault) => Err(Fault::from(fault)),
+    }
+}
+
+/// The plain recipes, where a run is asked for.
+fn to_run<'src>(action: Action, plain: Option<PlainAst<'src>>) -> Option<PlainAst<'src>>
+    ensures { action ≡ Run → result ≡ plain.entry }
+{
+    match action {
+        Action::Run => plain,
+        _ => None,
+    }
+}
+
+/// Does what is asked of the root file that was read.
+fn drive_root<'src, E: Expander, H: RunHost + Drop, O: Out>(
+    alloc: Global,
+    config: &Config,
+    expander: &E,
+    sources: &'src BTreeMap<String, String>,
+    root: Root<'src>,
+    words: &Positional,
+    action: Action,
+    host: &mut Recorded<H>,
+    out: &mut O,
+) -> Result<Outcome, Fault<'src>>
+    ensures kept { IfErr result (λ fault. IsKept (O.written out.old) fault (O.written out.new)) }
+    ensures plain { action ≡ Run → (i : Inputs) → IsPlain i → i.words ≡ words.now → IsRoot i root.entry.path.now (option_map shape_of root.entry.plain) → AnswersPlain H.goes i (setup_of config.now) result host.old host.new }
+    ensures unwritten { action ≡ Run → (i : Inputs) → IsPlain i → IsRoot i root.entry.path.now (option_map shape_of root.entry.plain) → O.written out.new ≡ O.written out.old }
+    ensures asks { Asks H.goes host.old host.new }
+{
+    let Root {
+        path,
+        file,
+        plain,
+        numerator,
+    } = root;
+    match to_run(action, plain) {
+        Some(recipes) => {
+            drop(file);
+            run_plain(alloc, config, &recipes, words, host)
+        }
+        None => {
+            let parsed = Parsed {
+                ast: file,
+                numerator,
+            };
+            drive_files(
+                alloc, config, expander, sources, path, parsed, words, action, host, out,
+            )
+        }
+    }
+}
+
+/// Does what the action and the words ask of the justfile in `sources` that `roots` name for the
+/// words' search directory.
+///
+/// A call is refused before anything is asked of the host where a rule is broken: of the files that
+/// are reached, of their modules, names and orders, or of the words. Else all modules open, parents
+/// first, and the recipes that the words name run, each behind all that it depends on, none twice
+/// with the same values, up to the first command that fails; or the variables are written, or the one
+/// command runs. A file of plain recipes that names no other runs by a shorter way, to the same end.
+/// Want of memory, or of numbers for recipes and bindings, may come in the place of any answer.
+///
+/// # Errors
+///
+/// `NoRootForWord`; a rule of files, modules, names and orders, or of words; `Dotenv`, `Opening`,
+/// `Evaluation`, `Code`, `Signal`, `CouldNotStart`, `NotConfirmed` and `Command` of a run; `Write`
+/// where the output takes no more; `NotPrintable`; `OutOfMemory`.
+pub fn drive<'src, E: Expander, H: RunHost + Drop, O: Out>(
+    alloc: Global,
+    config: &Config,
+    expander: &E,
+    sources: &'src BTreeMap<String, String>,
+    roots: &'src BTreeMap<Option<String>, String>,
+    words: &[String],
+    action: Action,
+    host: &mut Recorded<H>,
+    out: &mut O,
+) -> Result<Outcome, Fault<'src>>
+    // Where no root file that can be read says more than plain recipes, a run is one of plain recipes.
+    ensures plain { action ≡ Run → IsPlain (inputs_of (reader_of (E.expansion expander.now) config.now.version) sources.now roots.now words.now) → AnswersPlain H.goes (inputs_of (reader_of (E.expansion expander.now) config.now.version) sources.now roots.now words.now) (setup_of config.now) result host.old host.new }
+    // Where the call is refused nothing is written, or a beginning where the output takes no more.
+    ensures kept { IfErr result (λ fault. IsKept (O.written out.old) fault (O.written out.new)) }
+    // A run of plain recipes writes nothing.
+    ensures unwritten { action ≡ Run → IsPlain (inputs_of (reader_of (E.expansion expander.now) config.now.version) sources.now roots.now words.now) → O.written out.new ≡ O.written out.old }
+    // Whatever is asked for: the record has grown by just what was asked, and the host went along by it.
+    ensures asked { IsAsked H.goes host.old host.new }
+{
+    let words = Positional::from_values(alloc, words)?;
+    let root = read_root(alloc, &words, sources, roots, expander, &config.version)?;
+    drive_root(
+        alloc, config, expander, sources, root, &words, action, host, out,
+    )
+}

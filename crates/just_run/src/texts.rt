@@ -1,0 +1,197 @@
+//! Texts that are written or answered.
+ghost use Rattle.std.specs.Prelude.{◌≡◌, ◌++◌, IfErr, IfOk, OnErr, OnOk};
+ghost use Rattle.std.specs.String.{string_bytes};
+ghost use Rattle.just_plain_run.specs.Out.{IsPartOf};
+ghost use Rattle.just_run.specs.Texts.{IsFormatted, formatted_text, printed_text};
+ghost use Rattle.just_run.specs.Writes.{IsKept};
+
+use crate::fault::Fault;
+use crate::outcome::Outcome;
+use crate::request::RootText;
+use just_modules::{Compilation, ModuleNode};
+use just_plain_run::{Out, WriteFailed, write_all};
+use just_tasks::Performed;
+use justfile_analyzer::Justfile;
+use justfile_syntax::{Ast, Os, Text, print};
+use std::alloc::{AllocError, Global};
+
+/// Bodies of files that set no indentation.
+const FOUR_SPACES: &str = "    ";
+
+/// Writes the text, or a beginning of it where a write fails.
+fn write_text<O: Out>(out: &mut O, text: &str) -> Result<(), WriteFailed>
+    ensures whole { OnOk result (O.written out.new ≡ O.written out.old ++ text.now) }
+    ensures part { OnErr result (IsPartOf (O.written out.old) text.now (O.written out.new)) }
+{
+    if out.failures() == u64::MAX {
+        return Err(WriteFailed);
+    }
+    write_all(out, text.as_bytes())
+}
+
+/// The file's text as it is formatted: in its own indentation, else with four spaces.
+fn formatted(alloc: Global, ast: &Ast, os: Os) -> Result<String, AllocError>
+    ensures { IfOk result (λ text. string_bytes text ≡ formatted_text os ast.now.items.items) }
+{
+    match ast.indentation(os) {
+        Some(indentation) => print(alloc, ast, indentation.as_str()),
+        None => print(alloc, ast, FOUR_SPACES),
+    }
+}
+
+/// The file's text as it is formatted; none where it can't be printed so that it is read as it was.
+fn printed(alloc: Global, ast: &Ast, os: Os) -> Result<Option<Text>, AllocError>
+    ensures { IfOk result (λ text. text ≡ printed_text os ast.now.items.items) }
+{
+    if !ast.printable() {
+        return Ok(None);
+    }
+    let text = formatted(alloc, ast, os)?;
+    Ok(Some(Text::from_string(text)))
+}
+
+/// The file's path and its text as it is formatted; refused as `NotPrintable` where there is no text.
+fn format<'src>(alloc: Global, path: &str, text: Option<Text>) -> Result<Outcome, Fault<'src>>
+    ensures { IsFormatted path.now text result }
+{
+    let path = Text::from_text(alloc, path)?;
+    match text {
+        Some(text) => Ok(Outcome::Formatted { path, text }),
+        None => Err(Fault::NotPrintable(path)),
+    }
+}
+
+/// Writes what the task gave.
+pub(crate) fn write_performed<'src, O: Out>(
+    performed: Performed,
+    out: &mut O,
+) -> Result<Outcome, Fault<'src>>
+    ensures kept { IfErr result (λ fault. IsKept (O.written out.old) fault (O.written out.new)) }
+{
+    match performed {
+        Performed::Ran => Ok(Outcome::Ran),
+        Performed::Evaluated(text) => {
+            write_text(out, text.as_str())?;
+            Ok(Outcome::Evaluated)
+        }
+    }
+}
+
+/// The place of the root file among all files.
+fn root_place<'src>(modules: &[ModuleNode<'src>]) -> usize {
+    if modules.is_empty() {
+        return 0;
+    }
+    modules[0].first_file
+}
+
+/// The root file's text as it is formatted.
+fn root_text<'src>(
+    alloc: Global,
+    compilation: &Compilation<'src>,
+    os: Os,
+) -> Result<String, AllocError> {
+    let place = root_place(compilation.modules.as_slice());
+    let files = compilation.files.as_slice();
+    if place >= files.len() {
+        return Ok(String::new(alloc));
+    }
+    formatted(alloc, &files[place].ast, os)
+}
+
+/// The same, where it can be printed so that it is read as it was.
+fn root_printed<'src>(
+    alloc: Global,
+    compilation: &Compilation<'src>,
+    os: Os,
+) -> Result<Option<Text>, AllocError> {
+    let place = root_place(compilation.modules.as_slice());
+    let files = compilation.files.as_slice();
+    if place >= files.len() {
+        return Ok(None);
+    }
+    printed(alloc, &files[place].ast, os)
+}
+
+/// The list of the module's recipes.
+fn listing_of<'src, 'a>(
+    alloc: Global,
+    module: &mut Justfile<'src, 'a>,
+) -> Result<String, AllocError> {
+    module.listing(alloc)
+}
+
+/// The list of the root's recipes.
+fn root_listing<'src>(
+    alloc: Global,
+    compilation: &Compilation<'src>,
+) -> Result<String, AllocError> {
+    let mut root = Justfile::from_resolved(compilation);
+    listing_of(alloc, &mut root)
+}
+
+/// Writes the text; what is then said is the outcome.
+fn write_told<'src, O: Out>(
+    out: &mut O,
+    text: String,
+    outcome: Outcome,
+) -> Result<Outcome, Fault<'src>>
+    ensures kept { IfErr result (λ fault. IsKept (O.written out.old) fault (O.written out.new)) }
+{
+    write_text(out, text.as_str())?;
+    Ok(outcome)
+}
+
+/// Writes the list of recipes.
+fn list<'src, O: Out>(
+    alloc: Global,
+    compilation: &Compilation<'src>,
+    out: &mut O,
+) -> Result<Outcome, Fault<'src>>
+    ensures kept { IfErr result (λ fault. IsKept (O.written out.old) fault (O.written out.new)) }
+{
+    let text = root_listing(alloc, compilation)?;
+    write_told(out, text, Outcome::Listed)
+}
+
+/// Writes the root file.
+fn dump<'src, O: Out>(
+    alloc: Global,
+    compilation: &Compilation<'src>,
+    os: Os,
+    out: &mut O,
+) -> Result<Outcome, Fault<'src>>
+    ensures kept { IfErr result (λ fault. IsKept (O.written out.old) fault (O.written out.new)) }
+{
+    let text = root_text(alloc, compilation, os)?;
+    write_told(out, text, Outcome::Dumped)
+}
+
+/// Answers the root file, whose path this is.
+fn answer<'src>(
+    alloc: Global,
+    compilation: &Compilation<'src>,
+    path: &str,
+    os: Os,
+) -> Result<Outcome, Fault<'src>> {
+    let text = root_printed(alloc, compilation, os)?;
+    format(alloc, path, text)
+}
+
+/// Writes or answers the text of the root, whose path this is.
+pub(crate) fn tell<'src, O: Out>(
+    alloc: Global,
+    compilation: &Compilation<'src>,
+    path: &str,
+    os: Os,
+    text: RootText,
+    out: &mut O,
+) -> Result<Outcome, Fault<'src>>
+    ensures kept { IfErr result (λ fault. IsKept (O.written out.old) fault (O.written out.new)) }
+{
+    match text {
+        RootText::List => list(alloc, compilation, out),
+        RootText::Dump => dump(alloc, compilation, os, out),
+        RootText::Format => answer(alloc, compilation, path, os),
+    }
+}

@@ -1,0 +1,76 @@
+//! The command that the words are.
+ghost use Rattle.just_builtins.specs.Asking.{Asks};
+
+use crate::fault::{CommandFault, TaskFault};
+use crate::task::Performed;
+use just_builtins::{ExecutionContext, JobEnvironment};
+use just_host::{CommandJob, Recorded, RunHost, Status};
+use just_text::{Sequence, Text};
+use std::alloc::{AllocError, Global};
+
+fn copied(alloc: Global, words: &[Text]) -> Result<Sequence<Text>, AllocError> {
+    let mut copies = Sequence::new(alloc);
+    for word in words {
+        copies.push(word.clone()?)?;
+    }
+    Ok(copies)
+}
+
+/// The words as a command of its own, with the module's environment and folder.
+fn job(
+    alloc: Global,
+    context: &ExecutionContext,
+    command: &Text,
+    words: &[Text],
+) -> Result<CommandJob, AllocError> {
+    let scope = context.scope.child(alloc)?;
+    let JobEnvironment { pairs, removed } = context.job_environment(alloc, &[], &scope)?;
+    drop(scope);
+    let positional = copied(alloc, words)?;
+    let folder = context.working_directory(alloc)?;
+    Ok(CommandJob {
+        shell: Sequence::new(alloc),
+        command: command.clone()?,
+        positional,
+        pairs,
+        removed,
+        folder: Some(Text::from_string(folder)),
+        quiet: context.config.quiet,
+    })
+}
+
+/// What came of the command.
+fn ended<'src>(
+    context: &ExecutionContext,
+    command: &Text,
+    status: Status,
+) -> Result<Performed, TaskFault<'src>> {
+    if status == Status::Code(0) {
+        return Ok(Performed::Ran);
+    }
+    Err(TaskFault::Command(CommandFault {
+        word: command.clone()?,
+        status,
+        is_silent: context.module.settings.no_exit_message,
+    }))
+}
+
+/// Hands the words over as one command, none in a dry run.
+pub(crate) fn run_command<'src, H: RunHost + Drop>(
+    alloc: Global,
+    host: &mut Recorded<H>,
+    context: &ExecutionContext<'_, 'src>,
+    words: &[Text],
+) -> Result<Performed, TaskFault<'src>>
+    ensures asks { Asks H.goes host.old host.new }
+{
+    let Some((command, words)) = words.split_first() else {
+        return Ok(Performed::Ran);
+    };
+    if context.config.dry_run {
+        return Ok(Performed::Ran);
+    }
+    let job = job(alloc, context, command, words)?;
+    let status = host.line(&job);
+    ended(context, command, status)
+}

@@ -1,0 +1,97 @@
+/* Refuses steps of replacing a file, to see how a program answers that.
+ *
+ * Loaded before a program (LD_PRELOAD). REFUSE_STEP names the step: `create` refuses to make a new file, `write` to write
+ * into one, `rest` lets one byte be written and then nothing more, `rename` refuses to rename. The refused call sets
+ * ENOSPC. Only files whose name has `.just-format-` in it are meant. For each refusal a byte goes to the file
+ * descriptor 9, so that the caller knows whether there was one.
+ */
+#define _GNU_SOURCE
+#include <dlfcn.h>
+#include <errno.h>
+#include <fcntl.h>
+#include <stdarg.h>
+#include <stdlib.h>
+#include <string.h>
+#include <sys/types.h>
+#include <unistd.h>
+
+enum { NOTES = 9 };
+
+static int new_file = -1;
+static int written = 0;
+
+static int is_step(const char *step)
+{
+    const char *wanted = getenv("REFUSE_STEP");
+    return wanted != NULL && strcmp(wanted, step) == 0;
+}
+
+static int refuse(void)
+{
+    static ssize_t (*next)(int, const void *, size_t);
+    if (next == NULL)
+        *(void **)&next = dlsym(RTLD_NEXT, "write");
+    (void)next(NOTES, "!", 1);
+    errno = ENOSPC;
+    return -1;
+}
+
+static int is_new(const char *path, int flags)
+{
+    return (flags & O_CREAT) != 0 && strstr(path, ".just-format-") != NULL;
+}
+
+int openat(int folder, const char *path, int flags, ...)
+{
+    static int (*next)(int, const char *, int, ...);
+    if (next == NULL)
+        *(void **)&next = dlsym(RTLD_NEXT, "openat");
+    va_list rest;
+    va_start(rest, flags);
+    mode_t mode = (flags & (O_CREAT | O_TMPFILE)) != 0 ? va_arg(rest, mode_t) : 0;
+    va_end(rest);
+    if (is_new(path, flags) && is_step("create"))
+        return refuse();
+    int file = next(folder, path, flags, mode);
+    if (is_new(path, flags))
+        new_file = file;
+    return file;
+}
+
+int open(const char *path, int flags, ...)
+{
+    va_list rest;
+    va_start(rest, flags);
+    mode_t mode = (flags & (O_CREAT | O_TMPFILE)) != 0 ? va_arg(rest, mode_t) : 0;
+    va_end(rest);
+    return openat(AT_FDCWD, path, flags, mode);
+}
+
+int open64(const char *path, int flags, ...) __attribute__((alias("open")));
+int openat64(int folder, const char *path, int flags, ...) __attribute__((alias("openat")));
+
+ssize_t write(int file, const void *bytes, size_t count)
+{
+    static ssize_t (*next)(int, const void *, size_t);
+    if (next == NULL)
+        *(void **)&next = dlsym(RTLD_NEXT, "write");
+    if (file == new_file && is_step("write"))
+        return refuse();
+    if (file == new_file && is_step("rest")) {
+        if (written)
+            return refuse();
+        written = 1;
+        return next(file, bytes, count > 0 ? 1 : 0);
+    }
+    return next(file, bytes, count);
+}
+
+int rename(const char *old, const char *new)
+{
+    static int (*next)(const char *, const char *);
+    if (next == NULL)
+        *(void **)&next = dlsym(RTLD_NEXT, "rename");
+    if (is_step("rename"))
+        return refuse();
+    return next(old, new);
+}
