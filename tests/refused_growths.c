@@ -3,11 +3,14 @@
  * Loaded before a program (LD_PRELOAD), it counts the program's calls of malloc, calloc and realloc from its
  * start on. REFUSE_FROM names the first call to refuse, counted from 1, and REFUSE_TO the last one; a missing
  * REFUSE_TO means that one call, and `end` each later one too. A refused call gives no memory and sets ENOMEM.
+ * A call of realloc for no more than there is counts for nothing: where a list is to have no room for more, and that
+ * is refused, it keeps its room.
  * For each refusal a byte goes to the file descriptor 9, so that the caller knows whether there was one. What the
  * program starts isn't loaded behind it.
  */
 #include <errno.h>
 #include <limits.h>
+#include <malloc.h>
 #include <stddef.h>
 #include <stdlib.h>
 #include <string.h>
@@ -66,5 +69,7 @@ void *calloc(size_t count, size_t size)
 
 void *realloc(void *memory, size_t size)
 {
+    if (memory != NULL && size > 0 && malloc_usable_size(memory) >= size)
+        return __libc_realloc(memory, size);
     return refused() ? NULL : __libc_realloc(memory, size);
 }

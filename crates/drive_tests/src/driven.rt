@@ -1,7 +1,7 @@
 //! A justfile, words, and what comes of them.
-use crate::scripted::Scripted;
+use crate::scripted::{Failing, Scripted};
 use crate::told::told;
-use just_run::{Action, Collected, Config, Confirmation, Fault, Outcome, Recorded, drive};
+use just_run::{Action, Collected, Config, Confirmation, Fault, Out, Outcome, Recorded, drive};
 use justfile_syntax::{ExpandFault, Expander, Os, Text};
 use semver::Version;
 use std::alloc::{AllocError, Global};
@@ -31,7 +31,8 @@ pub(crate) struct Way {
     pub(crate) dry_run: bool,
     pub(crate) yes: bool,
     /// The place of the question or event that fails, from 0; none does at the greatest place.
-    pub(crate) failing: usize,
+    pub(crate) failing_place: usize,
+    pub(crate) failing: Failing,
 }
 
 /// Runs, confirms all, and fails nothing.
@@ -40,7 +41,8 @@ pub(crate) const RUN: Way = Way {
     confirmation: Confirmation::Yes,
     dry_run: false,
     yes: false,
-    failing: usize::MAX,
+    failing_place: usize::MAX,
+    failing: Failing::NotStarted,
 };
 
 fn config(alloc: Global, way: Way) -> Result<Config, AllocError> {
@@ -130,14 +132,19 @@ fn answer_text(alloc: Global, answer: Result<Outcome, Fault>) -> Result<String, 
 
 /// What a call is given.
 #[derive(Drop)]
-struct Given {
+pub(crate) struct Given {
     config: Config,
     sources: BTreeMap<String, String>,
     roots: BTreeMap<Option<String>, String>,
     words: Vec<String>,
 }
 
-fn given_of(alloc: Global, way: Way, files: &str, text: &str) -> Result<Given, AllocError> {
+pub(crate) fn given_of(
+    alloc: Global,
+    way: Way,
+    files: &str,
+    text: &str,
+) -> Result<Given, AllocError> {
     let words = words(alloc, text)?;
     let roots = roots(alloc)?;
     let sources = sources(alloc, files)?;
@@ -164,12 +171,15 @@ fn told_of(
     Ok(text)
 }
 
-/// What is told of the justfile under these words.
-fn tell(alloc: Global, way: Way, given: &Given) -> Result<String, AllocError> {
-    let scripted = Scripted::new(alloc, way.confirmation, way.failing);
-    let mut host = Recorded::new(alloc, scripted);
-    let mut out = Collected::new(alloc);
-    let answer = drive(
+/// What comes of the call with this output.
+pub(crate) fn drive_into<'g, O: Out>(
+    alloc: Global,
+    way: Way,
+    given: &'g Given,
+    host: &mut Recorded<Scripted>,
+    out: &mut O,
+) -> Result<Outcome, Fault<'g>> {
+    drive(
         alloc,
         &given.config,
         &Unchanged,
@@ -177,9 +187,22 @@ fn tell(alloc: Global, way: Way, given: &Given) -> Result<String, AllocError> {
         &given.roots,
         given.words.as_slice(),
         way.action,
-        &mut host,
-        &mut out,
-    );
+        host,
+        out,
+    )
+}
+
+/// A host that answers in this way.
+pub(crate) fn host(alloc: Global, way: Way) -> Recorded<Scripted> {
+    let scripted = Scripted::new(alloc, way.confirmation, way.failing, way.failing_place);
+    Recorded::new(alloc, scripted)
+}
+
+/// What is told of the justfile under these words.
+fn tell(alloc: Global, way: Way, given: &Given) -> Result<String, AllocError> {
+    let mut host = host(alloc, way);
+    let mut out = Collected::new(alloc);
+    let answer = drive_into(alloc, way, given, &mut host, &mut out);
     told_of(alloc, &host, &out, answer)
 }
 

@@ -1,5 +1,6 @@
 //! Failures: the first ends the run and is named. A file of plain recipes runs the same by either way.
 use crate::driven::{RUN, Way, driven};
+use crate::scripted::Failing;
 use std::alloc::{AllocError, Global};
 use std::process::Abort;
 use std::test::Fail;
@@ -9,25 +10,55 @@ fn entries(told: &str) -> usize {
     told.matches("; ").count()
 }
 
-/// Whether the run ends with the question or event at the place, if there is one, where that one fails.
-fn ends_at(alloc: Global, place: usize, files: &str, words: &str) -> Result<bool, AllocError> {
+/// Whether the run ends with the question or event at the place, where that one fails in this way.
+fn ends_at(
+    alloc: Global,
+    place: usize,
+    failing: Failing,
+    files: &str,
+    words: &str,
+) -> Result<bool, AllocError> {
     let way = Way {
-        failing: place,
+        failing_place: place,
+        failing,
         ..RUN
     };
     let told = driven(alloc, way, files, words)?;
     Ok(entries(told.as_str()) == place.saturating_add(1) && !told.as_str().ends_with("; ran"))
 }
 
-/// Whether each question and event of the run ends it where it fails.
-fn each_ends(alloc: Global, files: &str, words: &str) -> Result<bool, AllocError> {
+/// Whether each question and event of the run ends it where it fails in this way.
+fn each_ends(
+    alloc: Global,
+    failing: Failing,
+    files: &str,
+    words: &str,
+) -> Result<bool, AllocError> {
     let count = entries(driven(alloc, RUN, files, words)?.as_str());
     for place in 0..count {
-        if !ends_at(alloc, place, files, words)? {
+        if !ends_at(alloc, place, failing, files, words)? {
             return Ok(false);
         }
     }
     Ok(count > 0)
+}
+
+/// Whether each question and event of the run ends it in whatever way it fails.
+fn each_ends_anyhow(alloc: Global, files: &str, words: &str) -> Result<bool, AllocError> {
+    const WAYS: &[Failing] = &[
+        Failing::Code,
+        Failing::Signal,
+        Failing::NotStarted,
+        Failing::NotUnicode,
+        Failing::Io,
+        Failing::Memory,
+    ];
+    for failing in WAYS {
+        if !each_ends(alloc, *failing, files, words)? {
+            return Ok(false);
+        }
+    }
+    Ok(true)
 }
 
 #[test]
@@ -48,13 +79,23 @@ fn the_first_failure_ends_the_run(rt: HostRuntime) -> Result<(), Fail> {
             "a",
         ),
         (
-            "mod m\na: m::b\n  -echo a\n--- m.just\nx := `echo x`\nb:\n  @echo {{x}}\n",
+            "mod m\na: m::b\n  echo a\n--- m.just\nx := `echo x`\nb:\n  @echo {{x}}\n",
             "a a",
         ),
     ];
     for (files, words) in ROWS {
-        assert!(rt; each_ends(rt.alloc(), files, words)?, "in {files:?}");
+        assert!(rt; each_ends_anyhow(rt.alloc(), files, words)?, "in {files:?}");
     }
+    Ok(())
+}
+
+/// A line that may fail ends the run only where it doesn't start.
+#[test]
+fn a_line_that_does_not_start_ends_the_run_though_it_may_fail(rt: HostRuntime) -> Result<(), Fail> {
+    const FILE: &str = "a:\n  -echo a\n  -echo b\n";
+    assert!(rt; each_ends(rt.alloc(), Failing::NotStarted, FILE, "a")?);
+    assert!(rt; !each_ends(rt.alloc(), Failing::Signal, FILE, "a")?);
+    assert!(rt; !each_ends(rt.alloc(), Failing::Code, FILE, "a")?);
     Ok(())
 }
 

@@ -11,3 +11,5 @@ mod failures;
 mod scripted;
 #[cfg(test)]
 mod told;
+#[cfg(test)]
+mod writes;

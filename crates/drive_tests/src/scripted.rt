@@ -6,6 +6,57 @@ use just_run::{
 use justfile_syntax::{Sequence, Text};
 use std::alloc::{AllocError, Global};
 
+/// How a question or event fails: a command that ends with code 3 or by signal 2, or that doesn't
+/// start; and what only a question can come to.
+#[derive(Clone, Copy, Debug)]
+pub enum Failing {
+    Code,
+    Signal,
+    NotStarted,
+    NotUnicode,
+    Io,
+    Memory,
+}
+
+impl Failing {
+    /// What a question or a request for files of variables comes to.
+    fn fault(self, alloc: Global) -> HostFault {
+        match self {
+            Failing::Code => HostFault::Code(3),
+            Failing::Signal => HostFault::Signal(2),
+            Failing::NotStarted => HostFault::NotStarted,
+            Failing::NotUnicode => HostFault::NotUnicode(text(alloc)),
+            Failing::Io => HostFault::Io(text(alloc)),
+            Failing::Memory => HostFault::Memory,
+        }
+    }
+
+    /// How a command ends.
+    fn status(self) -> Status {
+        match self {
+            Failing::Code => Status::Code(3),
+            Failing::Signal => Status::Signal(2),
+            _ => Status::NotStarted,
+        }
+    }
+
+    /// What the user's answer is.
+    fn confirmation(self) -> Confirmation {
+        match self {
+            Failing::Code => Confirmation::No,
+            _ => Confirmation::Failed,
+        }
+    }
+}
+
+/// The text of a fault, which is empty where memory is refused.
+fn text(alloc: Global) -> Text {
+    match Text::from_text(alloc, "torn") {
+        Ok(text) => text,
+        Err(_) => Text::from_string(String::new(alloc)),
+    }
+}
+
 /// Answers each prompt with `confirmation`, and fails the question or event at one place. The command `false` ends with code 1, `kill` by signal 9,
 /// `missing` doesn't start, and all others end with code 0. A command of an expression prints its own
 /// text, unless it begins with `fail`. Files of variables give `D=1`, unless they are required.
@@ -13,16 +64,23 @@ use std::alloc::{AllocError, Global};
 pub struct Scripted {
     alloc: Global,
     confirmation: Confirmation,
+    failing: Failing,
     /// How many questions and events are still to come before the one that fails.
     left: usize,
 }
 
 impl Scripted {
-    /// Fails the question or event behind `left` others.
-    pub fn new(alloc: Global, confirmation: Confirmation, left: usize) -> Scripted {
+    /// Fails the question or event behind `left` others in this way.
+    pub fn new(
+        alloc: Global,
+        confirmation: Confirmation,
+        failing: Failing,
+        left: usize,
+    ) -> Scripted {
         Scripted {
             alloc,
             confirmation,
+            failing,
             left,
         }
     }
@@ -67,7 +125,7 @@ impl Host for Scripted {
 
     fn ask(&mut self, question: &Question) -> Answer {
         if self.fails() {
-            return Answer::Fault(HostFault::Signal(2));
+            return Answer::Fault(self.failing.fault(self.alloc));
         }
         let Question::Command(job) = question else {
             return Answer::Absent;
@@ -89,14 +147,14 @@ impl Host for Scripted {
 impl RunHost for Scripted {
     fn line(&mut self, job: &CommandJob) -> Status {
         if self.fails() {
-            return Status::NotStarted;
+            return self.failing.status();
         }
         status(job.command.as_str())
     }
 
     fn script(&mut self, job: &ScriptJob) -> Status {
         if self.fails() {
-            return Status::Code(2);
+            return self.failing.status();
         }
         match job.lines.as_slice().last() {
             Some(line) => status(line.as_str()),
@@ -106,7 +164,7 @@ impl RunHost for Scripted {
 
     fn confirm(&mut self, _prompt: &str) -> Confirmation {
         if self.fails() {
-            return Confirmation::Failed;
+            return self.failing.confirmation();
         }
         self.confirmation
     }
@@ -114,7 +172,10 @@ impl RunHost for Scripted {
     fn show(&mut self, _text: &str) {}
 
     fn dotenv(&mut self, request: &DotenvRequest) -> Result<Sequence<Pair>, HostFault> {
-        if self.fails() || request.required {
+        if self.fails() {
+            return Err(self.failing.fault(self.alloc));
+        }
+        if request.required {
             return Err(HostFault::NotStarted);
         }
         memory(pairs(self.alloc))

@@ -11,7 +11,7 @@ mod recipes;
 mod variables;
 
 pub use analysis::Analysis;
-pub use just_dependencies::ResolvedAlias;
+pub use just_dependencies::{ItemPlaces, ResolvedAlias};
 pub use just_reads::ModuleLists;
 pub use known_values::KnownValues;
 pub use marked::add_marked;

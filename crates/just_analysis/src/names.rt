@@ -1,8 +1,8 @@
 //! Submodules by their names, and the recipe that runs where none is named.
 use just_attribute_tree::AttributeKind;
 use just_compilation::{Compilation, ModuleNode, Place};
+use just_dependencies::ItemPlaces;
 use just_text::Name;
-use std::collections::BTreeMap;
 
 /// Whether the module has the name.
 fn is_named(name: Option<Name>, wanted: &str) -> bool {
@@ -73,7 +73,7 @@ pub fn find_submodule(modules: &[ModuleNode], module: usize, name: &str) -> Opti
 /// file.
 pub fn default_recipe(
     compilation: &Compilation,
-    ranks: &BTreeMap<Place, usize>,
+    ranks: &ItemPlaces,
     node: &ModuleNode,
 ) -> Option<usize> {
     let places = node.recipes.as_slice();
@@ -81,5 +81,5 @@ pub fn default_recipe(
         Some(place) => place,
         None => first_of_file(places, node.first_file)?,
     };
-    ranks.get(&place).copied()
+    ranks.get(place)
 }

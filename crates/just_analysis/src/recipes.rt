@@ -1,8 +1,7 @@
 //! The recipes of all modules in their order, and what aliases stand for.
 use just_compilation::Place;
-use just_dependencies::ResolvedAlias;
+use just_dependencies::{ItemPlaces, ResolvedAlias};
 use just_text::Name;
-use std::collections::BTreeMap;
 
 /// A recipe, and the places of what it depends on and reads.
 #[derive(Drop)]
@@ -25,7 +24,7 @@ pub struct RecipeTable<'src> {
     /// The recipes of all modules, each behind those that it depends on.
     pub recipes: Vec<ResolvedRecipe<'src>>,
     /// The place of each recipe by where it stands.
-    pub places: BTreeMap<Place, usize>,
+    pub places: ItemPlaces,
     /// The aliases of each module.
     pub aliases: Vec<Vec<ResolvedAlias<'src>>>,
 }

@@ -1,8 +1,8 @@
 //! Recipes with their modules, and how many values they take.
+use crate::item_places::ItemPlaces;
 use just_compilation::{Compilation, ModuleNode, Place};
 use just_tree::{Parameter, ParameterKind, Recipe, UnresolvedDependency};
 use std::alloc::{AllocError, Global};
-use std::collections::BTreeMap;
 
 /// How many values a recipe takes.
 #[derive(Clone, Copy, Debug)]
@@ -98,25 +98,10 @@ pub fn value_counts(alloc: Global, nodes: &[RecipeNode]) -> Result<Vec<ValueCoun
 }
 
 /// The place of each recipe among these, by where it stands. Refused only where memory is.
-pub fn recipe_places(
-    alloc: Global,
-    nodes: &[RecipeNode],
-) -> Result<BTreeMap<Place, usize>, AllocError> {
-    let mut places = BTreeMap::new(alloc);
+pub fn recipe_places(alloc: Global, nodes: &[RecipeNode]) -> Result<ItemPlaces, AllocError> {
+    let mut places = ItemPlaces::new(alloc);
     for place in 0..nodes.len() {
-        add_place(&mut places, nodes[place].place, place)?;
+        places.insert(nodes[place].place, place)?;
     }
     Ok(places)
-}
-
-/// Gives what stands there this place, in place of an earlier one. Refused only where memory is.
-pub fn add_place(
-    places: &mut BTreeMap<Place, usize>,
-    item: Place,
-    place: usize,
-) -> Result<(), AllocError> {
-    match places.insert(item, place) {
-        Ok(_) => Ok(()),
-        Err(_) => Err(AllocError),
-    }
 }

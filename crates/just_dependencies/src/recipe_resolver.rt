@@ -1,18 +1,18 @@
 //! The recipes that dependencies and aliases name.
 use crate::fault::DependencyFault;
+use crate::item_places::ItemPlaces;
 use crate::lookup::{find, module_at, value_count};
 use crate::recipe_node::ValueCount;
 use just_compilation::{Compilation, Place, Target};
 use just_text::{Name, Namepath};
 use just_tree::UnresolvedDependency;
 use std::alloc::AllocError;
-use std::collections::BTreeMap;
 
 /// How many values each recipe that is kept takes, and the places of all by where they stand.
 #[derive(Clone, Copy)]
 pub struct RecipeResolver<'n> {
     pub counts: &'n [ValueCount],
-    pub places: &'n BTreeMap<Place, usize>,
+    pub places: &'n ItemPlaces,
 }
 
 /// What a path names.
@@ -52,8 +52,8 @@ fn refusal<'a, 'src>(
 impl RecipeResolver<'_> {
     /// The place of the recipe that stands there, if it is kept.
     fn kept(&self, item: Place) -> Named {
-        match self.places.get(&item) {
-            Some(place) => Named::Recipe(*place),
+        match self.places.get(item) {
+            Some(place) => Named::Recipe(place),
             None => Named::Nothing,
         }
     }

@@ -8,6 +8,7 @@ ghost use Rattle.just_recipes.specs.Cooked.{AreFragmentsCooked, IsBodyCooked, Is
 ghost use Rattle.just_recipes.specs.RecipeSeen.{blank_line_at, if_taken};
 ghost use Rattle.just_recipes.specs.RecipeReading.{body_at, eol_at, line_at, lines_at, piece_at, pieces_at};
 
+use crate::shrinking::shrunk;
 use just_expressions::{Cursor, Fault};
 use just_text::{Expander, TokenKind, both};
 use just_tree::{Fragment, Line};
@@ -121,7 +122,9 @@ fn line<'src, E: Expander>(
     if fragments.is_empty() || !cursor.is_next(TokenKind::Dedent) {
         cursor.expect(TokenKind::Eol)?;
     }
-    Ok(Line { fragments })
+    Ok(Line {
+        fragments: shrunk(fragments),
+    })
 }
 
 /// The lines of a body behind its indent, and the dedent.

@@ -9,6 +9,7 @@ ghost use Rattle.just_recipes.specs.RecipeReading.{argument_at, arguments_at, de
 
 use crate::parameter::marked;
 use crate::path::namepath;
+use crate::shrinking::shrunk;
 use just_expressions::{Cursor, Fault};
 use just_text::{CompileErrorKind, Expander, Token, TokenKind};
 use just_tree::{DependencyArgument, UnresolvedDependency};
@@ -86,7 +87,10 @@ fn dependency<'src, E: Expander>(
     if let Some(token) = cursor.accept(TokenKind::ParenL) {
         let recipe = namepath(alloc, cursor)?;
         let arguments = arguments(alloc, cursor, expander, token)?;
-        return Ok(Some(UnresolvedDependency { arguments, recipe }));
+        return Ok(Some(UnresolvedDependency {
+            arguments: shrunk(arguments),
+            recipe,
+        }));
     }
     if !cursor.is_next(TokenKind::Identifier) {
         return Ok(None);

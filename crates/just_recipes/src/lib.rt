@@ -8,6 +8,7 @@ mod parameter;
 mod path;
 pub mod recipe;
 pub mod recipe_law;
+mod shrinking;
 
 pub use body::{BodyRead, end_of_line, ended};
 pub use dependency::{dependencies, subsequents};

@@ -13,6 +13,7 @@ use crate::body::{body, end_of_line};
 use crate::dependency::{dependencies, subsequents};
 use crate::numbering::next_recipe;
 use crate::parameter::{marked, parameters};
+use crate::shrinking::shrunk;
 use just_attributes::AttributeSet;
 use just_expressions::{Cursor, Fault};
 use just_text::{Expander, Name, Numerator, TokenKind};
@@ -88,13 +89,13 @@ pub fn recipe<'src, E: Expander>(
     Ok(RecipeRead {
         recipe: Recipe {
             attributes: AttributeSet::new(alloc),
-            body: body.lines,
+            body: shrunk(body.lines),
             name: Name::from_token(name),
             number,
-            parameters: header.parameters,
-            priors: header.priors,
+            parameters: shrunk(header.parameters),
+            priors: shrunk(header.priors),
             quiet,
-            subsequents: header.subsequents,
+            subsequents: shrunk(header.subsequents),
         },
         blank_lines: body.blank_lines,
     })

@@ -5,13 +5,12 @@ use crate::recipes::resolved_recipe;
 use just_analysis::{RecipeTable, ResolvedRecipe};
 use just_compilation::{Compilation, Place};
 use just_dependencies::{
-    DependencyFault, RecipeNode, RecipeResolver, ResolvedAlias, add_place, all_needs,
+    DependencyFault, ItemPlaces, RecipeNode, RecipeResolver, ResolvedAlias, all_needs,
     check_dependencies, ranks, recipe_nodes, recipe_places, resolved_aliases, value_counts,
 };
 use just_reads::ModuleReads;
 use just_references::ReadFault;
 use std::alloc::{AllocError, Global};
-use std::collections::BTreeMap;
 
 /// Whether the dependencies of the module's recipes that are disabled name recipes.
 fn check_module<'a, 'src>(
@@ -97,13 +96,10 @@ fn recipes_in_order<'src>(
 }
 
 /// The place of each recipe by where it stands.
-fn places_of(
-    alloc: Global,
-    recipes: &[ResolvedRecipe],
-) -> Result<BTreeMap<Place, usize>, AllocError> {
-    let mut places = BTreeMap::new(alloc);
+fn places_of(alloc: Global, recipes: &[ResolvedRecipe]) -> Result<ItemPlaces, AllocError> {
+    let mut places = ItemPlaces::new(alloc);
     for place in 0..recipes.len() {
-        add_place(&mut places, recipes[place].place, place)?;
+        places.insert(recipes[place].place, place)?;
     }
     Ok(places)
 }

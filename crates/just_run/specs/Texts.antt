@@ -1,9 +1,15 @@
--- The root file as it is formatted.
-use Rattle.std.specs.Prelude.{◌≡◌, ℕ, List, Option, Some, None, codes, unwrap_or, Result, Ok, Err, if◌then◌else◌}
+-- Texts that are written or answered.
+use Rattle.std.specs.Prelude.{◌≡◌, ℕ, List, [], Option, Some, None, codes, slice_get, unwrap_or, Result, Ok, Err, if◌then◌else◌}
+use Rattle.std.specs.String.{string_bytes}
 use Rattle.just_text.specs.declared.os.Os.{Os}
 use Rattle.just_tree.specs.declared.ast.Item.{Item}
 use Rattle.just_tree.specs.Files.{file_text, item_shapes, printable}
 use Rattle.just_tree.specs.FileIndentation.{file_indentation}
+use Rattle.just_compilation.specs.declared.compilation.Compilation.{Compilation}
+use Rattle.just_compilation.specs.declared.module_node.File.{File}
+use Rattle.just_compilation.specs.declared.module_node.ModuleNode.{ModuleNode}
+use Rattle.just_tasks.specs.declared.task.Performed.{Performed}
+use Rattle.just_tasks.specs.declared.task.Performed.TheVariants.{Ran, Evaluated}
 use Rattle.just_run.specs.declared.fault.Fault.{Fault}
 use Rattle.just_run.specs.declared.fault.Fault.TheVariants.{OutOfMemory, NotPrintable}
 use Rattle.just_run.specs.declared.outcome.Outcome.{Outcome}
@@ -16,6 +22,30 @@ formatted_text os items = file_text (unwrap_or (file_indentation os items) (code
 -- the same, where the file can be printed so that it is read as it was
 abbrev pub printed_text : Os → List Item → Option (List ℕ)
 printed_text os items = if printable items then Some (formatted_text os items) else None
+
+-- the place of a module's file among all files; that of the first where there is no module
+abbrev pub file_place : Option ModuleNode → ℕ
+file_place None = 0
+file_place (Some node) = node.first_file
+
+-- the root file, if there is one
+abbrev pub root_file : Compilation → Option File
+root_file compilation = slice_get compilation.files.items (file_place (slice_get compilation.modules.items 0))
+
+-- what is written of the root file
+abbrev pub dumped_text : Os → Option File → List ℕ
+dumped_text os None = []
+dumped_text os (Some file) = formatted_text os file.ast.items.items
+
+-- what is answered of the root file, where it can be printed so that it is read as it was
+abbrev pub answered_text : Os → Option File → Option (List ℕ)
+answered_text os None = None
+answered_text os (Some file) = printed_text os file.ast.items.items
+
+-- what is written of what came of a task
+abbrev pub performed_text : Performed → List ℕ
+performed_text Ran = []
+performed_text (Evaluated text) = string_bytes text
 
 -- The path and the text are answered where there is a text; the path is refused where there is none, unless memory ran out.
 abbrev pub IsFormatted : List ℕ → Option (List ℕ) → Result Outcome Fault → Type 0

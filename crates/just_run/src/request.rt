@@ -66,7 +66,7 @@ fn invocations<'src>(
     settings: &[Settings],
     words: &[Text],
 ) -> Result<Vec<Invocation>, WordFault> {
-    let menus = menus(alloc, compilation, table, settings)?;
+    let menus = menus(alloc, compilation, table, settings, words)?;
     InvocationParser::parse_invocations(alloc, &menus, words)
 }
 

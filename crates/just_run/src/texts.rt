@@ -1,9 +1,12 @@
 //! Texts that are written or answered.
-ghost use Rattle.std.specs.Prelude.{◌≡◌, ◌++◌, IfErr, IfOk, OnErr, OnOk};
+ghost use Rattle.std.specs.Prelude.{◌≡◌, ◌++◌, IfErr, IfOk, OnErr, OnOk, slice_get};
 ghost use Rattle.std.specs.String.{string_bytes};
 ghost use Rattle.just_plain_run.specs.Out.{IsPartOf};
-ghost use Rattle.just_run.specs.Texts.{IsFormatted, formatted_text, printed_text};
+ghost use Rattle.justfile_analyzer.specs.Justfiles.{place_of};
+ghost use Rattle.justfile_analyzer.specs.Listings.{listing};
+ghost use Rattle.just_run.specs.Texts.{IsFormatted, answered_text, dumped_text, file_place, formatted_text, performed_text, printed_text, root_file};
 ghost use Rattle.just_run.specs.Writes.{IsKept};
+ghost use Rattle.just_run.specs.declared.request.RootText.TheVariants as texts;
 
 use crate::fault::Fault;
 use crate::outcome::Outcome;
@@ -67,6 +70,7 @@ pub(crate) fn write_performed<'src, O: Out>(
     out: &mut O,
 ) -> Result<Outcome, Fault<'src>>
     ensures kept { IfErr result (λ fault. IsKept (O.written out.old) fault (O.written out.new)) }
+    ensures wrote { IfOk result (λ _. O.written out.new ≡ O.written out.old ++ performed_text performed) }
 {
     match performed {
         Performed::Ran => Ok(Outcome::Ran),
@@ -78,7 +82,9 @@ pub(crate) fn write_performed<'src, O: Out>(
 }
 
 /// The place of the root file among all files.
-fn root_place<'src>(modules: &[ModuleNode<'src>]) -> usize {
+fn root_place<'src>(modules: &[ModuleNode<'src>]) -> usize
+    ensures { result ≡ file_place (slice_get modules.now 0) }
+{
     if modules.is_empty() {
         return 0;
     }
@@ -90,7 +96,9 @@ fn root_text<'src>(
     alloc: Global,
     compilation: &Compilation<'src>,
     os: Os,
-) -> Result<String, AllocError> {
+) -> Result<String, AllocError>
+    ensures { IfOk result (λ text. string_bytes text ≡ dumped_text os (root_file compilation.now)) }
+{
     let place = root_place(compilation.modules.as_slice());
     let files = compilation.files.as_slice();
     if place >= files.len() {
@@ -104,7 +112,9 @@ fn root_printed<'src>(
     alloc: Global,
     compilation: &Compilation<'src>,
     os: Os,
-) -> Result<Option<Text>, AllocError> {
+) -> Result<Option<Text>, AllocError>
+    ensures { IfOk result (λ text. text ≡ answered_text os (root_file compilation.now)) }
+{
     let place = root_place(compilation.modules.as_slice());
     let files = compilation.files.as_slice();
     if place >= files.len() {
@@ -117,15 +127,16 @@ fn root_printed<'src>(
 fn listing_of<'src, 'a>(
     alloc: Global,
     module: &mut Justfile<'src, 'a>,
-) -> Result<String, AllocError> {
+) -> Result<String, AllocError>
+    ensures { IfOk result (λ text. string_bytes text ≡ listing «module».old.compilation.now (place_of «module».old)) }
+{
     module.listing(alloc)
 }
 
 /// The list of the root's recipes.
-fn root_listing<'src>(
-    alloc: Global,
-    compilation: &Compilation<'src>,
-) -> Result<String, AllocError> {
+fn root_listing<'src>(alloc: Global, compilation: &Compilation<'src>) -> Result<String, AllocError>
+    ensures { IfOk result (λ text. string_bytes text ≡ listing compilation.now 0) }
+{
     let mut root = Justfile::from_resolved(compilation);
     listing_of(alloc, &mut root)
 }
@@ -137,6 +148,7 @@ fn write_told<'src, O: Out>(
     outcome: Outcome,
 ) -> Result<Outcome, Fault<'src>>
     ensures kept { IfErr result (λ fault. IsKept (O.written out.old) fault (O.written out.new)) }
+    ensures wrote { IfOk result (λ _. O.written out.new ≡ O.written out.old ++ string_bytes text) }
 {
     write_text(out, text.as_str())?;
     Ok(outcome)
@@ -149,6 +161,7 @@ fn list<'src, O: Out>(
     out: &mut O,
 ) -> Result<Outcome, Fault<'src>>
     ensures kept { IfErr result (λ fault. IsKept (O.written out.old) fault (O.written out.new)) }
+    ensures wrote { IfOk result (λ _. O.written out.new ≡ O.written out.old ++ listing compilation.now 0) }
 {
     let text = root_listing(alloc, compilation)?;
     write_told(out, text, Outcome::Listed)
@@ -162,6 +175,7 @@ fn dump<'src, O: Out>(
     out: &mut O,
 ) -> Result<Outcome, Fault<'src>>
     ensures kept { IfErr result (λ fault. IsKept (O.written out.old) fault (O.written out.new)) }
+    ensures wrote { IfOk result (λ _. O.written out.new ≡ O.written out.old ++ dumped_text os (root_file compilation.now)) }
 {
     let text = root_text(alloc, compilation, os)?;
     write_told(out, text, Outcome::Dumped)
@@ -173,7 +187,9 @@ fn answer<'src>(
     compilation: &Compilation<'src>,
     path: &str,
     os: Os,
-) -> Result<Outcome, Fault<'src>> {
+) -> Result<Outcome, Fault<'src>>
+    ensures { IsFormatted path.now (answered_text os (root_file compilation.now)) result }
+{
     let text = root_printed(alloc, compilation, os)?;
     format(alloc, path, text)
 }
@@ -188,6 +204,9 @@ pub(crate) fn tell<'src, O: Out>(
     out: &mut O,
 ) -> Result<Outcome, Fault<'src>>
     ensures kept { IfErr result (λ fault. IsKept (O.written out.old) fault (O.written out.new)) }
+    ensures listed { text ≡ texts.List → IfOk result (λ _. O.written out.new ≡ O.written out.old ++ listing compilation.now 0) }
+    ensures dumped { text ≡ texts.Dump → IfOk result (λ _. O.written out.new ≡ O.written out.old ++ dumped_text os (root_file compilation.now)) }
+    ensures formatted { text ≡ texts.Format → IsFormatted path.now (answered_text os (root_file compilation.now)) result }
 {
     match text {
         RootText::List => list(alloc, compilation, out),

@@ -10,10 +10,12 @@ use std::collections::BTreeMap;
 use std::collections::btree_map::Values;
 use std::marker::Model;
 
-/// Bindings, at most one of each number.
+/// Bindings, at most one of each number. Each has a box of its own, so that a frame of few bindings
+/// takes little memory.
 #[derive(Drop)]
 pub struct Frame<'src> {
-    bindings: BTreeMap<Number, Bound<'src>>,
+    bindings: BTreeMap<Number, Box<Bound<'src>>>,
+    alloc: Global,
 }
 
 impl<'src> Model for Frame<'src> {
@@ -22,9 +24,9 @@ impl<'src> Model for Frame<'src> {
 
     ghost Value = { List BoundRow };
 
-    ghost view = { λ f. map (λ e. bound_of e.1) f.bindings.entries };
+    ghost view = { λ f. map (λ e. bound_of e.1.value) f.bindings.entries };
 
-    ghost invariant = { λ f. All (λ e. e.0 ≡ e.1.number) f.bindings.entries };
+    ghost invariant = { λ f. All (λ e. e.0 ≡ e.1.value.number) f.bindings.entries };
 }
 
 impl<'src> Frame<'src> {
@@ -34,6 +36,7 @@ impl<'src> Frame<'src> {
     {
         Frame {
             bindings: BTreeMap::new(alloc),
+            alloc,
         }
     }
 
@@ -44,11 +47,14 @@ impl<'src> Frame<'src> {
         ensures refused { IfErr result (λ e. (self.new ≡ self.old) × (bound_of e.value ≡ bound_of binding.entry)) }
     {
         let number = binding.number;
-        match self.bindings.insert(number, binding) {
+        let boxed = Box::new(self.alloc, binding)?;
+        match self.bindings.insert(number, boxed) {
             Ok(_) => Ok(()),
             Err(refused) => {
-                let (_, value) = refused.value;
-                Err(AllocFailed { value })
+                let (_, boxed) = refused.value;
+                Err(AllocFailed {
+                    value: Box::into_inner(boxed),
+                })
             }
         }
     }
@@ -57,7 +63,10 @@ impl<'src> Frame<'src> {
     pub fn binding(&self, number: Number) -> Option<&Bound<'src>>
         ensures { option_map (λ b. bound_of b.now) result ≡ bound_in self.now number }
     {
-        self.bindings.get(&number)
+        match self.bindings.get(&number) {
+            Some(binding) => Some(binding.as_ref()),
+            None => None,
+        }
     }
 
     /// Goes over the bindings by their numbers. Takes no memory.
@@ -74,15 +83,15 @@ impl<'src> Frame<'src> {
 /// The bindings of a frame, by their numbers. Contracts see it as those that are left.
 #[derive(Drop)]
 pub struct Bindings<'a, B> {
-    values: Values<'a, Number, B>,
+    values: Values<'a, Number, Box<B>>,
 }
 
 impl<'a, B> Model for Bindings<'a, B> {
-    ghost use Rattle.std.specs.Prelude.{List};
+    ghost use Rattle.std.specs.Prelude.{List, map};
 
     ghost Value = { List B };
 
-    ghost view = { λ b. b.values };
+    ghost view = { λ b. map (λ x. x.value) b.values };
 }
 
 impl<'a, B> Iterator for Bindings<'a, B> {
@@ -97,7 +106,10 @@ impl<'a, B> Iterator for Bindings<'a, B> {
     ghost remaining = { λ s. at_most (length s) };
 
     fn next(&mut self) -> Option<&'a B> {
-        self.values.next()
+        match self.values.next() {
+            Some(binding) => Some(binding.as_ref()),
+            None => None,
+        }
     }
 
     fn size_hint(&self) -> (usize, Option<usize>) {

@@ -1,12 +1,12 @@
 //! What words may name of a justfile.
-use just_analysis::{RecipeTable, ResolvedAlias, ResolvedRecipe, default_recipe};
+use just_analysis::{ItemPlaces, RecipeTable, ResolvedAlias, ResolvedRecipe, default_recipe};
 use just_builtins::Settings;
 use just_compilation::{Compilation, ModuleNode, Place};
 use just_invocations::{Callable, Meaning, Menu, Menus, Slot};
 use just_text::Text;
 use just_tree::{Parameter, ParameterKind, Recipe, UnresolvedDependency};
 use std::alloc::{AllocError, Global};
-use std::collections::BTreeMap;
+use std::collections::BTreeSet;
 
 /// The text, if it is there.
 fn text_of<'a>(text: &'a Option<Text>) -> Option<&'a str> {
@@ -64,37 +64,68 @@ fn callables<'a, 'src>(
     Ok(all)
 }
 
-/// Puts the recipe at the place on the menu.
+/// The names that stand in the words, as a recipe's or on a path.
+fn names_in<'w>(alloc: Global, words: &'w [Text]) -> Result<BTreeSet<&'w str>, AllocError> {
+    let mut names = BTreeSet::new(alloc);
+    for word in words {
+        add_names(&mut names, word.as_str())?;
+    }
+    Ok(names)
+}
+
+/// Adds the names of the path.
+fn add_names<'w>(names: &mut BTreeSet<&'w str>, path: &'w str) -> Result<(), AllocError> {
+    for name in path.split("::") {
+        let _ = names.insert(name)?;
+    }
+    Ok(())
+}
+
+/// Puts the recipe at the place on the menu, if its name is wanted.
 fn put_recipe<'a>(
     recipes: &[ResolvedRecipe<'a>],
+    wanted: &BTreeSet<&str>,
     menu: &mut Menu<'a>,
     place: usize,
 ) -> Result<(), AllocError> {
     if place >= recipes.len() {
         return Ok(());
     }
-    let name = recipes[place].name;
-    menu.put(name.lexeme(), Meaning::Recipe(place))
+    let name = recipes[place].name.lexeme();
+    if !wanted.contains(name) {
+        return Ok(());
+    }
+    menu.put(name, Meaning::Recipe(place))
 }
 
-/// Puts the recipes that stand at these places of their files on the menu, as far as they are kept.
+/// Puts the recipes that stand at these places of their files on the menu, as far as they are kept
+/// and their names are wanted.
 fn put_recipes<'a>(
     recipes: &[ResolvedRecipe<'a>],
-    ranks: &BTreeMap<Place, usize>,
+    ranks: &ItemPlaces,
+    wanted: &BTreeSet<&str>,
     menu: &mut Menu<'a>,
     places: &[Place],
 ) -> Result<(), AllocError> {
     for place in places {
-        if let Some(rank) = ranks.get(place).copied() {
-            put_recipe(recipes, menu, rank)?;
+        if let Some(rank) = ranks.get(*place) {
+            put_recipe(recipes, wanted, menu, rank)?;
         }
     }
     Ok(())
 }
 
-fn put_aliases<'a>(aliases: &[ResolvedAlias<'a>], menu: &mut Menu<'a>) -> Result<(), AllocError> {
+/// Puts the aliases on the menu whose names are wanted.
+fn put_aliases<'a>(
+    aliases: &[ResolvedAlias<'a>],
+    wanted: &BTreeSet<&str>,
+    menu: &mut Menu<'a>,
+) -> Result<(), AllocError> {
     for known in aliases {
-        menu.put(known.name.lexeme(), Meaning::Recipe(known.recipe))?;
+        let name = known.name.lexeme();
+        if wanted.contains(name) {
+            menu.put(name, Meaning::Recipe(known.recipe))?;
+        }
     }
     Ok(())
 }
@@ -125,49 +156,52 @@ fn put_submodules<'a, 'src>(
     Ok(())
 }
 
-/// Puts the recipes and the aliases of the module on the menu.
+/// Puts the recipes and the aliases of the module on the menu whose names are wanted.
 fn put_called<'a>(
     table: &RecipeTable<'a>,
+    wanted: &BTreeSet<&str>,
     menu: &mut Menu<'a>,
     module: usize,
     places: &[Place],
 ) -> Result<(), AllocError> {
     let recipes = table.recipes.as_slice();
     let aliases = table.aliases.as_slice();
-    put_recipes(recipes, &table.places, menu, places)?;
+    put_recipes(recipes, &table.places, wanted, menu, places)?;
     if module >= aliases.len() {
         return Ok(());
     }
-    put_aliases(aliases[module].as_slice(), menu)
+    put_aliases(aliases[module].as_slice(), wanted, menu)
 }
 
-/// The names of a module.
+/// The names of a module, of its recipes and aliases those that are wanted.
 fn menu<'a, 'src>(
     alloc: Global,
     compilation: &'a Compilation<'src>,
     table: &RecipeTable<'src>,
+    wanted: &BTreeSet<&str>,
     module: usize,
 ) -> Result<Menu<'a>, AllocError> {
     let modules = compilation.modules.as_slice();
     let mut menu: Menu<'a> = Menu::new(alloc);
     if module < modules.len() {
         let node = &modules[module];
-        put_called(table, &mut menu, module, node.recipes.as_slice())?;
+        put_called(table, wanted, &mut menu, module, node.recipes.as_slice())?;
         put_submodules(modules, &mut menu, node.submodules.as_slice())?;
         menu.default = default_recipe(compilation, &table.places, node);
     }
     Ok(menu)
 }
 
-/// The names of the modules.
+/// The names of the modules, of their recipes and aliases those that are wanted.
 fn all_menus<'a, 'src>(
     alloc: Global,
     compilation: &'a Compilation<'src>,
     table: &RecipeTable<'src>,
+    wanted: &BTreeSet<&str>,
 ) -> Result<Vec<Menu<'a>>, AllocError> {
     let mut all = Vec::new(alloc);
     for module in 0..compilation.modules.len() {
-        all.push(menu(alloc, compilation, table, module)?)?;
+        all.push(menu(alloc, compilation, table, wanted, module)?)?;
     }
     Ok(all)
 }
@@ -180,15 +214,17 @@ fn default_list(settings: &[Settings]) -> bool {
     }
 }
 
-/// What words may name: the recipes by their places, and the names of each module, of which these are
-/// the settings. Refused only where memory is.
+/// What these words may name: the recipes by their places, and of the names of each module, of which
+/// these are the settings, those that stand in the words. Refused only where memory is.
 pub fn menus<'a, 'src>(
     alloc: Global,
     compilation: &'a Compilation<'src>,
     table: &RecipeTable<'src>,
     settings: &[Settings],
+    words: &[Text],
 ) -> Result<Menus<'a>, AllocError> {
-    let modules = all_menus(alloc, compilation, table)?;
+    let wanted = names_in(alloc, words)?;
+    let modules = all_menus(alloc, compilation, table, &wanted)?;
     let recipes = callables(alloc, compilation, table.recipes.as_slice())?;
     Ok(Menus {
         recipes,
