@@ -1,6 +1,7 @@
 //! What is handed over, asked and answered, for small justfiles.
-use crate::driven::{RUN, Way, agree};
+use crate::rows::agree;
 use just_run::{Action, Confirmation};
+use scripted_runs::{RUN, Way};
 use std::test::Fail;
 
 #[test]
@@ -254,7 +255,7 @@ fn a_recipe_that_is_not_confirmed_does_not_run(rt: HostRuntime) -> Result<(), Fa
         "a",
         "confirm Run recipe `a`?; recipe `a` was not confirmed",
     )];
-    const NO: Way = Way {
+    const NO: Way<'static> = Way {
         confirmation: Confirmation::No,
         ..RUN
     };
@@ -268,7 +269,7 @@ fn nobody_is_asked_where_all_is_confirmed(rt: HostRuntime) -> Result<(), Fail> {
         "a",
         "echo b; echo a; ran",
     )];
-    const SURE: Way = Way { yes: true, ..RUN };
+    const SURE: Way<'static> = Way { yes: true, ..RUN };
     agree(&rt, rt.alloc(), SURE, ROWS)
 }
 
@@ -279,14 +280,14 @@ fn a_dry_run_asks_no_command(rt: HostRuntime) -> Result<(), Fail> {
         "a",
         "ran",
     )];
-    const DRY: Way = Way {
+    const DRY: Way<'static> = Way {
         dry_run: true,
         ..RUN
     };
     agree(&rt, rt.alloc(), DRY, ROWS)
 }
 
-const fn by(action: Action) -> Way {
+const fn by(action: Action) -> Way<'static> {
     Way { action, ..RUN }
 }
 

@@ -1,6 +1,5 @@
 //! Failures: the first ends the run and is named. A file of plain recipes runs the same by either way.
-use crate::driven::{RUN, Way, driven};
-use crate::scripted::Failing;
+use scripted_runs::{Failing, RUN, Way, driven};
 use std::alloc::{AllocError, Global};
 use std::process::Abort;
 use std::test::Fail;

@@ -4,12 +4,8 @@
 #[cfg(test)]
 mod actions;
 #[cfg(test)]
-mod driven;
-#[cfg(test)]
 mod failures;
 #[cfg(test)]
-mod scripted;
-#[cfg(test)]
-mod told;
+mod rows;
 #[cfg(test)]
 mod writes;

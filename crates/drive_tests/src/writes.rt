@@ -1,6 +1,6 @@
 //! Writes that fail: what went out is a beginning of the text, and the failed write is named.
-use crate::driven::{Given, RUN, Way, drive_into, given_of, host};
 use just_run::{Action, Collected, Device, Fault};
+use scripted_runs::{Given, RUN, Way, drive_into, given_of, host};
 use std::alloc::{AllocError, Global};
 use std::io::{Error, ErrorKind, Result as IoResult, Write};
 use std::process::Abort;

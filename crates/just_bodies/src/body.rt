@@ -3,8 +3,7 @@ ghost use Rattle.just_builtins.specs.Asking.{Asks};
 
 use crate::fault::RunFault;
 use crate::script::run_script;
-use crate::site::{Site, judge};
-use just_attributes::AttributeSet;
+use crate::site::{Site, folder_of, judge};
 use just_host::{CommandJob, Recorded, RunHost};
 use just_tree::{Line, Sigils};
 use justfile_evaluator::{Error, Evaluator, line_job};
@@ -73,18 +72,31 @@ fn line_words(alloc: Global, site: &Site) -> Result<Vec<String>, AllocError> {
     Ok(words)
 }
 
-/// What is handed over for a command.
-fn job(alloc: Global, site: &Site, command: &str) -> Result<CommandJob, AllocError> {
+/// What is handed over for a command in this folder.
+fn job_in(
+    alloc: Global,
+    site: &Site,
+    folder: Option<&str>,
+    command: &str,
+) -> Result<CommandJob, AllocError> {
     let words = line_words(alloc, site)?;
     line_job(
         alloc,
         site.context,
         site.env,
         site.scope,
-        site.folder,
+        folder,
         command,
         words.as_slice(),
     )
+}
+
+/// What is handed over for a command.
+fn job(alloc: Global, site: &Site, command: &str) -> Result<CommandJob, AllocError> {
+    match folder_of(alloc, site.context, site.attributes)? {
+        Some(folder) => job_in(alloc, site, Some(folder.as_str()), command),
+        None => job_in(alloc, site, None, command),
+    }
 }
 
 /// Hands a command over; whether the body goes on.
@@ -198,13 +210,12 @@ pub fn run_body<'src, H: RunHost + Drop>(
     host: &mut Recorded<H>,
     evaluator: &Evaluator<'_, 'src>,
     site: &Site<'_, 'src>,
-    attributes: &AttributeSet<'src>,
     body: &[Line<'src>],
 ) -> Result<(), RunFault<'src>>
     ensures asks { Asks H.goes host.old host.new }
 {
     if site.manner.is_script {
-        run_script(alloc, host, evaluator, site, attributes, body)
+        run_script(alloc, host, evaluator, site, body)
     } else {
         run_lines(alloc, host, evaluator, site, body)
     }

@@ -8,4 +8,4 @@ mod site;
 
 pub use body::run_body;
 pub use fault::RunFault;
-pub use site::{Manner, Site, folder_of};
+pub use site::{Manner, Site};

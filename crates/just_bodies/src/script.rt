@@ -2,7 +2,7 @@
 ghost use Rattle.just_builtins.specs.Asking.{Asks};
 
 use crate::fault::RunFault;
-use crate::site::{Site, extension_of, judge};
+use crate::site::{Site, extension_of, folder_of, judge};
 use just_attribute_tree::{Attribute, AttributeKind, Interpreter};
 use just_attributes::AttributeSet;
 use just_builtins::JobEnvironment;
@@ -126,12 +126,11 @@ fn interpreter<'src, H: RunHost + Drop>(
     host: &mut Recorded<H>,
     evaluator: &Evaluator<'_, 'src>,
     site: &Site<'_, 'src>,
-    attributes: &AttributeSet<'src>,
     lines: &[Text],
 ) -> Result<Sequence<Text>, Error<'src>>
     ensures asks { Asks H.goes host.old host.new }
 {
-    match attribute_words(alloc, host, evaluator, attributes, site.name)? {
+    match attribute_words(alloc, host, evaluator, site.attributes, site.name)? {
         Some(words) => Ok(words),
         None => Ok(default_words(alloc, site, lines)?),
     }
@@ -160,10 +159,7 @@ struct ScriptParts {
 /// What is handed over.
 fn job(alloc: Global, site: &Site, parts: ScriptParts) -> Result<ScriptJob, AllocError> {
     let positional = script_words(alloc, site)?;
-    let folder = match site.folder {
-        Some(folder) => Some(Text::from_text(alloc, folder)?),
-        None => None,
-    };
+    let folder = folder_of(alloc, site.context, site.attributes)?;
     let JobEnvironment { pairs, removed } = site
         .context
         .job_environment(alloc, site.env, site.scope)?;
@@ -179,7 +175,10 @@ fn job(alloc: Global, site: &Site, parts: ScriptParts) -> Result<ScriptJob, Allo
         extension,
         pairs,
         removed,
-        folder,
+        folder: match folder {
+            Some(folder) => Some(Text::from_string(folder)),
+            None => None,
+        },
     })
 }
 
@@ -206,7 +205,6 @@ pub(crate) fn run_script<'src, H: RunHost + Drop>(
     host: &mut Recorded<H>,
     evaluator: &Evaluator<'_, 'src>,
     site: &Site<'_, 'src>,
-    attributes: &AttributeSet<'src>,
     body: &[Line<'src>],
 ) -> Result<(), RunFault<'src>>
     ensures asks { Asks H.goes host.old host.new }
@@ -216,7 +214,7 @@ pub(crate) fn run_script<'src, H: RunHost + Drop>(
     if site.context.config.dry_run {
         return Ok(());
     }
-    hand_over(alloc, host, evaluator, site, attributes, lines)
+    hand_over(alloc, host, evaluator, site, lines)
 }
 
 /// Hands the script over.
@@ -225,14 +223,13 @@ fn hand_over<'src, H: RunHost + Drop>(
     host: &mut Recorded<H>,
     evaluator: &Evaluator<'_, 'src>,
     site: &Site<'_, 'src>,
-    attributes: &AttributeSet<'src>,
     lines: Vec<Text>,
 ) -> Result<(), RunFault<'src>>
     ensures asks { Asks H.goes host.old host.new }
 {
     let words = lines.as_slice();
-    let interpreter = interpreter(alloc, host, evaluator, site, attributes, words)?;
-    let extension = extension_of(alloc, attributes)?;
+    let interpreter = interpreter(alloc, host, evaluator, site, words)?;
+    let extension = extension_of(alloc, site.attributes)?;
     let parts = ScriptParts {
         interpreter,
         lines,

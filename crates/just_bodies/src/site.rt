@@ -7,7 +7,7 @@ use just_host::{Config, Pair, Status};
 use just_text::{Name, Text};
 use just_tree::{Line, Sigils};
 use just_value::{Scope, path};
-use justfile_evaluator::ExecutionContext;
+use justfile_evaluator::{ExecutionContext, passes_words};
 use std::alloc::{AllocError, Global};
 
 /// How a body runs, by its recipe's attributes and its module's settings.
@@ -37,8 +37,7 @@ impl Manner {
     ) -> Manner {
         let has_shebang = begins_shebang(body);
         Manner {
-            passes_words: settings.positional_arguments
-                || attributes.contains(AttributeKind::PositionalArguments),
+            passes_words: passes_words(settings, attributes),
             is_silent: is_silent(settings, attributes),
             is_quiet,
             hides_lines: settings.quiet && !attributes.contains(AttributeKind::NoQuiet),
@@ -80,8 +79,8 @@ pub struct Site<'a, 'src> {
     pub positional: &'a [String],
     /// The body's frame, inside the parameters'.
     pub scope: &'a Scope<'a, 'src>,
-    /// The folder of the commands, if they have one of their own.
-    pub folder: Option<&'a str>,
+    /// The recipe's attributes.
+    pub attributes: &'a AttributeSet<'src>,
     /// The recipe's name.
     pub name: Name<'src>,
     pub manner: Manner,
@@ -94,7 +93,7 @@ fn stays(settings: &Settings, attributes: &AttributeSet) -> bool {
 }
 
 /// The folder of the commands of a recipe with these attributes, if they have one of their own.
-pub fn folder_of(
+pub(crate) fn folder_of(
     alloc: Global,
     context: &ExecutionContext,
     attributes: &AttributeSet,

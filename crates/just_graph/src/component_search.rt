@@ -142,29 +142,3 @@ pub fn components(alloc: Global, graph: &[Vec<usize>]) -> Result<Vec<Option<usiz
     mark_all(alloc, &back, &order, &mut marks)?;
     Ok(marks)
 }
-
-#[cfg(test)]
-mod tests {
-    use super::*;
-    use std::test::Fail;
-
-    fn marks_of(alloc: Global, rows: &[&[usize]]) -> Result<Vec<Option<usize>>, AllocError> {
-        let mut graph = Vec::new(alloc);
-        for row in rows {
-            graph.push(row.to_vec(alloc)?)?;
-        }
-        components(alloc, &graph)
-    }
-
-    #[test]
-    fn circles_are_one_component(rt: HostRuntime) -> Result<(), Fail> {
-        let marks = marks_of(rt.alloc(), &[&[1], &[2, 3], &[0], &[4], &[3], &[5]])?;
-        assert_eq!(rt; marks.len(), 6);
-        assert_eq!(rt; marks[0], marks[1]);
-        assert_eq!(rt; marks[1], marks[2]);
-        assert_eq!(rt; marks[3], marks[4]);
-        assert_ne!(rt; marks[2], marks[3]);
-        assert_eq!(rt; marks[5], Some(5));
-        Ok(())
-    }
-}

@@ -9,7 +9,7 @@ ghost use Rattle.just_invocations.specs.Menus as spec;
 ghost use Rattle.just_invocations.specs.declared.menu.Slot.{Slot};
 
 use std::alloc::{AllocError, Global};
-use std::collections::BTreeMap;
+use std::collections::{BTreeMap, BTreeSet};
 
 /// A parameter of a recipe, as words see it.
 #[derive(Clone, Copy, Debug)]
@@ -164,11 +164,26 @@ impl<'a> Menu<'a> {
     {
         self.names.get(name).copied()
     }
+
+    /// Adds the places of the recipes that its names and its default stand for. Refused only where
+    /// memory is.
+    pub fn add_recipes(&self, places: &mut BTreeSet<usize>) -> Result<(), AllocError> {
+        if let Some(place) = self.default {
+            places.insert(place)?;
+        }
+        for meaning in self.names.values() {
+            if let Meaning::Recipe(place) = meaning {
+                places.insert(*place)?;
+            }
+        }
+        Ok(())
+    }
 }
 
-/// All recipes, and all modules, of which the first is the root.
+/// Recipes, and all modules, of which the first is the root.
 #[derive(Drop)]
 pub struct Menus<'a> {
+    /// The recipes by their places. One that no module names may stand here without its parameters.
     pub recipes: Vec<Callable<'a>>,
     pub modules: Vec<Menu<'a>>,
     /// Whether a call without words asks for the list of recipes.

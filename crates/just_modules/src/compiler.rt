@@ -46,6 +46,11 @@ fn exports_at(files: &[File<'_>], place: Place) -> bool {
     place.item < items.len() && is_exported(&items[place.item])
 }
 
+/// Whether this defines a variable that is exported by a word of its own.
+fn exports(files: &[File<'_>], definition: &Definition<'_>) -> bool {
+    definition.kind == Kind::Variable && exports_at(files, definition.place)
+}
+
 /// Refuses a variable that is exported and whose name is not to be.
 fn check_exports<'src>(
     alloc: Global,
@@ -54,7 +59,7 @@ fn check_exports<'src>(
 ) -> Result<(), Error<'src>> {
     let unexported = unexported(alloc, definitions)?;
     for definition in definitions {
-        if exports_at(files, definition.place) && unexported.contains(definition.text) {
+        if exports(files, definition) && unexported.contains(definition.text) {
             return Err(Error::ExportUnexported(definition.name));
         }
     }

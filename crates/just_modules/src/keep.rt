@@ -68,7 +68,7 @@ pub fn kept<'src>(
     definitions: &[Definition<'src>],
     truths: &Truths,
 ) -> Result<Vec<Definition<'src>>, Error<'src>> {
-    let mut kept: Vec<Definition<'src>> = Vec::new(alloc);
+    let mut kept: Vec<Definition<'src>> = Vec::with_capacity(alloc, definitions.len())?;
     for next in definitions {
         let mut kept_one = *next;
         if let Some(one) = merged(kept.last(), next, truths)? {

@@ -8,7 +8,7 @@ ghost use Rattle.just_recipes.specs.Cooked.{AreFragmentsCooked, IsBodyCooked, Is
 ghost use Rattle.just_recipes.specs.RecipeSeen.{blank_line_at, if_taken};
 ghost use Rattle.just_recipes.specs.RecipeReading.{body_at, eol_at, line_at, lines_at, piece_at, pieces_at};
 
-use crate::shrinking::shrunk;
+use crate::shrinking::{push_compact, shrunk};
 use just_expressions::{Cursor, Fault};
 use just_text::{Expander, TokenKind, both};
 use just_tree::{Fragment, Line};
@@ -103,7 +103,7 @@ fn fragments<'src, E: Expander>(
 {
     let mut fragments = Vec::new(alloc);
     while let Some(fragment) = fragment(cursor, expander)? {
-        fragments.push(fragment)?;
+        push_compact(&mut fragments, fragment)?;
     }
     Ok(fragments)
 }
@@ -138,7 +138,7 @@ fn lines<'src, E: Expander>(
 {
     let mut lines = Vec::new(alloc);
     while cursor.accept(TokenKind::Dedent).is_none() {
-        lines.push(line(alloc, cursor, expander)?)?;
+        push_compact(&mut lines, line(alloc, cursor, expander)?)?;
     }
     Ok(lines)
 }

@@ -9,7 +9,7 @@ ghost use Rattle.just_recipes.specs.RecipeReading.{argument_at, arguments_at, de
 
 use crate::parameter::marked;
 use crate::path::namepath;
-use crate::shrinking::shrunk;
+use crate::shrinking::{push_compact, shrunk};
 use just_expressions::{Cursor, Fault};
 use just_text::{CompileErrorKind, Expander, Token, TokenKind};
 use just_tree::{DependencyArgument, UnresolvedDependency};
@@ -43,7 +43,7 @@ fn arguments_to_end<'src, E: Expander>(
 {
     let mut arguments = Vec::new(alloc);
     while cursor.accept(TokenKind::ParenR).is_none() {
-        arguments.push(argument(cursor, expander)?)?;
+        push_compact(&mut arguments, argument(cursor, expander)?)?;
     }
     Ok(arguments)
 }
@@ -115,7 +115,7 @@ pub fn dependencies<'src, E: Expander>(
 {
     let mut dependencies = Vec::new(alloc);
     while let Some(dependency) = dependency(alloc, cursor, expander)? {
-        dependencies.push(dependency)?;
+        push_compact(&mut dependencies, dependency)?;
     }
     Ok(dependencies)
 }

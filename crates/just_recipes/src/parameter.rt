@@ -12,6 +12,7 @@ ghost use Rattle.just_expressions.specs.Reading.{Gives, ahead};
 ghost use Rattle.just_recipes.specs.RecipeReading.{default_at, kind_at, last_at, marked_at, named_at, parameter_ahead, parameter_at, parameters_at};
 
 use crate::numbering::next_binding;
+use crate::shrinking::push_compact;
 use just_expression_tree::Expression;
 use just_expressions::{Cursor, Fault};
 use just_text::{CompileErrorKind, Expander, Name, Numerator, Text, Token, TokenKind};
@@ -173,7 +174,7 @@ pub fn parameters<'src, E: Expander>(
     while let Some(parameter) = parameter(cursor, expander, numerator)? {
         let name = parameter.name;
         let is_variadic = parameter.kind.is_variadic();
-        parameters.push(parameter)?;
+        push_compact(&mut parameters, parameter)?;
         remember(alloc, &mut names, &name)?;
         if is_variadic {
             check_last(alloc, cursor)?;

@@ -8,7 +8,7 @@ use std::alloc::{AllocError, Global};
 
 /// The ranks of these places.
 fn ranks_at(alloc: Global, ranks: &[usize], places: &[usize]) -> Result<Vec<usize>, AllocError> {
-    let mut found = Vec::new(alloc);
+    let mut found = Vec::with_capacity(alloc, places.len())?;
     for place in places {
         if let Some(rank) = ranks.get(*place) {
             found.push(*rank)?;

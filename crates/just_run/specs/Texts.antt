@@ -13,7 +13,7 @@ use Rattle.just_tasks.specs.declared.task.Performed.TheVariants.{Ran, Evaluated}
 use Rattle.just_run.specs.declared.fault.Fault.{Fault}
 use Rattle.just_run.specs.declared.fault.Fault.TheVariants.{OutOfMemory, NotPrintable}
 use Rattle.just_run.specs.declared.outcome.Outcome.{Outcome}
-use Rattle.just_run.specs.declared.outcome.Outcome.TheVariants.{Formatted}
+use Rattle.just_run.specs.declared.outcome.Outcome.TheVariants as outcomes
 
 -- a file's text in the indentation that it sets, else with four spaces
 abbrev pub formatted_text : Os → List Item → List ℕ
@@ -47,9 +47,14 @@ abbrev pub performed_text : Performed → List ℕ
 performed_text Ran = []
 performed_text (Evaluated text) = string_bytes text
 
+-- what is answered of what came of a task
+abbrev pub performed_outcome : Performed → Outcome
+performed_outcome Ran = outcomes.Ran
+performed_outcome (Evaluated text) = outcomes.Evaluated
+
 -- The path and the text are answered where there is a text; the path is refused where there is none, unless memory ran out.
 abbrev pub IsFormatted : List ℕ → Option (List ℕ) → Result Outcome Fault → Type 0
-IsFormatted path (Some text) (Ok outcome) = outcome ≡ Formatted path text
+IsFormatted path (Some text) (Ok outcome) = outcome ≡ outcomes.Formatted path text
 IsFormatted path None (Ok outcome) = ⊥
 IsFormatted path text (Err OutOfMemory) = Unit {0}
 IsFormatted path None (Err (NotPrintable refused)) = refused ≡ path

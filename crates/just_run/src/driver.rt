@@ -251,7 +251,7 @@ pub fn drive<'src, E: Expander, H: RunHost + Drop, O: Out>(
 ) -> Result<Outcome, Fault<'src>>
     // Where no root file that can be read says more than plain recipes, a run is one of plain recipes.
     ensures plain { action ≡ Run → IsPlain (inputs_of (reader_of (E.expansion expander.now) config.now.version) sources.now roots.now words.now) → AnswersPlain H.goes (inputs_of (reader_of (E.expansion expander.now) config.now.version) sources.now roots.now words.now) (setup_of config.now) result host.old host.new }
-    // Where the call is refused nothing is written, or a beginning where the output takes no more.
+    // Where the call is refused nothing is written, unless the output takes no more.
     ensures kept { IfErr result (λ fault. IsKept (O.written out.old) fault (O.written out.new)) }
     // A run of plain recipes writes nothing.
     ensures unwritten { action ≡ Run → IsPlain (inputs_of (reader_of (E.expansion expander.now) config.now.version) sources.now roots.now words.now) → O.written out.new ≡ O.written out.old }

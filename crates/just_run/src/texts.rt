@@ -1,11 +1,12 @@
 //! Texts that are written or answered.
-ghost use Rattle.std.specs.Prelude.{◌≡◌, ◌++◌, IfErr, IfOk, OnErr, OnOk, slice_get};
+ghost use Rattle.std.specs.Prelude.{◌≡◌, ◌++◌, ◌+◌, ◌<◌, ◌^◌, IfErr, IfOk, OnErr, OnOk, slice_get};
 ghost use Rattle.std.specs.String.{string_bytes};
 ghost use Rattle.just_plain_run.specs.Out.{IsPartOf};
 ghost use Rattle.justfile_analyzer.specs.Justfiles.{place_of};
 ghost use Rattle.justfile_analyzer.specs.Listings.{listing};
-ghost use Rattle.just_run.specs.Texts.{IsFormatted, answered_text, dumped_text, file_place, formatted_text, performed_text, printed_text, root_file};
-ghost use Rattle.just_run.specs.Writes.{IsKept};
+ghost use Rattle.just_run.specs.Texts.{IsFormatted, answered_text, dumped_text, file_place, formatted_text, performed_outcome, performed_text, printed_text, root_file};
+ghost use Rattle.just_run.specs.Writes.{IsKept, Writes};
+ghost use Rattle.just_run.specs.declared.outcome.Outcome.TheVariants as outcomes;
 ghost use Rattle.just_run.specs.declared.request.RootText.TheVariants as texts;
 
 use crate::fault::Fault;
@@ -25,6 +26,8 @@ const FOUR_SPACES: &str = "    ";
 fn write_text<O: Out>(out: &mut O, text: &str) -> Result<(), WriteFailed>
     ensures whole { OnOk result (O.written out.new ≡ O.written out.old ++ text.now) }
     ensures part { OnErr result (IsPartOf (O.written out.old) text.now (O.written out.new)) }
+    ensures quiet { OnOk result (O.failed out.new ≡ O.failed out.old) }
+    ensures told { OnErr result (O.failed out.old + 1 < 2 ^ 64 → O.failed out.new ≡ O.failed out.old + 1) }
 {
     if out.failures() == u64::MAX {
         return Err(WriteFailed);
@@ -70,7 +73,7 @@ pub(crate) fn write_performed<'src, O: Out>(
     out: &mut O,
 ) -> Result<Outcome, Fault<'src>>
     ensures kept { IfErr result (λ fault. IsKept (O.written out.old) fault (O.written out.new)) }
-    ensures wrote { IfOk result (λ _. O.written out.new ≡ O.written out.old ++ performed_text performed) }
+    ensures wrote { Writes (record { written = O.written out.old; failed = O.failed out.old }) (performed_text performed) (performed_outcome performed) result (record { written = O.written out.new; failed = O.failed out.new }) }
 {
     match performed {
         Performed::Ran => Ok(Outcome::Ran),
@@ -148,7 +151,7 @@ fn write_told<'src, O: Out>(
     outcome: Outcome,
 ) -> Result<Outcome, Fault<'src>>
     ensures kept { IfErr result (λ fault. IsKept (O.written out.old) fault (O.written out.new)) }
-    ensures wrote { IfOk result (λ _. O.written out.new ≡ O.written out.old ++ string_bytes text) }
+    ensures wrote { Writes (record { written = O.written out.old; failed = O.failed out.old }) (string_bytes text) outcome result (record { written = O.written out.new; failed = O.failed out.new }) }
 {
     write_text(out, text.as_str())?;
     Ok(outcome)
@@ -161,7 +164,7 @@ fn list<'src, O: Out>(
     out: &mut O,
 ) -> Result<Outcome, Fault<'src>>
     ensures kept { IfErr result (λ fault. IsKept (O.written out.old) fault (O.written out.new)) }
-    ensures wrote { IfOk result (λ _. O.written out.new ≡ O.written out.old ++ listing compilation.now 0) }
+    ensures wrote { Writes (record { written = O.written out.old; failed = O.failed out.old }) (listing compilation.now 0) outcomes.Listed result (record { written = O.written out.new; failed = O.failed out.new }) }
 {
     let text = root_listing(alloc, compilation)?;
     write_told(out, text, Outcome::Listed)
@@ -175,7 +178,7 @@ fn dump<'src, O: Out>(
     out: &mut O,
 ) -> Result<Outcome, Fault<'src>>
     ensures kept { IfErr result (λ fault. IsKept (O.written out.old) fault (O.written out.new)) }
-    ensures wrote { IfOk result (λ _. O.written out.new ≡ O.written out.old ++ dumped_text os (root_file compilation.now)) }
+    ensures wrote { Writes (record { written = O.written out.old; failed = O.failed out.old }) (dumped_text os (root_file compilation.now)) outcomes.Dumped result (record { written = O.written out.new; failed = O.failed out.new }) }
 {
     let text = root_text(alloc, compilation, os)?;
     write_told(out, text, Outcome::Dumped)
@@ -204,9 +207,10 @@ pub(crate) fn tell<'src, O: Out>(
     out: &mut O,
 ) -> Result<Outcome, Fault<'src>>
     ensures kept { IfErr result (λ fault. IsKept (O.written out.old) fault (O.written out.new)) }
-    ensures listed { text ≡ texts.List → IfOk result (λ _. O.written out.new ≡ O.written out.old ++ listing compilation.now 0) }
-    ensures dumped { text ≡ texts.Dump → IfOk result (λ _. O.written out.new ≡ O.written out.old ++ dumped_text os (root_file compilation.now)) }
+    ensures listed { text ≡ texts.List → Writes (record { written = O.written out.old; failed = O.failed out.old }) (listing compilation.now 0) outcomes.Listed result (record { written = O.written out.new; failed = O.failed out.new }) }
+    ensures dumped { text ≡ texts.Dump → Writes (record { written = O.written out.old; failed = O.failed out.old }) (dumped_text os (root_file compilation.now)) outcomes.Dumped result (record { written = O.written out.new; failed = O.failed out.new }) }
     ensures formatted { text ≡ texts.Format → IsFormatted path.now (answered_text os (root_file compilation.now)) result }
+    ensures unwritten { text ≡ texts.Format → O.written out.new ≡ O.written out.old }
 {
     match text {
         RootText::List => list(alloc, compilation, out),

@@ -1,5 +1,4 @@
 //! What a block of dependencies calls.
-ghost use Rattle.std.specs.Prelude.{◌<◌, length};
 ghost use Rattle.just_builtins.specs.Asking.{Asks};
 
 use crate::call::Call;
@@ -28,18 +27,23 @@ fn arguments<'src, H: RunHost + Drop>(
 ) -> Result<Vec<Value>, Error<'src>>
     ensures asks { Asks H.goes host.old host.new }
 {
-    let mut values = Vec::new(alloc);
+    let mut values = Vec::with_capacity(alloc, arguments.len())?;
     for argument in arguments {
         values.push(evaluator.evaluate_value(alloc, host, &argument.expression)?)?;
     }
     Ok(values)
 }
 
-/// All elements of the values.
-fn concatenated(alloc: Global, values: &[Value]) -> Result<Value, AllocError> {
+/// The value, in whose place the empty list is left.
+fn taken(alloc: Global, value: &mut Value) -> Value {
+    mem::replace(value, Value::new(alloc))
+}
+
+/// All elements of the values, in whose places empty lists are left.
+fn concatenated(alloc: Global, values: &mut [Value]) -> Result<Value, AllocError> {
     let mut all = Value::new(alloc);
     for value in values {
-        all.append(value.clone()?)?;
+        all.append(taken(alloc, value))?;
     }
     Ok(all)
 }
@@ -48,7 +52,7 @@ fn concatenated(alloc: Global, values: &[Value]) -> Result<Value, AllocError> {
 /// takes any number, or nothing.
 fn group(
     alloc: Global,
-    values: &[Value],
+    values: &mut [Value],
     place: usize,
     is_variadic: bool,
 ) -> Result<Value, AllocError> {
@@ -56,19 +60,19 @@ fn group(
         return Ok(Value::new(alloc));
     }
     if is_variadic {
-        concatenated(alloc, &values[place..])
+        concatenated(alloc, &mut values[place..])
     } else {
-        values[place].clone()
+        Ok(taken(alloc, &mut values[place]))
     }
 }
 
-/// The groups of all parameters.
+/// The groups of all parameters, of the values, in whose places empty lists are left.
 fn groups(
     alloc: Global,
     parameters: &[Parameter],
-    values: &[Value],
+    values: &mut [Value],
 ) -> Result<Vec<Value>, AllocError> {
-    let mut groups = Vec::new(alloc);
+    let mut groups = Vec::with_capacity(alloc, parameters.len())?;
     for (place, parameter) in parameters.iter().enumerate() {
         groups.push(group(alloc, values, place, parameter.kind.is_variadic())?)?;
     }
@@ -80,30 +84,30 @@ fn push_call(
     alloc: Global,
     calls: &mut Vec<Call>,
     callee: Callee,
-    values: &[Value],
+    mut values: Vec<Value>,
 ) -> Result<(), AllocError> {
-    let groups = groups(alloc, callee.parameters, values)?;
+    let groups = groups(alloc, callee.parameters, values.as_mut_slice())?;
     let recipe = callee.place;
     Ok(calls.push(Call { recipe, groups })?)
 }
 
-/// Puts a call for each element behind the others, in which it stands for the argument at this
-/// place.
-fn push_each(
+/// The values, with the element for the one at this place.
+fn with_element(
     alloc: Global,
-    calls: &mut Vec<Call>,
-    callee: Callee,
-    values: &mut [Value],
+    values: &[Value],
     star: usize,
-    elements: &[String],
-) -> Result<(), AllocError>
-    requires { star < length values.old }
-{
-    for element in elements {
-        values[star] = Value::from_text(alloc, element.as_str())?;
-        push_call(alloc, calls, callee, &*values)?;
+    element: &str,
+) -> Result<Vec<Value>, AllocError> {
+    let mut all = Vec::with_capacity(alloc, values.len())?;
+    for (place, value) in values.iter().enumerate() {
+        let value = if place == star {
+            Value::from_text(alloc, element)?
+        } else {
+            value.clone()?
+        };
+        all.push(value)?;
     }
-    Ok(())
+    Ok(all)
 }
 
 /// Puts a call for each element of the argument at this place behind the others.
@@ -111,14 +115,17 @@ fn push_starred(
     alloc: Global,
     calls: &mut Vec<Call>,
     callee: Callee,
-    values: &mut [Value],
+    values: &[Value],
     star: usize,
 ) -> Result<(), AllocError> {
-    if star >= values.len() {
+    let Some(starred) = values.get(star) else {
         return Ok(());
+    };
+    for element in starred.elements() {
+        let values = with_element(alloc, values, star, element.as_str())?;
+        push_call(alloc, calls, callee, values)?;
     }
-    let starred = mem::replace(&mut values[star], Value::new(alloc));
-    push_each(alloc, calls, callee, values, star, starred.elements())
+    Ok(())
 }
 
 /// Puts the calls of a dependency behind the others.
@@ -133,14 +140,8 @@ fn push_dependency<'src, H: RunHost + Drop>(
     ensures asks { Asks H.goes host.old host.new }
 {
     let written = dependency.arguments.as_slice();
-    let mut values = arguments(alloc, host, evaluator, written)?;
-    Ok(push_calls(
-        alloc,
-        calls,
-        callee,
-        values.as_mut_slice(),
-        starred_place(written),
-    )?)
+    let values = arguments(alloc, host, evaluator, written)?;
+    Ok(push_calls(alloc, calls, callee, values, starred_place(written))?)
 }
 
 /// The place of the argument that is starred, if one is.
@@ -153,12 +154,12 @@ fn push_calls(
     alloc: Global,
     calls: &mut Vec<Call>,
     callee: Callee,
-    values: &mut [Value],
+    values: Vec<Value>,
     star: Option<usize>,
 ) -> Result<(), AllocError> {
     match star {
-        Some(star) => push_starred(alloc, calls, callee, values, star),
-        None => push_call(alloc, calls, callee, &*values),
+        Some(star) => push_starred(alloc, calls, callee, values.as_slice(), star),
+        None => push_call(alloc, calls, callee, values),
     }
 }
 
@@ -176,7 +177,7 @@ pub(crate) fn block<'src, H: RunHost + Drop>(
 {
     let recipes = runner.recipes;
     let modules = runner.contexts.len();
-    let mut calls = Vec::new(alloc);
+    let mut calls = Vec::with_capacity(alloc, dependencies.len())?;
     for (dependency, place) in dependencies.iter().zip(places) {
         let place = *place;
         if place >= recipes.len() || recipes[place].module >= modules {

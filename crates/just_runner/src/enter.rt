@@ -6,7 +6,7 @@ use crate::call::Call;
 use crate::confirm::confirm;
 use crate::frame::Entered;
 use crate::plan::{Placed, Runner};
-use just_bodies::{Manner, RunFault, Site, folder_of, run_body};
+use just_bodies::{Manner, RunFault, Site, run_body};
 use just_host::{Recorded, RunHost};
 use just_text::Name;
 use just_tree::Parameter;
@@ -87,23 +87,24 @@ fn evaluator<'a, 'src>(
     Evaluator::new(context, env, entered.is_dependency, Some(recipe), scope)
 }
 
-/// Where the body of a recipe runs, which has this frame.
+/// Where the body of the recipe runs, which has this frame.
 fn site<'a, 'src>(
-    context: &'a ExecutionContext<'a, 'src>,
-    name: Name<'src>,
+    placed: &'a Placed<'a, 'src>,
     entered: &'a Entered<'a, 'src>,
     scope: &'a Scope<'a, 'src>,
-    folder: Option<&'a str>,
-    manner: Manner,
 ) -> Site<'a, 'src> {
+    let recipe = placed.planned.recipe;
+    let context = placed.context;
+    let attributes = &recipe.attributes;
+    let body = recipe.body.as_slice();
     Site {
         context,
         env: entered.env.as_slice(),
         positional: entered.positional.as_slice(),
         scope,
-        folder,
-        name,
-        manner,
+        attributes,
+        name: recipe.name,
+        manner: Manner::of(context.module.settings, attributes, recipe.quiet, body),
     }
 }
 
@@ -133,27 +134,6 @@ fn confirmed<'src, H: RunHost + Drop>(
     block(alloc, host, &evaluator, runner, priors, planned.priors)
 }
 
-/// Runs the recipe's body in this folder.
-fn run_in<'src, H: RunHost + Drop>(
-    alloc: Global,
-    host: &mut Recorded<H>,
-    evaluator: &Evaluator<'_, 'src>,
-    placed: &Placed<'_, 'src>,
-    entered: &Entered<'_, 'src>,
-    scope: &Scope<'_, 'src>,
-    folder: Option<&str>,
-) -> Result<(), RunFault<'src>>
-    ensures asks { Asks H.goes host.old host.new }
-{
-    let recipe = placed.planned.recipe;
-    let context = placed.context;
-    let body = recipe.body.as_slice();
-    let attributes = &recipe.attributes;
-    let manner = Manner::of(context.module.settings, attributes, recipe.quiet, body);
-    let site = site(context, recipe.name, &*entered, &*scope, folder, manner);
-    run_body(alloc, host, evaluator, &site, attributes, body)
-}
-
 /// Runs the recipe's body.
 fn run<'src, H: RunHost + Drop>(
     alloc: Global,
@@ -165,13 +145,9 @@ fn run<'src, H: RunHost + Drop>(
 ) -> Result<(), RunFault<'src>>
     ensures asks { Asks H.goes host.old host.new }
 {
-    let recipe = placed.planned.recipe;
-    let folder = folder_of(alloc, placed.context, &recipe.attributes)?;
-    let folder = match &folder {
-        Some(folder) => Some(folder.as_str()),
-        None => None,
-    };
-    run_in(alloc, host, evaluator, placed, entered, scope, folder)
+    let site = site(placed, &*entered, &*scope);
+    let body = placed.planned.recipe.body.as_slice();
+    run_body(alloc, host, evaluator, &site, body)
 }
 
 /// Runs the body in its frame, and gives the calls behind it, unless dependencies are left out.

@@ -32,7 +32,7 @@ impl<'src> Namepath<'src> {
     pub fn from_name(alloc: Global, name: Name<'src>) -> Result<Namepath<'src>, AllocError>
         ensures { IfOk result (λ p. p ≡ name.entry ∷ []) }
     {
-        let mut names = Vec::new(alloc);
+        let mut names = Vec::with_capacity(alloc, 1)?;
         names.push(name)?;
         Ok(Namepath { names })
     }

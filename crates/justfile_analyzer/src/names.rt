@@ -4,7 +4,7 @@ use just_builtins::Settings;
 use just_compilation::{Compilation, ModuleNode, Place};
 use just_invocations::{Callable, Meaning, Menu, Menus, Slot};
 use just_text::Text;
-use just_tree::{Parameter, ParameterKind, Recipe, UnresolvedDependency};
+use just_tree::{Parameter, ParameterKind};
 use std::alloc::{AllocError, Global};
 use std::collections::BTreeSet;
 
@@ -30,38 +30,63 @@ fn slot<'a>(parameter: &'a Parameter) -> Slot<'a> {
 }
 
 fn slots<'a>(alloc: Global, parameters: &'a [Parameter]) -> Result<Vec<Slot<'a>>, AllocError> {
-    let mut slots = Vec::new(alloc);
+    let mut slots = Vec::with_capacity(alloc, parameters.len())?;
     for parameter in parameters {
         slots.push(slot(parameter))?;
     }
     Ok(slots)
 }
 
-/// The recipe, as words see it.
-fn callable<'a, 'src>(
+/// The parameters of the recipe that stands at this place, as words see them.
+fn slots_at<'a, 'src>(
     alloc: Global,
-    recipe: &'a Recipe<'src, UnresolvedDependency<'src>>,
-) -> Result<Callable<'a>, AllocError> {
-    Ok(Callable {
-        name: recipe.name.lexeme(),
-        slots: slots(alloc, recipe.parameters.as_slice())?,
-    })
+    compilation: &'a Compilation<'src>,
+    place: Place,
+) -> Result<Vec<Slot<'a>>, AllocError> {
+    match compilation.recipe(place) {
+        Some(recipe) => slots(alloc, recipe.parameters.as_slice()),
+        None => Ok(Vec::new(alloc)),
+    }
 }
 
-/// The recipes in their order, as far as one stands at each place.
+/// The recipe as words see it, without its parameters where none can name it.
+fn callable<'a, 'src>(
+    alloc: Global,
+    compilation: &'a Compilation<'src>,
+    resolved: &ResolvedRecipe<'a>,
+    is_named: bool,
+) -> Result<Callable<'a>, AllocError> {
+    let name = resolved.name.lexeme();
+    let slots = if is_named {
+        slots_at(alloc, compilation, resolved.place)?
+    } else {
+        Vec::new(alloc)
+    };
+    Ok(Callable { name, slots })
+}
+
+/// The recipes in their order; those of these places with their parameters.
 fn callables<'a, 'src>(
     alloc: Global,
     compilation: &'a Compilation<'src>,
-    recipes: &[ResolvedRecipe<'src>],
+    recipes: &[ResolvedRecipe<'a>],
+    named: &BTreeSet<usize>,
 ) -> Result<Vec<Callable<'a>>, AllocError> {
-    let mut all = Vec::new(alloc);
-    for resolved in recipes {
-        let Some(recipe) = compilation.recipe(resolved.place) else {
-            return Ok(all);
-        };
-        all.push(callable(alloc, recipe)?)?;
+    let mut all = Vec::with_capacity(alloc, recipes.len())?;
+    for (place, resolved) in recipes.iter().enumerate() {
+        let is_named = named.contains(&place);
+        all.push(callable(alloc, compilation, resolved, is_named)?)?;
     }
     Ok(all)
+}
+
+/// The places of the recipes that the modules name.
+fn named_recipes(alloc: Global, modules: &[Menu]) -> Result<BTreeSet<usize>, AllocError> {
+    let mut places = BTreeSet::new(alloc);
+    for module in modules {
+        module.add_recipes(&mut places)?;
+    }
+    Ok(places)
 }
 
 /// The names that stand in the words, as a recipe's or on a path.
@@ -225,7 +250,8 @@ pub fn menus<'a, 'src>(
 ) -> Result<Menus<'a>, AllocError> {
     let wanted = names_in(alloc, words)?;
     let modules = all_menus(alloc, compilation, table, &wanted)?;
-    let recipes = callables(alloc, compilation, table.recipes.as_slice())?;
+    let named = named_recipes(alloc, modules.as_slice())?;
+    let recipes = callables(alloc, compilation, table.recipes.as_slice(), &named)?;
     Ok(Menus {
         recipes,
         modules,

@@ -21,4 +21,4 @@ pub use just_value::{
     Bindings, Bound, CONSTANT_COUNT, ConstError, ConstEvalError, Enclosure, Frame, List, Override,
     Positional, Scope, StringContext, Ticked, Value, ValueFault, constants, encode_uri_component,
 };
-pub use parameters::{BoundParameters, evaluate_parameters};
+pub use parameters::{BoundParameters, evaluate_parameters, passes_words};

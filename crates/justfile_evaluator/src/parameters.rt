@@ -1,9 +1,9 @@
 //! What a recipe's parameters stand for.
 ghost use Rattle.just_builtins.specs.Asking.{Asks};
 
-use just_attribute_tree::Attribute;
-use just_attributes::AttributeItem;
-use just_builtins::{Error, ExecutionContext};
+use just_attribute_tree::{Attribute, AttributeKind};
+use just_attributes::{AttributeItem, AttributeSet};
+use just_builtins::{Error, ExecutionContext, Settings};
 use just_evaluation::{Evaluator, internal};
 use just_expression_tree::Expression;
 use just_host::{Host, Pair, Recorded};
@@ -15,10 +15,15 @@ use std::alloc::{AllocError, Global};
 /// What a recipe is given beside the frame of its parameters.
 #[derive(Drop)]
 pub struct BoundParameters {
-    /// The parameters' values as words.
+    /// The parameters' values as words, where the recipe's commands get them.
     pub positional: Vec<String>,
     /// What `env` attributes give to commands. Of pairs of one name the last counts.
     pub env: Vec<Pair>,
+}
+
+/// Whether the commands of a recipe with these attributes get the parameters' values as words.
+pub fn passes_words(settings: &Settings, attributes: &AttributeSet) -> bool {
+    settings.positional_arguments || attributes.contains(AttributeKind::PositionalArguments)
 }
 
 /// Where parameters are evaluated.
@@ -26,6 +31,8 @@ pub struct BoundParameters {
 struct Site<'a, 'src> {
     context: &'a ExecutionContext<'a, 'src>,
     is_dependency: bool,
+    /// Whether the recipe's commands get the parameters' values as words.
+    passes_words: bool,
     recipe: Name<'src>,
 }
 
@@ -179,9 +186,9 @@ fn push_positional(
     }
 }
 
-/// What the name is bound to: the value under `lists`, else its join.
+/// What the name is bound to: the value under `lists`, else its join, which of one element is that.
 fn bound_value(alloc: Global, lists: bool, value: Value) -> Result<Value, AllocError> {
-    if lists {
+    if lists || value.len() == 1 {
         Ok(value)
     } else {
         Value::from_string(alloc, value.join(alloc)?)
@@ -207,17 +214,20 @@ fn check_count<'src, F: Fn(&Parameter, usize) -> bool>(
     })
 }
 
-/// Binds the value in the frame, and puts it behind the words.
+/// Binds the value in the frame, and puts it behind the words, if there are any.
 fn bind_parameter<'src>(
     alloc: Global,
     scope: &mut Scope<'_, 'src>,
     positional: &mut Vec<String>,
     parameter: &Parameter<'src>,
-    lists: bool,
+    site: &Site<'_, 'src>,
     value: Value,
 ) -> Result<(), AllocError> {
-    let each = parameter.kind.is_variadic() || parameter.multiple;
-    push_positional(alloc, positional, &value, each)?;
+    if site.passes_words {
+        let each = parameter.kind.is_variadic() || parameter.multiple;
+        push_positional(alloc, positional, &value, each)?;
+    }
+    let lists = site.context.module.settings.lists;
     let value = bound_value(alloc, lists, value)?;
     scope.bind_value(parameter.name, parameter.number, parameter.export, value)
 }
@@ -236,12 +246,11 @@ fn bind_parameters<'src, H: Host + Drop, F: Fn(&Parameter, usize) -> bool>(
     requires { F.IsAlwaysCallable check.now }
     ensures asks { Asks H.goes host.old host.new }
 {
-    let lists = site.context.module.settings.lists;
     let mut positional = Vec::new(alloc);
     for (parameter, group) in parameters.iter().zip(groups) {
         let value = parameter_value(alloc, host, site, env, &*scope, parameter, group)?;
         check_count(site.recipe, parameter, value.len(), check)?;
-        bind_parameter(alloc, scope, &mut positional, parameter, lists, value)?;
+        bind_parameter(alloc, scope, &mut positional, parameter, site, value)?;
     }
     Ok(positional)
 }
@@ -269,6 +278,7 @@ pub fn evaluate_parameters<'src, H: Host + Drop, D, F: Fn(&Parameter, usize) -> 
     let site = Site {
         context,
         is_dependency,
+        passes_words: passes_words(context.module.settings, &recipe.attributes),
         recipe: recipe.name,
     };
     let env = attribute_pairs(alloc, host, &site, &*scope, recipe)?;

@@ -1,10 +1,12 @@
-//! Tests of values, lists, paths, words and constants, of hosts over records, and of orders.
+//! Tests of values, lists, paths, words and constants, of hosts over records, of orders and of graphs.
 #![tactic(auto)]
 
 #[cfg(test)]
 mod constants;
 #[cfg(test)]
 mod faults;
+#[cfg(test)]
+mod graphs;
 #[cfg(test)]
 mod lists;
 #[cfg(test)]

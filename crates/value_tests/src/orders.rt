@@ -5,7 +5,7 @@ use std::alloc::{AllocError, Global};
 use std::test::Fail;
 
 /// The lists, each copied.
-fn copied(alloc: Global, rows: &[&[usize]]) -> Result<Vec<Vec<usize>>, AllocError> {
+pub(crate) fn copied(alloc: Global, rows: &[&[usize]]) -> Result<Vec<Vec<usize>>, AllocError> {
     let mut needs = Vec::new(alloc);
     for row in rows {
         needs.push(row.to_vec(alloc)?)?;

@@ -35,7 +35,7 @@ loop-fragments-preserved g c =
     let is : c.in_ok-fragment.field-0 ≡ Some c.in-Some.fragment = cc c.in-Some.is in
     let read : piece_at word_of x (ahead l.cursor) ≡ Ok (Some (piece_of c.in-Some.fragment), ahead c.fragment.new.cursor) = rw is at c.in_ok-fragment.ensures.gives in
     let less = piece_shrinks word_of x (ahead l.cursor) (Some (piece_of c.in-Some.fragment), ahead c.fragment.new.cursor) read in
-    let pushed : c.push.new.self.items ≡ l.fragments.items ++ c.in-Some.fragment ∷ [] = search rules in
+    let pushed : c.push_compact.new.list.items ≡ l.fragments.items ++ c.in-Some.fragment ∷ [] = search rules in
     (l.invariant.0 - 1, omega (arith, less, l.invariant.1), rw pushed (one_more piece_of (piece_at word_of x) l.fragments.items l.invariant.0 (ahead l.cursor) _ l.invariant.1 l.invariant.2 c.in-Some.fragment (ahead c.fragment.new.cursor) read), rw pushed (all_more (IsFragmentCooked x) l.fragments.items c.in-Some.fragment l.invariant.3 (rw is at c.in_ok-fragment.ensures.cooked)))
 
 pub returns-clause-gives : goal.returns-clause-gives

@@ -41,7 +41,7 @@ loop-alloc-preserved g c =
     let same : ahead c.accept.new.self ≡ ahead l.cursor = grind arith in
     let read : line_at word_of x (ahead l.cursor) ≡ Ok (pieces_of c.in_ok-line.field-0, ahead c.line.new.cursor) = rw same at c.in_ok-line.ensures.gives in
     let less = line_shorter word_of x (ahead l.cursor) (pieces_of c.in_ok-line.field-0, ahead c.line.new.cursor) read in
-    let pushed : c.push.new.self.items ≡ l.lines.items ++ c.in_ok-line.field-0 ∷ [] = search rules in
+    let pushed : c.push_compact.new.list.items ≡ l.lines.items ++ c.in_ok-line.field-0 ∷ [] = search rules in
     (l.invariant.0 - 1, omega (arith, less, l.invariant.1), rw pushed (goes_on pieces_of (line_at word_of x) Dedent l.lines.items l.invariant.0 (ahead l.cursor) _ l.invariant.1 l.invariant.2 c.in_ok-line.field-0 (ahead c.line.new.cursor) open_still read), rw pushed (all_more (IsLineCooked x) l.lines.items c.in_ok-line.field-0 l.invariant.3 c.in_ok-line.ensures.cooked))
 
 pub returns-clause-gives : goal.returns-clause-gives

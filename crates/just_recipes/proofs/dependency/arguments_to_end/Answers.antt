@@ -42,7 +42,7 @@ loop-arguments-preserved g c =
     let same : ahead c.accept.new.self ≡ ahead l.cursor = grind arith in
     let read : argument_at word_of x (ahead l.cursor) ≡ Ok (argument_shape c.in_ok-argument.field-0, ahead c.argument.new.cursor) = rw same at c.in_ok-argument.ensures.gives in
     let less = argument_shorter word_of x (ahead l.cursor) (argument_shape c.in_ok-argument.field-0, ahead c.argument.new.cursor) read in
-    let pushed : c.push.new.self.items ≡ l.arguments.items ++ c.in_ok-argument.field-0 ∷ [] = search rules in
+    let pushed : c.push_compact.new.list.items ≡ l.arguments.items ++ c.in_ok-argument.field-0 ∷ [] = search rules in
     (l.invariant.0 - 1, omega (arith, less, l.invariant.1), rw pushed (goes_on argument_shape (argument_at word_of x) ParenR l.arguments.items l.invariant.0 (ahead l.cursor) _ l.invariant.1 l.invariant.2 c.in_ok-argument.field-0 (ahead c.argument.new.cursor) open_still read), rw pushed (all_more (IsArgumentCooked x) l.arguments.items c.in_ok-argument.field-0 l.invariant.3 c.in_ok-argument.ensures.cooked))
 
 pub returns-clause-gives : goal.returns-clause-gives

@@ -35,7 +35,7 @@ loop-dependencies-preserved g c =
     let is : c.in_ok-dependency.field-0 ≡ Some c.in-Some.dependency = cc c.in-Some.is in
     let read : dependency_at word_of x (ahead l.cursor) ≡ Ok (Some (dependency_shape c.in-Some.dependency), ahead c.dependency.new.cursor) = rw is at c.in_ok-dependency.ensures.gives in
     let less = dependency_shrinks word_of x (ahead l.cursor) (Some (dependency_shape c.in-Some.dependency), ahead c.dependency.new.cursor) read in
-    let pushed : c.push.new.self.items ≡ l.dependencies.items ++ c.in-Some.dependency ∷ [] = search rules in
+    let pushed : c.push_compact.new.list.items ≡ l.dependencies.items ++ c.in-Some.dependency ∷ [] = search rules in
     (l.invariant.0 - 1, omega (arith, less, l.invariant.1), rw pushed (one_more dependency_shape (dependency_at word_of x) l.dependencies.items l.invariant.0 (ahead l.cursor) _ l.invariant.1 l.invariant.2 c.in-Some.dependency (ahead c.dependency.new.cursor) read), rw pushed (all_more (IsDependencyCooked x) l.dependencies.items c.in-Some.dependency l.invariant.3 (rw is at c.in_ok-dependency.ensures.cooked)))
 
 pub returns-clause-gives : goal.returns-clause-gives

@@ -59,7 +59,7 @@ returns-then-is_variadic-clause-gives g c =
     let read : parameter_at word_of x (ahead l.cursor) ≡ Ok (Some (named_shape c.in-Some.parameter), ahead c.parameter.new.cursor) = rw is at c.in_ok-parameter.ensures.gives in
     let new = c.in_ok-remember.ensures.gives l.invariant.taken l.invariant.names in
     let variadic : is_variadic c.in-Some.parameter.kind ≡ true = sym c.is_variadic-is_variadic.ensures ∙ c.if-is_variadic.true in
-    let pushed : c.push.new.self.items ≡ l.parameters.items ++ c.in-Some.parameter ∷ [] = search rules in
+    let pushed : c.push_compact.new.list.items ≡ l.parameters.items ++ c.in-Some.parameter ∷ [] = search rules in
     rw pushed
     (is_last x l.parameters.items l.invariant.turns l.invariant.taken (ahead l.cursor) _ l.invariant.fuel l.invariant.so_far c.in-Some.parameter (ahead c.parameter.new.cursor) read new variadic (ahead c.parameter.new.cursor)
     c.in_ok-check_last.ensures)
@@ -68,14 +68,14 @@ pub returns-then-is_variadic-clause-numbers : goal.returns-then-is_variadic-clau
 returns-then-is_variadic-clause-numbers g c =
     let l = c.loop-parameters in
     let is : c.in_ok-parameter.field-0 ≡ Some c.in-Some.parameter = cc c.in-Some.is in
-    let pushed : c.push.new.self.items ≡ l.parameters.items ++ c.in-Some.parameter ∷ [] = search rules in
+    let pushed : c.push_compact.new.list.items ≡ l.parameters.items ++ c.in-Some.parameter ∷ [] = search rules in
     rw pushed (numbered c.args.numerator.now l.numerator c.parameter.new.numerator l.parameters.items c.in-Some.parameter l.invariant.numbers (rw is at c.in_ok-parameter.ensures.number))
 
 pub returns-then-is_variadic-clause-plain : goal.returns-then-is_variadic-clause-plain
 returns-then-is_variadic-clause-plain g c =
     let l = c.loop-parameters in
     let is : c.in_ok-parameter.field-0 ≡ Some c.in-Some.parameter = cc c.in-Some.is in
-    let pushed : c.push.new.self.items ≡ l.parameters.items ++ c.in-Some.parameter ∷ [] = search rules in
+    let pushed : c.push_compact.new.list.items ≡ l.parameters.items ++ c.in-Some.parameter ∷ [] = search rules in
     rw pushed (all_more IsPlain l.parameters.items c.in-Some.parameter l.invariant.plain (rw is at c.in_ok-parameter.ensures.plain))
 
 pub returns-then-is_variadic-clause-cooked : goal.returns-then-is_variadic-clause-cooked
@@ -83,7 +83,7 @@ returns-then-is_variadic-clause-cooked g c =
     let l = c.loop-parameters in
     let x = g.E.Expander.expansion c.args.expander.now in
     let is : c.in_ok-parameter.field-0 ≡ Some c.in-Some.parameter = cc c.in-Some.is in
-    let pushed : c.push.new.self.items ≡ l.parameters.items ++ c.in-Some.parameter ∷ [] = search rules in
+    let pushed : c.push_compact.new.list.items ≡ l.parameters.items ++ c.in-Some.parameter ∷ [] = search rules in
     rw pushed (all_more (IsParameterCooked x) l.parameters.items c.in-Some.parameter l.invariant.cooked (rw is at c.in_ok-parameter.ensures.cooked))
 
 pub loop-parameters-smaller : goal.loop-parameters-smaller
@@ -103,7 +103,7 @@ loop-parameters-preserved g c =
     let less = parameter_shrinks word_of x (ahead l.cursor) (Some (named_shape c.in-Some.parameter), ahead c.parameter.new.cursor) read in
     let new = c.in_ok-remember.ensures.gives l.invariant.taken l.invariant.names in
     let single : is_variadic c.in-Some.parameter.kind ≡ false = sym c.is_variadic-is_variadic.ensures ∙ c.if-is_variadic.false in
-    let pushed : c.push.new.self.items ≡ l.parameters.items ++ c.in-Some.parameter ∷ [] = search rules in
+    let pushed : c.push_compact.new.list.items ≡ l.parameters.items ++ c.in-Some.parameter ∷ [] = search rules in
     record {
       turns = l.invariant.turns - 1;
       taken = lexeme c.in-Some.parameter.name.token ∷ l.invariant.taken;

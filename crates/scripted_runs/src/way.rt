@@ -1,0 +1,114 @@
+//! How a justfile is driven.
+ghost use Rattle.std.specs.Prelude.{◌≤◌};
+
+use crate::answers::Answers;
+use crate::scripted::Failing;
+use just_run::{Action, Config, Confirmation};
+use justfile_syntax::Os;
+use semver::Version;
+use std::alloc::{AllocError, Global};
+
+/// How much is told of what was asked.
+#[derive(Clone, Copy)]
+pub enum Telling {
+    /// What was handed over, with its words and variables; of questions the commands alone.
+    Short,
+    /// All that was asked, handed over and shown, with what it runs under, one a line.
+    Whole,
+}
+
+/// How a justfile is driven.
+#[derive(Clone, Copy)]
+pub struct Way<'a> {
+    pub action: Action,
+    pub telling: Telling,
+    pub answers: Answers<'a>,
+    /// What files of variables give: names and values.
+    pub pairs: &'a [(&'a str, &'a str)],
+    pub confirmation: Confirmation,
+    pub dry_run: bool,
+    pub yes: bool,
+    pub quiet: bool,
+    pub jobs: Option<u32>,
+    /// The shell in place of the justfile's.
+    pub shell: Option<&'a str>,
+    /// The shell's one word before a command in place of the justfile's.
+    pub shell_arg: Option<&'a str>,
+    /// Whether calls of functions may lie in each other 4 deep alone, and not 256.
+    pub is_shallow: bool,
+    /// The place of the question or event that fails, from 0; none does at the greatest place.
+    pub failing_place: usize,
+    pub failing: Failing,
+}
+
+/// Runs, confirms all, and fails nothing.
+pub const RUN: Way<'static> = Way {
+    action: Action::Run,
+    telling: Telling::Short,
+    answers: Answers::Echo,
+    pairs: &[("D", "1")],
+    confirmation: Confirmation::Yes,
+    dry_run: false,
+    yes: false,
+    quiet: false,
+    jobs: None,
+    shell: None,
+    shell_arg: None,
+    is_shallow: false,
+    failing_place: usize::MAX,
+    failing: Failing::NotStarted,
+};
+
+/// How deep calls of functions may lie in each other.
+fn recursion_limit(is_shallow: bool) -> u64
+    ensures { 1 ≤ result }
+{
+    if is_shallow { 4 } else { 256 }
+}
+
+/// What the way says, but for the shell.
+fn without_shell(alloc: Global, way: Way<'_>) -> Result<Config, AllocError> {
+    Ok(Config {
+        os: Os::Linux,
+        arch: String::from_str(alloc, "x86_64")?,
+        base: String::from_str(alloc, "/base")?,
+        working_directory: String::from_str(alloc, "/base")?,
+        invocation_directory: String::from_str(alloc, "/started")?,
+        dry_run: way.dry_run,
+        yes: way.yes,
+        no_dependencies: false,
+        quiet: way.quiet,
+        loquacious: false,
+        unstable: false,
+        jobs: way.jobs,
+        shell: None,
+        shell_args: None,
+        recursion_limit: recursion_limit(way.is_shallow),
+        version: Version::new(1, 58, 0),
+    })
+}
+
+fn optional(alloc: Global, text: Option<&str>) -> Result<Option<String>, AllocError> {
+    match text {
+        Some(text) => Ok(Some(String::from_str(alloc, text)?)),
+        None => Ok(None),
+    }
+}
+
+/// The word alone, where there is one.
+fn alone(alloc: Global, word: Option<&str>) -> Result<Option<Vec<String>>, AllocError> {
+    let Some(word) = optional(alloc, word)? else {
+        return Ok(None);
+    };
+    let mut words = Vec::new(alloc);
+    words.push(word)?;
+    Ok(Some(words))
+}
+
+/// What a run in this way is told: it is of the folder `/base`, and was started in `/started`.
+pub(crate) fn config(alloc: Global, way: Way<'_>) -> Result<Config, AllocError> {
+    let mut config = without_shell(alloc, way)?;
+    config.shell = optional(alloc, way.shell)?;
+    config.shell_args = alone(alloc, way.shell_arg)?;
+    Ok(config)
+}
