@@ -89,7 +89,7 @@ static Bytes past_blanks(struct lexer *l, Bytes p)
     return p;
 }
 
-static int opens_hole(struct lexer *l, Bytes p)
+static int opens_interpolation(struct lexer *l, Bytes p)
 {
     return byte_at(l, p, 0) == '{' && byte_at(l, p, 1) == '{' && !(byte_at(l, p, 2) == '{' && byte_at(l, p, 3) == '{');
 }
@@ -158,16 +158,16 @@ static int is_quoted(struct lexer *l, Bytes p, int quote, int tripled)
     return byte_at(l, p, 0) == quote && (!tripled || (byte_at(l, p, 1) == quote && byte_at(l, p, 2) == quote));
 }
 
-/* The end of a part of a string that begins at p, or null; *hole says whether an expression ends it. */
-static Bytes past_part(struct lexer *l, Bytes p, int format, int quote, int tripled, int *hole)
+/* The end of a part of a string that begins at p, or null; *opens says whether an expression ends it. */
+static Bytes past_part(struct lexer *l, Bytes p, int format, int quote, int tripled, int *opens)
 {
     while (p < l->end) {
         if (is_quoted(l, p, quote, tripled)) {
-            *hole = 0;
+            *opens = 0;
             return p + (tripled ? 3 : 1);
         }
-        if (format && opens_hole(l, p)) {
-            *hole = 1;
+        if (format && opens_interpolation(l, p)) {
+            *opens = 1;
             return p + 2;
         }
         if (quote == '"' && *p == '\\') {
@@ -186,15 +186,15 @@ static void string(struct lexer *l, enum kind kind, size_t letters)
     Bytes p = l->at + letters;
     int quote = *p;
     int tripled = byte_at(l, p, 1) == quote && byte_at(l, p, 2) == quote;
-    int hole = 0;
-    Bytes end = past_part(l, p + (tripled ? 3 : 1), kind == FORMAT_START, quote, tripled, &hole);
+    int opens = 0;
+    Bytes end = past_part(l, p + (tripled ? 3 : 1), kind == FORMAT_START, quote, tripled, &opens);
     if (end == NULL) {
         fail(l);
     }
     int around = in_brackets(l);
     take(l, kind, (size_t)(end - l->at));
     go_on(l);
-    if (hole) {
+    if (opens) {
         push(l, (struct open){'H', (unsigned char)quote, (unsigned char)tripled, (unsigned char)around});
     }
 }
@@ -209,13 +209,13 @@ static void closing(struct lexer *l, int c)
         take(l, INTERPOLATION_END, 2);
         l->open_count--;
     } else if (c == '}' && byte_at(l, l->at, 1) == '}' && open.sort == 'H') {
-        int hole = 0;
-        Bytes end = past_part(l, l->at + 2, 1, open.quote, open.tripled, &hole);
+        int opens = 0;
+        Bytes end = past_part(l, l->at + 2, 1, open.quote, open.tripled, &opens);
         if (end == NULL) {
             fail(l);
         }
-        take(l, hole ? FORMAT_CONTINUE : FORMAT_END, (size_t)(end - l->at));
-        if (!hole) {
+        take(l, opens ? FORMAT_CONTINUE : FORMAT_END, (size_t)(end - l->at));
+        if (!opens) {
             l->open_count--;
         }
     } else {
@@ -460,12 +460,12 @@ static void body_line(struct lexer *l)
     } else if (end > 0) {
         take(l, END_OF_LINE, end);
         l->line = BODY_START;
-    } else if (opens_hole(l, l->at)) {
+    } else if (opens_interpolation(l, l->at)) {
         take(l, INTERPOLATION_START, 2);
         push(l, (struct open){'I', 0, 0, 0});
     } else {
         Bytes p = l->at;
-        while (p < l->end && line_end_length(l, p) == 0 && !opens_hole(l, p)) {
+        while (p < l->end && line_end_length(l, p) == 0 && !opens_interpolation(l, p)) {
             p += byte_at(l, p, 0) == '{' && byte_at(l, p, 1) == '{' ? 4 : 1;
         }
         take(l, TEXT, (size_t)(p - l->at));

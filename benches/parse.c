@@ -1269,7 +1269,7 @@ static Bytes text_end(struct parser *p)
 }
 
 /* The next `{{` that is not one of `{{{{`, or the end. */
-static Bytes hole(Bytes at, Bytes end)
+static Bytes interpolation(Bytes at, Bytes end)
 {
     while (at < end && (at = memchr(at, '{', (size_t)(end - at))) != NULL) {
         if (at[1] != '{') {
@@ -1290,7 +1290,7 @@ static void body_line(struct parser *p, struct line *line)
     Bytes end = text_end(p);
     while (p->at < end) {
         struct expression part;
-        Bytes next = hole(p->at, end);
+        Bytes next = interpolation(p->at, end);
         if (next > p->at) {
             part.kind = TEXT;
             part.place = take(p, (size_t)(next - p->at));

@@ -13,28 +13,15 @@ use Rattle.just_attribute_tree.specs.Forms.{form_of, takes}
 use Rattle.just_expressions.specs.Literals.{Expansion}
 use Rattle.just_expressions.specs.Reading.{◌>>=◌, Stop, Read, taken_if, accept, expect}
 use Rattle.just_expressions.specs.Words.{is_kind}
-use Rattle.just_expressions.proofs.Shorter.{inspect, test, accept_shorter, expect_shorter, expression_shorter}
+use Rattle.just_expressions.proofs.Shorter.{accept_shorter, expect_shorter, expression_shorter, ended}
 use Rattle.just_expressions.specs.Strings.{string_at}
 use Rattle.just_attribute_lines.specs.Arguments.{Sort, of_strings, of_expressions, of_parameter, sort_of, Arguments, nothing, strings, expressions, parameter, count, lone, made}
 use Rattle.just_attribute_lines.specs.Lines.{behind_comments, behind_one}
 use Rattle.just_attribute_lines.specs.Options.{OptionShape, flag, multiple, long, help, max, min, short, value}
 use Rattle.just_attribute_lines.specs.Reading.{more_at, follow_at, line_end_at, another_at, whole_at, text_at, assigned_at, long_at, value_at, unknown_at, named_at, option_at, others_at, inside_at, arguments_at, counted, known_at, kind_named, attribute_at}
+use Rattle.just_expressions.proofs.Taken.{inspect, test, bind_ok, done, ok_is}
 
 -- ---- steps
-
-bind_ok : {A B E : Type 0} (r : Result A E) (f : A → Result B E) (y : B) → (r >>= f) ≡ Ok y → (x : A) × (r ≡ Ok x) × (f x ≡ Ok y)
-bind_ok (Ok x) f y e = (x, refl, e)
-bind_ok (Err d) f y e = absurd cc
-
-abbrev done : {A E : Type 0} → A → Result A E
-done x = Ok x
-
-ok_is : {A E : Type 0} (x y : A) → done {A = A} {E = E} x ≡ Ok y → x ≡ y
-ok_is x y e = cc
-
--- what ends with fewer tokens than that
-ended : {A T : Type 0} (a : A) (rest : List T) (p : A × List T) (n : ℕ) → done {A = A × List T} {E = Stop T} (a, rest) ≡ Ok p → length rest < n → length p.1 < n
-ended {A = A} {T = T} a rest p n h less = let q = ap (λ (z : A × List T). z.1) (ok_is {A = A × List T} {E = Stop T} (a, rest) p h) in rw (← q) less
 
 -- the same of what is made of it
 shaped : {A B T : Type 0} (read : Read T A) (f : A → B) (n : ℕ) → ((q : A × List T) → read ≡ Ok q → length q.1 < n) → (p : B × List T) → (read >>= λ s. Ok (f s.0, s.1)) ≡ Ok p → length p.1 < n

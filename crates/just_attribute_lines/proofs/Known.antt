@@ -15,18 +15,12 @@ use Rattle.just_expressions.specs.declared.fault.Fault.{Fault}
 use Rattle.just_expressions.specs.declared.fault.Fault.TheVariants as faults
 use Rattle.just_expressions.specs.Literals.{Expansion}
 use Rattle.just_expressions.specs.Reading.{◌>>=◌, Read, Stop, Fails}
-use Rattle.just_expressions.proofs.Taken.{test}
+use Rattle.just_expressions.proofs.Taken.{test, ok_is}
 use Rattle.just_attribute_lines.specs.Arguments.{Arguments, nothing, strings, expressions, parameter, count, made, of_texts, of_values, sort_of}
 use Rattle.just_attribute_lines.specs.Held.{GivesOptions, counted_at, if_taken_by, is_of_sort}
 use Rattle.just_attribute_lines.specs.Options.{OptionShape, options_of}
 use Rattle.just_attribute_lines.specs.Reading.{arguments_at, counted, known_at}
 use Rattle.just_attribute_lines.specs.Seen.{options_in}
-
-abbrev done : {A E : Type 0} → A → Result A E
-done x = Ok x
-
-ok_is : {A E : Type 0} (x y : A) → done {A = A} {E = E} x ≡ Ok y → x ≡ y
-ok_is x y e = cc
 
 -- ---- whose options there are
 

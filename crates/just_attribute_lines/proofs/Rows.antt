@@ -18,11 +18,6 @@ use Rattle.just_attribute_lines.specs.Reading.{another_at, attribute_at, attribu
 use Rattle.just_attribute_lines.specs.Seen.{read_shape}
 use Rattle.just_attribute_lines.proofs.Follow.{before}
 
--- what an option that is not none took
-pub taken : (kind : TokenKind) (ts : List Token) (o : Option Token) (rest : List Token) → accept word_of kind ts ≡ option_map (λ t. (t, rest)) o → IsSome o → (t : Token) × (accept word_of kind ts ≡ Some (t, rest))
-taken kind ts None rest h some = absurd cc
-taken kind ts (Some t) rest h some = (t, h)
-
 module _ (expansion : Expansion) (ts : List Token) (t : Token) (a : List Token) (opens : accept word_of BracketL ts ≡ Some (t, a)) where
   pub no_first : (e : Fault) → Fails e (attribute_at word_of expansion a) → Fails e (attributes_at word_of expansion ts)
   unfolding attributes_at
@@ -37,15 +32,3 @@ module _ (expansion : Expansion) (ts : List Token) (t : Token) (a : List Token) 
   first_read r b h = rw (opens, h) refl
 
 -- ---- rows of expressions
-
-cooked_behind : (x : Expansion) (fs : List Expression) (e : Expression) → cooked_in_all x (shapes_of (fs ++ e ∷ [])) ≡ cooked_in_all x (shapes_of fs) ++ cooked_in x (shape_of e)
-cooked_behind x [] e = append-nil (cooked_in x (shape_of e))
-cooked_behind x (f ∷ fs) e = ap (λ held. cooked_in x (shape_of f) ++ held) (cooked_behind x fs e) ∙ sym (append_assoc (cooked_in x (shape_of f)) (cooked_in_all x (shapes_of fs)) (cooked_in x (shape_of e)))
-
-held_behind : (fs : List Expression) (e : Expression) → flat_map held_by (fs ++ e ∷ []) ≡ flat_map held_by fs ++ held_by e
-held_behind [] e = append-nil (held_by e)
-held_behind (f ∷ fs) e = ap (λ held. held_by f ++ held) (held_behind fs e) ∙ sym (append_assoc (held_by f) (flat_map held_by fs) (held_by e))
-
--- a row with one expression more holds what its strings stand for
-pub one_more_cooked : (x : Expansion) (fs : List Expression) (e : Expression) → AreCooked x fs → IsCooked x e → AreCooked x (fs ++ e ∷ [])
-one_more_cooked x fs e these this = held_behind fs e ∙ ap (λ held. held ++ held_by e) these ∙ ap (λ held. cooked_in_all x (shapes_of fs) ++ held) this ∙ sym (cooked_behind x fs e)

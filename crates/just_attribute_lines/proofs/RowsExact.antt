@@ -7,9 +7,10 @@ use Rattle.just_text.specs.declared.token_kind.TokenKind.TheVariants.{Comma}
 use Rattle.just_expressions.specs.Words.{is_kind}
 use Rattle.just_expressions.specs.Reading.{Read, accept}
 use Rattle.just_expressions.proofs.Taken.{bind_ok, inspect, test, turned, accept_mark, accept_none, expect_mark, marked, lacks_accept, other_accept}
-use Rattle.just_attribute_lines.specs.Rows.{IsComma, Closes, Follow, IfGiven}
+use Rattle.just_attribute_lines.specs.Rows.{IsComma, Follow, IfGiven}
 use Rattle.just_attribute_lines.specs.Reading.{more_at, follow_at}
 use Rattle.just_attribute_lines.proofs.Rest.{Takes}
+use Rattle.just_expressions.specs.Grammar.{Closes}
 
 -- up to rest there is what stands between two items, or the end behind the last
 abbrev pub BetweenOrEnd : (List Word → List Word → Type 0) → (List Word → List Word → Type 0) → Bool → List Word → List Word → Type 0

@@ -9,10 +9,6 @@ use Rattle.just_expressions.specs.Words.{Mark, Lacks}
 abbrev pub IsComma : TokenKind → List Word → List Word → Type 0
 IsComma close words rest = Mark Comma words rest × Lacks close rest
 
--- up to rest there is the closing mark, perhaps behind a comma
-abbrev pub Closes : TokenKind → List Word → List Word → Type 0
-Closes close words rest = Mark close words rest ⊎ ((a : List Word) × Mark Comma words a × Mark close a rest)
-
 -- up to rest these items follow, each behind what stands between two, and the end behind the last
 abbrev pub Follow : {A : Type 0} → (A → List Word → List Word → Type 0) → (List Word → List Word → Type 0) → (List Word → List Word → Type 0) → List A → List Word → List Word → Type 0
 Follow Is Between End [] words rest = End words rest

@@ -11,10 +11,10 @@ use Rattle.just_expressions.specs.Reading.{Stop}
 use Rattle.just_expressions.proofs.Taken.{bind_ok, test, turned, ok_is}
 use Rattle.just_attribute_lines.specs.Laws.{AttributesExactly}
 use Rattle.just_attribute_lines.specs.Reading.{attributes_at}
-use Rattle.just_recipes.specs.RecipeLaws.{RecipesExactly}
+use Rattle.just_recipes.specs.Laws.{RecipesExactly}
 use Rattle.just_items.specs.Laws.{ItemsExactly}
 use Rattle.just_items.specs.Reading.{kind_at}
-use Rattle.just_settings.specs.Laws.{SetsExactly}
+use Rattle.just_items.specs.SettingLaws.{SetsExactly}
 use Rattle.semver.specs.declared.Version.{Version}
 use Rattle.just_attributed_items.specs.Bare.{bare_of}
 use Rattle.just_attributed_items.specs.Fitting.{fault_in, known, may_stand, with_attributes}

@@ -7,13 +7,13 @@ use Rattle.just_tree.specs.Files.{ItemShape, alias_item, assignment_item, commen
 use Rattle.just_expressions.specs.Literals.{Expansion}
 use Rattle.just_expressions.specs.Reading.{◌>>=◌}
 use Rattle.just_expressions.proofs.Taken.{bind_ok, turned}
-use Rattle.just_recipes.specs.RecipeLaws.{RecipesExactly}
-use Rattle.just_recipes.specs.RecipeReading.{recipe_at}
+use Rattle.just_recipes.specs.Laws.{RecipesExactly}
+use Rattle.just_recipes.specs.Reading.{recipe_at}
 use Rattle.just_items.specs.Items.{IsItem}
 use Rattle.just_items.specs.Laws.{ItemsExactly}
 use Rattle.just_items.specs.Reading.{alias_at, unexport_at, assignment_at, function_at, import_at, module_at, kind_at, item_of}
-use Rattle.just_settings.specs.Laws.{SetsExactly}
-use Rattle.just_settings.specs.Reading.{set_at}
+use Rattle.just_items.specs.SettingLaws.{SetsExactly}
+use Rattle.just_items.specs.SettingReading.{set_at}
 use Rattle.semver.specs.declared.Version.{Version}
 use Rattle.just_attributed_items.specs.Bare.{IsBare, bare_of}
 

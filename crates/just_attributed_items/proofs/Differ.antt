@@ -4,7 +4,7 @@ use Rattle.std.specs.List.{IsAmong, list_any}
 use Rattle.std.specs.Str.{bytes_eq}
 use Rattle.std.proofs.lemmas.Slice.Eq.{bytes_eq-Decides}
 use Rattle.just_recipes.specs.Headers.{AreDistinct}
-use Rattle.just_parameter_options.specs.Rules.{are_distinct, is_among}
+use Rattle.just_attributed_items.specs.Rules.{are_distinct, is_among}
 
 among_so : (name : List ℕ) (names : List (List ℕ)) → is_among names name ≡ true → IsAmong names name
 among_so name [] h = absurd cc

@@ -6,7 +6,7 @@ use Rattle.just_expressions.specs.declared.fault.Fault.{Fault}
 use Rattle.just_expressions.specs.declared.fault.Fault.TheVariants as faults
 use Rattle.just_expressions.specs.Reading.{◌>>=◌, Stop}
 use Rattle.just_recipes.specs.Numbering.{FailsUnless}
-use Rattle.just_parameter_options.specs.Options.{GivesOrRefuses}
+use Rattle.just_attributed_items.specs.Options.{GivesOrRefuses}
 use Rattle.just_attributed_items.specs.Halting.{Halt, HaltsUnless, or_stopped, unless_broken}
 
 -- reading stopped, so it halts

@@ -15,8 +15,8 @@ use Rattle.just_expressions.specs.declared.fault.Fault.{Fault}
 use Rattle.just_expressions.specs.declared.fault.Fault.TheVariants as faults
 use Rattle.just_expressions.specs.Literals.{Expansion}
 use Rattle.just_attribute_lines.specs.Seen.{read_shapes}
-use Rattle.just_parameter_options.specs.Options.{GivesOrRefuses}
-use Rattle.just_parameter_options.specs.Rules.{arg_keyword}
+use Rattle.just_attributed_items.specs.Options.{GivesOrRefuses}
+use Rattle.just_attributed_items.specs.Rules.{arg_keyword}
 use Rattle.just_attributed_items.specs.declared.bare.ItemRead.{ItemRead}
 use Rattle.just_attributed_items.specs.declared.item.PartsRead.{PartsRead}
 use Rattle.just_attributed_items.specs.Fitting.{argument_fault, duplicate, fault_before, fault_in, invalid, is_one, known, misfit, name_of, repeated}

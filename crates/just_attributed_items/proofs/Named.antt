@@ -7,7 +7,7 @@ use Rattle.std.specs.Option.{option_map}
 use Rattle.std.proofs.lemmas.Slice.Eq.{bytes_eq-Decides}
 use Rattle.just_text.specs.declared.compile_error.CompileErrorKind.TheVariants as kinds
 use Rattle.just_attributes.specs.declared.item_kind.ItemKind.{ItemKind}
-use Rattle.just_parameter_options.specs.Rules.{arg_keyword}
+use Rattle.just_attributed_items.specs.Rules.{arg_keyword}
 use Rattle.just_attribute_tree.specs.Attributes.{AttributeShape, kind_name, kind_of}
 use Rattle.just_attribute_lines.specs.declared.attribute.AttributeRead.{AttributeRead}
 use Rattle.just_attribute_lines.specs.Seen.{read_shape, read_shapes}

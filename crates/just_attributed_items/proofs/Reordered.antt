@@ -6,10 +6,10 @@ use Rattle.just_attribute_tree.specs.Attributes.{AttributeShape, OptionsShape}
 use Rattle.just_attributes.specs.Order.{in_order, is_before, put, sorted}
 use Rattle.just_attribute_lines.specs.Seen.{options_in}
 use Rattle.just_expressions.specs.Literals.{Expansion}
-use Rattle.just_expressions.proofs.Taken.{test}
-use Rattle.just_parameter_options.specs.Options.{HaveOptions, meant_or_none}
-use Rattle.just_parameter_options.specs.Rules.{are_distinct, fault_of, for_name, is_among, is_for, name_parameters, names_of}
-use Rattle.just_parameter_options.proofs.Lists.{either_way, text_same}
+use Rattle.just_expressions.proofs.Taken.{test, text_same}
+use Rattle.just_attributed_items.specs.Options.{HaveOptions, meant_or_none}
+use Rattle.just_attributed_items.specs.Rules.{are_distinct, fault_of, for_name, is_among, is_for, name_parameters, names_of}
+use Rattle.just_attributed_items.proofs.Lists.{either_way}
 use Rattle.just_tree.specs.declared.recipe.Parameter.{Parameter}
 use Rattle.just_tree.specs.Recipes.{ParameterShape}
 use Rattle.just_text.specs.Tokens.{lexeme}

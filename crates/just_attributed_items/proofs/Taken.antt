@@ -17,7 +17,7 @@ use Rattle.just_attribute_lines.proofs.Follow.{all_none, all_one}
 use Rattle.just_attributed_items.specs.declared.split.KnownAttributes.{KnownAttributes}
 use Rattle.just_attributed_items.specs.Fitting.{known, options_among}
 use Rattle.just_attributed_items.specs.Seen.{AreWholeKnown, attribute_in}
-use Rattle.just_attributed_items.proofs.Options.{unmapped}
+use Rattle.just_attributed_items.proofs.GivenOptions.{unmapped}
 use Rattle.just_attributed_items.proofs.Ordered.{seen_given}
 
 shapes_with : (xs : List Attribute) (a : Option Attribute) (rest : List AttributeShape) → attribute_shapes (xs ++ cons_option a []) ++ rest ≡ attribute_shapes xs ++ cons_option (option_map attribute_shape a) rest

@@ -16,8 +16,8 @@ use Rattle.just_attribute_lines.specs.Lines.{AreAttributes, IsAttribute, IsBetwe
 use Rattle.just_attribute_lines.specs.Options.{OptionShape, options_of}
 use Rattle.just_attribute_lines.specs.Rows.{Follow}
 use Rattle.just_attribute_lines.specs.Seen.{options_in}
-use Rattle.just_parameter_options.specs.Whole.{AreWholeOptions}
-use Rattle.just_parameter_options.proofs.WholeOptions.{options_whole}
+use Rattle.just_attributed_items.specs.Whole.{AreWholeOptions}
+use Rattle.just_attributed_items.proofs.WholeOptions.{options_whole}
 use Rattle.just_attributed_items.specs.Fitting.{options_among}
 use Rattle.just_attributed_items.specs.Seen.{AreWholeArguments}
 

@@ -7,11 +7,11 @@ use Rattle.just_tree.specs.Files.{ItemShape, recipe_item, set_item}
 use Rattle.just_expressions.specs.Literals.{Expansion}
 use Rattle.just_expressions.specs.Reading.{◌>>=◌, Read}
 use Rattle.just_recipes.specs.Headers.{IsRecipe}
-use Rattle.just_recipes.specs.RecipeReading.{recipe_at}
+use Rattle.just_recipes.specs.Reading.{recipe_at}
 use Rattle.just_items.specs.Items.{IsItem}
 use Rattle.just_items.specs.Reading.{item_of}
-use Rattle.just_settings.specs.Settings.{IsSet}
-use Rattle.just_settings.specs.Reading.{set_at}
+use Rattle.just_items.specs.Settings.{IsSet}
+use Rattle.just_items.specs.SettingReading.{set_at}
 use Rattle.semver.specs.declared.Version.{Version}
 
 -- Up to rest there is the item, which has no attributes; so many blank lines behind the body of a recipe belong to the file.

@@ -12,7 +12,7 @@ use Rattle.just_tree.specs.FileIndentation.{or_next}
 use Rattle.just_attributes.specs.Sets.{may_carry}
 use Rattle.just_attribute_lines.specs.Seen.{options_in}
 use Rattle.just_expressions.specs.Literals.{Expansion}
-use Rattle.just_parameter_options.specs.Rules.{arg_keyword, fault_of}
+use Rattle.just_attributed_items.specs.Rules.{arg_keyword, fault_of}
 
 -- whether items of that kind may have attributes
 abbrev pub takes_attributes : ItemKind → Bool

@@ -18,9 +18,9 @@ use Rattle.just_recipes.specs.Numbering.{IsRecipeNumbered}
 use Rattle.just_items.specs.Cooked.{IsCookedItem}
 use Rattle.just_items.specs.Numbered.{AreNext, binding_numbers}
 use Rattle.just_items.specs.Plain.{is_private}
-use Rattle.just_settings.specs.Cooked.{IsCookedSetting}
-use Rattle.just_settings.specs.Names.{setting_name}
-use Rattle.just_parameter_options.specs.Options.{AreValuesCooked, HaveOptions}
+use Rattle.just_items.specs.SettingCooked.{IsCookedSetting}
+use Rattle.just_items.specs.Names.{setting_name}
+use Rattle.just_attributed_items.specs.Options.{AreValuesCooked, HaveOptions}
 use Rattle.just_attributed_items.specs.Fitting.{options_among}
 
 -- the bindings of the item have the next bindings' numbers in order, a recipe the next recipe's number, and no other was handed out

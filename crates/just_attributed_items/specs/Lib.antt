@@ -1,3 +1,8 @@
+pub mod Rules
+pub mod Options
+pub mod Names
+pub mod Places
+pub mod Whole
 pub mod Bare
 pub mod Fitting
 pub mod Items

@@ -13,9 +13,9 @@ use Rattle.just_recipes.specs.Cooked.{IsRecipeCooked}
 use Rattle.just_recipes.specs.Plain.{IsPlainRecipe}
 use Rattle.just_items.specs.Cooked.{IsCookedItem}
 use Rattle.just_items.specs.Plain.{IsPlainItem}
-use Rattle.just_settings.specs.Cooked.{IsCookedSetting}
-use Rattle.just_settings.specs.Names.{setting_name}
-use Rattle.just_parameter_options.specs.Rules.{are_distinct, names_of}
+use Rattle.just_items.specs.SettingCooked.{IsCookedSetting}
+use Rattle.just_items.specs.Names.{setting_name}
+use Rattle.just_attributed_items.specs.Rules.{are_distinct, names_of}
 
 -- the recipe has no attributes, and its parameters have no options and different names
 pub record IsBareRecipe (r : RecipeTree UnresolvedDependency) : Type 0 where

@@ -7,7 +7,7 @@ use Rattle.just_text.specs.declared.compile_error.CompileErrorKind.TheVariants a
 use Rattle.just_attributes.specs.declared.item_kind.ItemKind.{ItemKind}
 use Rattle.just_attribute_tree.specs.Attributes.{AttributeShape, kind_of, kind_name, is_repeatable}
 use Rattle.just_tree.specs.FileIndentation.{or_next}
-use Rattle.just_parameter_options.specs.Rules.{arg_keyword}
+use Rattle.just_attributed_items.specs.Rules.{arg_keyword}
 use Rattle.just_attributed_items.specs.Fitting.{duplicate, invalid, is_misfit, is_one, known, misfit, repeated}
 
 -- the name of the attribute's kind, if there is one

@@ -10,7 +10,7 @@ use Rattle.just_tree.specs.Files.{ItemShape, item_shape}
 use Rattle.just_expressions.specs.Literals.{Expansion}
 use Rattle.just_attribute_lines.specs.Cooked.{AreCookedOptions}
 use Rattle.just_attribute_lines.specs.Seen.{read_shapes}
-use Rattle.just_parameter_options.specs.Whole.{AreWholeOptions}
+use Rattle.just_attributed_items.specs.Whole.{AreWholeOptions}
 use Rattle.just_attributed_items.specs.declared.bare.ItemRead.{ItemRead}
 use Rattle.just_attributed_items.specs.declared.item.PartsRead.{PartsRead}
 use Rattle.just_attributed_items.specs.declared.split.KnownAttributes.{KnownAttributes}

@@ -4,7 +4,7 @@ ghost use Rattle.just_text.specs.declared.compile_error.CompileErrorKind.TheVari
 ghost use Rattle.just_attribute_tree.specs.Attributes.{kind_name, kind_of};
 ghost use Rattle.just_tree.specs.Files.{item_shape};
 ghost use Rattle.just_attribute_lines.specs.Seen.{read_shape, read_shapes};
-ghost use Rattle.just_parameter_options.specs.Options.{GivesOrRefuses};
+ghost use Rattle.just_attributed_items.specs.Options.{GivesOrRefuses};
 ghost use Rattle.just_attributed_items.specs.Fitting.{known, name_of, repeated};
 ghost use Rattle.just_attributed_items.specs.Refusals.{head_fault, is_misplaced, is_named, is_repeated, known_fault, may_repeat, name_in};
 

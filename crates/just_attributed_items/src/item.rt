@@ -8,7 +8,7 @@ ghost use Rattle.just_expressions.specs.Reading.{ahead};
 ghost use Rattle.just_recipes.specs.Numbering.{AreUsed, GivesUnless};
 ghost use Rattle.just_items.specs.Reading.{kind_at};
 ghost use Rattle.just_attribute_lines.specs.Seen.{AreWholeReads, read_shapes};
-ghost use Rattle.just_parameter_options.specs.Options.{GivesOrRefuses};
+ghost use Rattle.just_attributed_items.specs.Options.{GivesOrRefuses};
 ghost use Rattle.just_attributed_items.specs.Fitting.{argument_fault, fault_in, known, name_of};
 ghost use Rattle.just_attributed_items.specs.Halting.{GivesOrHalts};
 ghost use Rattle.just_attributed_items.specs.Held.{IsItemCooked, IsItemNumbered, IsOwnItem};

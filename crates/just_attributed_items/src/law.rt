@@ -8,6 +8,6 @@ pub fn law()
 {
     just_attribute_lines::law::law();
     just_items::law::law();
-    just_settings::law::law();
+    just_items::setting_law::setting_law();
     just_recipes::recipe_law::recipe_law();
 }

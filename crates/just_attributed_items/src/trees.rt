@@ -9,16 +9,16 @@ ghost use Rattle.just_attributes.specs.Sets.{items_of, shapes_in, is_private as 
 ghost use Rattle.just_expressions.specs.Literals.{Expansion};
 ghost use Rattle.just_recipes.specs.Cooked.{IsRecipeCooked};
 ghost use Rattle.just_recipes.specs.Numbering.{IsRecipeNumbered};
-ghost use Rattle.just_parameter_options.specs.Options.{AreValuesCooked, GivesOrRefuses};
+ghost use Rattle.just_attributed_items.specs.Options.{AreValuesCooked, GivesOrRefuses};
 ghost use Rattle.just_attributed_items.specs.Fitting.{argument_fault, with_attributes};
 ghost use Rattle.just_attributed_items.specs.Held.{HasOptions, IsItemCooked, IsItemNumbered, IsOwnItem};
 ghost use Rattle.just_attributed_items.specs.Plain.{IsBareCooked, IsBareRecipe, IsBareTree};
 ghost use Rattle.just_attributed_items.specs.Seen.{AreWholeArguments, AreWholeOrdered};
 
+use crate::parameters::with_options;
 use crate::split::OrderedAttributes;
 use just_attributes::AttributeSet;
 use just_expressions::Fault;
-use just_parameter_options::with_options;
 use just_text::Namepath;
 use just_tree::{Alias, Assignment, Binding, Item, Module, Recipe, Set, UnresolvedDependency};
 use std::alloc::Global;

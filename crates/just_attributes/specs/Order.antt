@@ -10,6 +10,7 @@ use Rattle.std.proofs.lemmas.Cmp.{on_total, then_total, nat_list_cmp_total, on_e
 use Rattle.just_attribute_tree.specs.Attributes.{AttributeShape, attribute_shape, kind_of, kind_name}
 use Rattle.just_attributes.specs.declared.attribute_item.AttributeItem.{AttributeItem}
 use Rattle.just_attributes.specs.Arguments.{arguments_text}
+use Rattle.just_text.specs.Order.{both_tie}
 
 -- texts byte by byte
 abbrev pub text_cmp : List ℕ → List ℕ → Ordering
@@ -61,12 +62,6 @@ item_eq = on item_shape attribute_eq
 -- the items of a set in the order of their attributes
 abbrev pub items_in_order : List AttributeItem → List AttributeItem
 items_in_order = sorted (on item_shape is_before)
-
--- two equalities hold where two orders, one after the other, tell nothing apart
-both_tie : (o p : Ordering) (a b : Bool) → a ≡ is_eq o → b ≡ is_eq p → (a && b) ≡ is_eq (ordering_then o p)
-both_tie Less p a b first second = ap (λ v. v && b) first
-both_tie Equal p a b first second = ap (λ v. v && b) first ∙ second
-both_tie Greater p a b first second = ap (λ v. v && b) first
 
 pub item_ties : (x y : AttributeItem) → item_eq x y ≡ eq_by_cmp item_cmp x y
 item_ties x y = both_tie _ _ _ _ (texts_ties (name_text (item_shape x)) (name_text (item_shape y))) (texts_ties (arguments_text (item_shape x)) (arguments_text (item_shape y)))

@@ -6,6 +6,7 @@ ghost use Rattle.just_compilation.specs.Places as spec;
 use crate::error::Error;
 use crate::module_node::{File, ModuleNode};
 use crate::place::Place;
+use crate::recipe_name::{RecipeName, front};
 use just_text::{Name, Namepath};
 use just_tree::{Alias, Assignment, FunctionDefinition, Item, Recipe, Set, UnresolvedDependency};
 use std::alloc::{AllocError, Global};
@@ -154,19 +155,29 @@ impl<'src> Compilation<'src> {
 
     /// The recipe of this name that the module keeps, if there is one.
     pub fn find_recipe(&self, node: &ModuleNode<'src>, name: &str) -> Option<Place> {
-        let mut rest = node.recipes.as_slice();
+        let wanted = front(name);
+        let mut rest = node.recipe_names.as_slice();
         while !rest.is_empty() {
-            let (front, back) = rest.split_at(rest.len() / 2);
+            let (before, back) = rest.split_at(rest.len() / 2);
             let Some((middle, behind)) = back.split_first() else {
                 return None;
             };
-            match name.cmp(self.text(*middle)) {
-                Ordering::Less => rest = front,
-                Ordering::Equal => return Some(*middle),
+            match self.compare(name, wanted, *middle) {
+                Ordering::Less => rest = before,
+                Ordering::Equal => return Some(middle.place),
                 Ordering::Greater => rest = behind,
             }
         }
         None
+    }
+
+    /// The name, which has this front, beside that of a recipe, whose text is read only where both
+    /// have one front.
+    fn compare(&self, name: &str, front: u64, recipe: RecipeName) -> Ordering {
+        match front.cmp(&recipe.front) {
+            Ordering::Equal => name.cmp(self.text(recipe.place)),
+            other => other,
+        }
     }
 
     /// The submodule of this name, if there is one.

@@ -2,6 +2,7 @@
 ghost use Rattle.std.specs.Prelude.{◌≡◌, option_map, slice_get};
 
 use crate::place::Place;
+use crate::recipe_name::RecipeName;
 use just_text::{Name, Text};
 use just_tree::{Ast, Item};
 
@@ -51,6 +52,8 @@ pub struct ModuleNode<'src> {
     pub functions: Vec<Place>,
     /// The recipes that are kept.
     pub recipes: Vec<Place>,
+    /// The same with the fronts of their names, by which they are found.
+    pub recipe_names: Vec<RecipeName>,
     pub sets: Vec<Place>,
     pub unexports: Vec<Name<'src>>,
     /// The submodules.

@@ -6,11 +6,7 @@ use Rattle.std.proofs.lemmas.List.{length-map, reverse-append, take_more}
 use Rattle.just_host.specs.declared.job.Pair.{Pair}
 use Rattle.just_value.specs.Frames.{BoundRow}
 use Rattle.just_environment.specs.Environment.{frame_pairs, frames_pairs}
-
-get_or_mapped : {X Y : Type 0} (f : X → Y) (xs : List X) (i : ℕ) (d : X) → get_or (map f xs) i (f d) ≡ f (get_or xs i d)
-get_or_mapped f [] i d = refl
-get_or_mapped f (x ∷ xs) zero d = refl
-get_or_mapped f (x ∷ xs) (suc i) d = get_or_mapped f xs i d
+use Rattle.just_value.proofs.ConstantsInFrame.{get_or_mapped}
 
 -- the outermost of the frames up to a place, and those inside it
 pub one_frame_more : (all : Bool) (frames : List (Bor (List BoundRow))) (place : ℕ) (d : Bor (List BoundRow)) → place < length frames

@@ -5,8 +5,8 @@ use Rattle.std.specs.Global.{Box}
 use Rattle.just_text.specs.declared.name.Name.{Name}
 use Rattle.just_strings.specs.declared.string_literal.StringLiteral.{StringLiteral}
 use Rattle.just_expression_tree.specs.declared.expression.Expression.{Expression, Assert, Conditional, the_lemmas}
-use Rattle.just_expression_tree.specs.Shape.{shape_of, shapes_of, holes_of, inner_shape, written, assertion, assertion_alone, choice, choice_alone}
-use Rattle.just_expression_tree.specs.Printing.{text_of, text_of_all, text_of_message, text_of_other, text_of_others, text_of_holes, behind_else, braced}
+use Rattle.just_expression_tree.specs.Shape.{shape_of, shapes_of, interpolations_of, inner_shape, written, assertion, assertion_alone, choice, choice_alone}
+use Rattle.just_expression_tree.specs.Printing.{text_of, text_of_all, text_of_message, text_of_other, text_of_others, text_of_interpolations, behind_else, braced}
 
 -- a call of `assert` is its condition and the rest
 pub printed_assert : (c : Box Expression) (m : Option (Box Expression)) (name : Name)
@@ -49,19 +49,19 @@ row_end all first others i done whole le more =
     rw whole (ap (λ text. text_of (shape_of first) ++ text) (rw append-nil at told))
 
 -- what is written of interpolations goes on by one
-pub holes_next : (xs : List (Expression × StringLiteral)) (i : ℕ) (x : Expression × StringLiteral) (part done all : List ℕ) → i < length xs → x ≡ get_or xs i x
-    → part ≡ written x.1 → done ++ text_of_holes (holes_of (drop i xs)) ≡ all
-    → (done ++ ([] ++ (text_of (shape_of x.0) ++ part))) ++ text_of_holes (holes_of (drop (i + 1) xs)) ≡ all
+pub interpolations_next : (xs : List (Expression × StringLiteral)) (i : ℕ) (x : Expression × StringLiteral) (part done all : List ℕ) → i < length xs → x ≡ get_or xs i x
+    → part ≡ written x.1 → done ++ text_of_interpolations (interpolations_of (drop i xs)) ≡ all
+    → (done ++ ([] ++ (text_of (shape_of x.0) ++ part))) ++ text_of_interpolations (interpolations_of (drop (i + 1) xs)) ≡ all
 unfolding text_of
-holes_next xs i x part done all lt is same more =
+interpolations_next xs i x part done all lt is same more =
     let step : drop i xs ≡ x ∷ drop (i + 1) xs = rw (add-one, drop-cons xs i x lt, ← is) refl in
     let told = rw step at more in
     rw same (simp append_assoc (simp append_assoc at told))
 
 -- at their end all are written
-pub holes_end : (xs : List (Expression × StringLiteral)) (i : ℕ) (start done all : List ℕ) → length xs ≤ i
-    → done ++ text_of_holes (holes_of (drop i xs)) ≡ all → start ++ done ≡ start ++ all
+pub interpolations_end : (xs : List (Expression × StringLiteral)) (i : ℕ) (start done all : List ℕ) → length xs ≤ i
+    → done ++ text_of_interpolations (interpolations_of (drop i xs)) ≡ all → start ++ done ≡ start ++ all
 unfolding text_of
-holes_end xs i start done all le more =
+interpolations_end xs i start done all le more =
     let told = rw (drop_all i xs le) at more in
     ap (λ text. start ++ text) (rw append-nil at told)

@@ -2,3 +2,4 @@ pub mod Operators
 pub mod Shape
 pub mod Printing
 pub mod FirstTokens
+pub mod Inside

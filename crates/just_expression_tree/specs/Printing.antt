@@ -1,7 +1,7 @@
 -- How an expression is printed.
 use Rattle.std.specs.Prelude.{ℕ, List, [], ◌++◌, Option, Some, None, codes}
 use Rattle.just_expression_tree.specs.Operators.{mark_of}
-use Rattle.just_expression_tree.specs.Shape.{Shape, Shapes, Holes, literal, command, format, variable, call, assertion, assertion_alone, group, listing, choice, choice_alone, negation, rooted, binary, end, more, closed, hole}
+use Rattle.just_expression_tree.specs.Shape.{Shape, Shapes, Interpolations, literal, command, format, variable, call, assertion, assertion_alone, group, listing, choice, choice_alone, negation, rooted, binary, end, more, closed, interpolation}
 
 -- between braces
 abbrev pub braced : List ℕ → List ℕ
@@ -18,7 +18,7 @@ unfoldable mutual
   pub text_of : Shape → List ℕ
   text_of (literal s) = s
   text_of (command s) = s
-  text_of (format s hs) = s ++ text_of_holes hs
+  text_of (format s hs) = s ++ text_of_interpolations hs
   text_of (variable x) = x
   text_of (call f es) = f ++ codes "(" ++ text_of_all es ++ codes ")"
   text_of (assertion c m) = codes "assert(" ++ text_of c ++ codes ", " ++ text_of m ++ codes ")"
@@ -42,9 +42,9 @@ unfoldable mutual
   text_of_others (more e es) = codes ", " ++ text_of e ++ text_of_others es
 
   -- interpolations and parts side by side
-  pub text_of_holes : Holes → List ℕ
-  text_of_holes closed = []
-  text_of_holes (hole e part hs) = text_of e ++ part ++ text_of_holes hs
+  pub text_of_interpolations : Interpolations → List ℕ
+  text_of_interpolations closed = []
+  text_of_interpolations (interpolation e part hs) = text_of e ++ part ++ text_of_interpolations hs
 
 -- the rest of a call of `assert` behind its condition
 abbrev pub text_of_message : Option Shape → List ℕ

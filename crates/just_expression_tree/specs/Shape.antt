@@ -13,7 +13,7 @@ mutual
   pub data Shape : Type 0 where
     literal : List ℕ → Shape
     command : List ℕ → Shape
-    format : List ℕ → Holes → Shape
+    format : List ℕ → Interpolations → Shape
     variable : List ℕ → Shape
     call : List ℕ → Shapes → Shape
     assertion : Shape → Shape → Shape
@@ -32,9 +32,9 @@ mutual
     more : Shape → Shapes → Shapes
 
   -- the interpolations of a format string, each with the part behind it
-  pub data Holes : Type 0 where
-    closed : Holes
-    hole : Shape → List ℕ → Holes → Holes
+  pub data Interpolations : Type 0 where
+    closed : Interpolations
+    interpolation : Shape → List ℕ → Interpolations → Interpolations
 
 abbrev pub shapes_from : List Shape → Shapes
 shapes_from [] = end
@@ -44,9 +44,9 @@ shapes_from (e ∷ es) = more e (shapes_from es)
 abbrev pub written : StringLiteral → List ℕ
 written s = lexeme s.token
 
-abbrev pub holes_from : List (Shape × StringLiteral) → Holes
-holes_from [] = closed
-holes_from ((e, part) ∷ es) = hole e (written part) (holes_from es)
+abbrev pub interpolations_from : List (Shape × StringLiteral) → Interpolations
+interpolations_from [] = closed
+interpolations_from ((e, part) ∷ es) = interpolation e (written part) (interpolations_from es)
 
 -- one level, with the shape of each expression inside
 abbrev pub shape_step : Expression-F Shape → Shape
@@ -59,7 +59,7 @@ shape_step (Expression-F.Comparison l operator r token) = binary (comparison ope
 shape_step (Expression-F.Concatenation l token r) = binary concatenation l.value r.value
 shape_step (Expression-F.Conditional c t None) = choice_alone c.value t.value
 shape_step (Expression-F.Conditional c t (Some o)) = choice c.value t.value o.value
-shape_step (Expression-F.FormatString start es) = format (written start) (holes_from es.items)
+shape_step (Expression-F.FormatString start es) = format (written start) (interpolations_from es.items)
 shape_step (Expression-F.Group e) = group e.value
 shape_step (Expression-F.Join None token r) = rooted r.value
 shape_step (Expression-F.Join (Some l) token r) = binary joining l.value r.value
@@ -81,5 +81,5 @@ abbrev pub inner_shape : Option (Box Expression) → Option Shape
 inner_shape o = option_map (λ e. shape_of e.value) o
 
 -- the shapes of interpolations and of the parts behind them
-abbrev pub holes_of : List (Expression × StringLiteral) → Holes
-holes_of es = holes_from (map (λ e. (shape_of e.0, e.1)) es)
+abbrev pub interpolations_of : List (Expression × StringLiteral) → Interpolations
+interpolations_of es = interpolations_from (map (λ e. (shape_of e.0, e.1)) es)

@@ -1,8 +1,8 @@
 //! How expressions are printed.
 ghost use Rattle.std.specs.Prelude.{◌≡◌, ◌++◌, codes};
 ghost use Rattle.std.specs.Fmt.{WritesOnOk};
-ghost use Rattle.just_expression_tree.specs.Printing.{text_of, text_of_all, text_of_holes, text_of_message, text_of_other};
-ghost use Rattle.just_expression_tree.specs.Shape.{shape_of, shapes_of, holes_of, inner_shape};
+ghost use Rattle.just_expression_tree.specs.Printing.{text_of, text_of_all, text_of_interpolations, text_of_message, text_of_other};
+ghost use Rattle.just_expression_tree.specs.Shape.{shape_of, shapes_of, interpolations_of, inner_shape};
 
 use crate::expression::Expression;
 use just_strings::StringLiteral;
@@ -35,7 +35,7 @@ pub fn print<W: Write>(f: &mut Formatter<W>, expression: &Expression) -> fmt::Re
         Expression::Not { operand } => print_between(f, "!", operand, ""),
         Expression::StringLiteral { string_literal } => f.write_str(string_literal.token.lexeme()),
         Expression::FormatString { start, expressions } => {
-            print_holes(f, start.token.lexeme(), expressions)
+            print_interpolations(f, start.token.lexeme(), expressions)
         }
         Expression::Backtick { token, .. } => f.write_str(token.lexeme()),
         Expression::Variable { name, .. } => f.write_str(name.lexeme()),
@@ -162,15 +162,15 @@ fn print_all<W: Write>(f: &mut Formatter<W>, expressions: &[Expression]) -> fmt:
 /// A part of a format string, and interpolations with the parts behind them.
 #[cycle(print)]
 #[tactic(auto, unfolding(crate::specs::Printing::text_of))]
-fn print_holes<W: Write>(
+fn print_interpolations<W: Write>(
     f: &mut Formatter<W>,
     start: &str,
-    holes: &[(Expression, StringLiteral)],
+    interpolations: &[(Expression, StringLiteral)],
 ) -> fmt::Result
-    ensures { WritesOnOk W.write_str_gives f.old result (start.now ++ text_of_holes (holes_of holes.now)) f.new }
+    ensures { WritesOnOk W.write_str_gives f.old result (start.now ++ text_of_interpolations (interpolations_of interpolations.now)) f.new }
 {
     f.write_str(start)?;
-    for (expression, part) in holes {
+    for (expression, part) in interpolations {
         print_between(f, "", expression, part.token.lexeme())?;
     }
     Ok(())

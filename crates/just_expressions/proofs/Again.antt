@@ -13,12 +13,12 @@ use Rattle.just_strings.specs.Cooking.{cooked}
 use Rattle.just_strings.specs.Kinds.{kind_of}
 use Rattle.just_strings.specs.Parts.{cooked_part}
 use Rattle.just_expression_tree.specs.Operators.{Binary}
-use Rattle.just_expression_tree.specs.Shape.{Shape, Shapes, Holes, literal, command, format, variable, call, assertion, assertion_alone, group, listing, choice, choice_alone, negation, rooted, binary, end, more, closed, hole}
+use Rattle.just_expression_tree.specs.Shape.{Shape, Shapes, Interpolations, literal, command, format, variable, call, assertion, assertion_alone, group, listing, choice, choice_alone, negation, rooted, binary, end, more, closed, interpolation}
 use Rattle.just_expressions.specs.Words.{is_kind, Begins, Mark, Lacks, if_keyword, else_keyword, assert_keyword}
 use Rattle.just_expressions.specs.Operators.{sign, rank, left_rank, right_rank, rank_of}
 use Rattle.just_expressions.specs.Literals.{Expansion, PartCooks}
-use Rattle.just_expressions.specs.Grammar.{May, IsChoice, has_holes, Closes, Is, IsBraced, AreAll, AreHoles, depth, depth_all, depth_holes, Derives}
-use Rattle.just_expressions.specs.Reading.{Stop, Read, bang, slash, accept, is_keyword, operator_at, prefix_at, taken_if, command_at, literal_at, part_at, elements_at, hole_at, holes_at, format_at, braces_at, otherwise_at, choice_at, closing_at, message_at, assertion_at, call_at, named_at, bracketed_at, primary_at, operand_at, expression_at}
+use Rattle.just_expressions.specs.Grammar.{May, IsChoice, has_interpolations, Closes, Is, IsBraced, AreAll, AreInterpolations, depth, depth_all, depth_interpolations, Derives}
+use Rattle.just_expressions.specs.Reading.{Stop, Read, bang, slash, accept, is_keyword, operator_at, prefix_at, taken_if, command_at, literal_at, part_at, elements_at, interpolation_at, interpolations_at, format_at, braces_at, otherwise_at, choice_at, closing_at, message_at, assertion_at, call_at, named_at, bracketed_at, primary_at, operand_at, expression_at}
 use Rattle.just_expressions.proofs.Taken.{test, text_itself, text_differs, clash, Taken, taken, marked, same_front, lacks_accept, other_accept, keyword_begins, lacks_keyword}
 use Rattle.just_expressions.proofs.Operators.{operator_again, lacks_operator, left_is}
 use Rattle.just_expressions.proofs.Found.{assert_is_no_if}
@@ -92,10 +92,10 @@ module _ {T : Type 0} (word : T → Word) (expansion : Expansion) where
     unfolding part_at
     part_end kind ts part rest b c =
         let t = taken word FormatStringEnd part ts rest b in
-        let no_hole = other_accept word FormatStringContinue FormatStringEnd ts rest (part, b) refl in
+        let no_interpolation = other_accept word FormatStringContinue FormatStringEnd ts rest (part, b) refl in
         let cooks : PartCooks kind (word t.token).text = rw t.says c in
         let text = taken_again t.token (cooked_part kind (word t.token).text) part cooks t.says in
-        record { rest = t.rest; is = rw (no_hole, t.expects, text) refl; others = t.others }
+        record { rest = t.rest; is = rw (no_interpolation, t.expects, text) refl; others = t.others }
 
     part_more : (kind : StringKind) (ts : List T) (part : List ℕ) (rest : List Word) → Begins FormatStringContinue part (map word ts) rest → PartCooks kind part → Reads (part_at word kind ts) (part, true) rest
     unfolding part_at
@@ -105,38 +105,38 @@ module _ {T : Type 0} (word : T → Word) (expansion : Expansion) where
         let text = taken_again t.token (cooked_part kind (word t.token).text) part cooks t.says in
         record { rest = t.rest; is = rw (t.accepts, text) refl; others = t.others }
 
-    hole_again : (kind : StringKind) (ts : List T) (e : Shape) (part : List ℕ) (goes_on : Bool) (a rest : List Word) → (r : Reads (deeper 6 ts) e a) → Reads (part_at word kind r.rest) (part, goes_on) rest
-        → Reads (hole_at word expansion deeper kind ts) ((e, part), goes_on) rest
-    unfolding hole_at
-    hole_again kind ts e part goes_on a rest r p = record { rest = p.rest; is = rw (r.is, p.is) refl; others = p.others }
+    interpolation_again : (kind : StringKind) (ts : List T) (e : Shape) (part : List ℕ) (goes_on : Bool) (a rest : List Word) → (r : Reads (deeper 6 ts) e a) → Reads (part_at word kind r.rest) (part, goes_on) rest
+        → Reads (interpolation_at word expansion deeper kind ts) ((e, part), goes_on) rest
+    unfolding interpolation_at
+    interpolation_again kind ts e part goes_on a rest r p = record { rest = p.rest; is = rw (r.is, p.is) refl; others = p.others }
 
-    hole_last : (n : ℕ) (kind : StringKind) (ts : List T) (e : Shape) (part : List ℕ) (rest : List Word) → Reads (hole_at word expansion deeper kind ts) ((e, part), false) rest → Reads (holes_at word expansion deeper (suc n) kind ts) (hole e part closed) rest
-    unfolding holes_at
-    hole_last n kind ts e part rest r = record { rest = r.rest; is = rw r.is refl; others = r.others }
+    interpolation_last : (n : ℕ) (kind : StringKind) (ts : List T) (e : Shape) (part : List ℕ) (rest : List Word) → Reads (interpolation_at word expansion deeper kind ts) ((e, part), false) rest → Reads (interpolations_at word expansion deeper (suc n) kind ts) (interpolation e part closed) rest
+    unfolding interpolations_at
+    interpolation_last n kind ts e part rest r = record { rest = r.rest; is = rw r.is refl; others = r.others }
 
-    hole_more : (n : ℕ) (kind : StringKind) (ts : List T) (e : Shape) (part : List ℕ) (hs : Holes) (a rest : List Word) → (r : Reads (hole_at word expansion deeper kind ts) ((e, part), true) a) → Reads (holes_at word expansion deeper n kind r.rest) hs rest
-        → Reads (holes_at word expansion deeper (suc n) kind ts) (hole e part hs) rest
-    unfolding holes_at
-    hole_more n kind ts e part hs a rest r s = record { rest = s.rest; is = rw (r.is, s.is) refl; others = s.others }
+    interpolation_more : (n : ℕ) (kind : StringKind) (ts : List T) (e : Shape) (part : List ℕ) (hs : Interpolations) (a rest : List Word) → (r : Reads (interpolation_at word expansion deeper kind ts) ((e, part), true) a) → Reads (interpolations_at word expansion deeper n kind r.rest) hs rest
+        → Reads (interpolations_at word expansion deeper (suc n) kind ts) (interpolation e part hs) rest
+    unfolding interpolations_at
+    interpolation_more n kind ts e part hs a rest r s = record { rest = s.rest; is = rw (r.is, s.is) refl; others = s.others }
 
     -- the interpolations are read wherever they are spelled
-    abbrev HoleReader : Holes → Type 0
-    HoleReader hs = (n : ℕ) (kind : StringKind) (ts : List T) (rest : List Word) → has_holes hs ≡ true → AreHoles expansion kind hs (map word ts) rest → length (map word ts) < n → Reads (holes_at word expansion deeper n kind ts) hs rest
+    abbrev InterpolationReader : Interpolations → Type 0
+    InterpolationReader hs = (n : ℕ) (kind : StringKind) (ts : List T) (rest : List Word) → has_interpolations hs ≡ true → AreInterpolations expansion kind hs (map word ts) rest → length (map word ts) < n → Reads (interpolations_at word expansion deeper n kind ts) hs rest
 
-    holes_again : (e : Shape) (part : List ℕ) (hs : Holes) → Reader e → HoleReader hs → HoleReader (hole e part hs)
-    holes_again e part hs read others zero kind ts rest there i fuel = absurd (omega arith)
-    holes_again e part closed read others (suc n) kind ts rest there i fuel =
+    interpolations_again : (e : Shape) (part : List ℕ) (hs : Interpolations) → Reader e → InterpolationReader hs → InterpolationReader (interpolation e part hs)
+    interpolations_again e part hs read others zero kind ts rest there i fuel = absurd (omega arith)
+    interpolations_again e part closed read others (suc n) kind ts rest there i fuel =
         let r = read 6 ts i.0 i.2 i.3 in
         let p = part_end kind r.rest part i.1 (rw r.others i.4) i.5 in
-        rw (← i.6) (hole_last n kind ts e part i.1 (hole_again kind ts e part false i.0 i.1 r p))
-    holes_again e part (hole f next hs) read others (suc n) kind ts rest there i fuel =
+        rw (← i.6) (interpolation_last n kind ts e part i.1 (interpolation_again kind ts e part false i.0 i.1 r p))
+    interpolations_again e part (interpolation f next hs) read others (suc n) kind ts rest there i fuel =
         let r = read 6 ts i.0 i.2 i.3 in
         let p = part_more kind r.rest part i.1 (rw r.others i.4) i.5 in
-        let h = hole_again kind ts e part true i.0 i.1 r p in
+        let h = interpolation_again kind ts e part true i.0 i.1 r p in
         let less = shorter expansion e (map word ts) i.0 i.2 in
         let mark = mark_shorter FormatStringContinue i.0 i.1 (part, i.4) in
         let left = ap length h.others in
-        hole_more n kind ts e part (hole f next hs) i.1 rest h (others n kind h.rest rest refl (rw h.others i.6) (omega arith))
+        interpolation_more n kind ts e part (interpolation f next hs) i.1 rest h (others n kind h.rest rest refl (rw h.others i.6) (omega arith))
 
     fuel_enough : (ts : List T) → length (map word ts) < suc (length ts)
     fuel_enough ts = omega (arith, length-map ts word)
@@ -148,7 +148,7 @@ module _ {T : Type 0} (word : T → Word) (expansion : Expansion) where
         let no_command = other_accept word Backtick FormatStringStart ts a (s, b) refl in
         rw (no_string, no_command, t.accepts) refl
 
-    format_again : (s : List ℕ) (hs : Holes) → HoleReader hs → Primary (format s hs)
+    format_again : (s : List ℕ) (hs : Interpolations) → InterpolationReader hs → Primary (format s hs)
     unfolding format_at
     format_again s closed read ts rest i =
         let t = taken word FormatStringStart s ts i.0 i.1 in
@@ -156,12 +156,12 @@ module _ {T : Type 0} (word : T → Word) (expansion : Expansion) where
         let text = taken_again t.token (cooked_part (kind_of (word t.token).text) (word t.token).text) s cooks t.says in
         carried (primary_at word expansion deeper ts) (format_at word expansion deeper t.token t.rest) (format s closed) rest (format_first s ts i.0 i.1 t)
         (record { rest = t.rest; is = rw (text, i.3) refl; others = t.others ∙ i.4 })
-    format_again s (hole e part hs) read ts rest i =
+    format_again s (interpolation e part hs) read ts rest i =
         let t = taken word FormatStringStart s ts i.0 i.1 in
         let cooks : PartCooks (kind_of (word t.token).text) (word t.token).text = rw t.says i.2 in
         let text = taken_again t.token (cooked_part (kind_of (word t.token).text) (word t.token).text) s cooks t.says in
         let all = read (suc (length t.rest)) (kind_of s) t.rest rest refl (rw t.others i.4) (fuel_enough t.rest) in
-        carried (primary_at word expansion deeper ts) (format_at word expansion deeper t.token t.rest) (format s (hole e part hs)) rest (format_first s ts i.0 i.1 t)
+        carried (primary_at word expansion deeper ts) (format_at word expansion deeper t.token t.rest) (format s (interpolation e part hs)) rest (format_first s ts i.0 i.1 t)
         (record { rest = all.rest; is = rw (text, i.3, all.is) refl; others = all.others })
 
     -- ---- conditionals
@@ -296,7 +296,7 @@ module _ {T : Type 0} (word : T → Word) (expansion : Expansion) where
         carried (primary_at word expansion deeper ts) (call_at word expansion deeper f p.rest) (call f es) rest (named_first f ts i.0 i.2 t ∙ opening f t.rest i.1 (text_differs f if_keyword i.3) p)
         (record { rest = s.rest; is = rw (text_differs f assert_keyword i.4, s.is) refl; others = s.others })
 
-    closing_again : (ts : List T) (rest : List Word) → Closes (map word ts) rest → Ends (closing_at word ts) rest
+    closing_again : (ts : List T) (rest : List Word) → Closes ParenR (map word ts) rest → Ends (closing_at word ts) rest
     unfolding closing_at
     closing_again ts rest (inl m) =
         let q = marked word ParenR ts rest m in
@@ -306,7 +306,7 @@ module _ {T : Type 0} (word : T → Word) (expansion : Expansion) where
         let q = marked word ParenR c.rest rest (rw c.others m.2) in
         record { rest = q.rest; is = rw (c.accepts, q.expects) refl; others = q.others }
 
-    message_again : (m : Shape) → Reader m → (ts : List T) (a rest : List Word) → Is expansion m (map word ts) a → May 6 m a → Closes a rest → Reads (message_at word expansion deeper ts) (Some m) rest
+    message_again : (m : Shape) → Reader m → (ts : List T) (a rest : List Word) → Is expansion m (map word ts) a → May 6 m a → Closes ParenR a rest → Reads (message_at word expansion deeper ts) (Some m) rest
     unfolding message_at can_start
     message_again m read ts a rest i may closes =
         let goes_on = lacks_accept word ParenR ts (cannot m ParenR (map word ts) (starts expansion m (map word ts) a i) refl) in
@@ -334,7 +334,7 @@ module _ {T : Type 0} (word : T → Word) (expansion : Expansion) where
         carried (primary_at word expansion deeper ts) (assertion_at word expansion deeper p.rest) (assertion c m) rest (assertion_first ts i.0 i.1 i.5 t p)
         (record { rest = y.rest; is = rw (x.is, comma.accepts, y.is) refl; others = y.others })
 
-    alone_again : (c : Shape) (ts : List T) (a rest : List Word) → Reads (deeper 6 ts) c a → Closes a rest → Reads (assertion_at word expansion deeper ts) (assertion_alone c) rest
+    alone_again : (c : Shape) (ts : List T) (a rest : List Word) → Reads (deeper 6 ts) c a → Closes ParenR a rest → Reads (assertion_at word expansion deeper ts) (assertion_alone c) rest
     unfolding assertion_at message_at
     alone_again c ts a rest x (inl m) =
         let here : Mark ParenR (map word x.rest) rest = rw x.others m in
@@ -456,7 +456,7 @@ module _ {T : Type 0} (word : T → Word) (expansion : Expansion) where
     reads : (e : Shape) → ReadsAt e
     reads (literal s) d h ts rest i = literal_again (inner d) s ts rest i
     reads (command s) d h ts rest i = command_again (inner d) s ts rest i
-    reads (format s hs) d h ts rest i = format_again (inner d) s hs (reads_holes hs d (omega arith)) ts rest i
+    reads (format s hs) d h ts rest i = format_again (inner d) s hs (reads_interpolations hs d (omega arith)) ts rest i
     reads (variable x) d h ts rest i = variable_again (inner d) x ts rest i
     reads (call f es) d h ts rest i = call_again (inner d) f es (reads_all es d (omega arith)) ts rest i
     reads (assertion c m) d h ts rest i = assertion_again (inner d) c m (whole c (reads c) d (omega arith)) (whole m (reads m) d (omega arith)) ts rest i
@@ -473,9 +473,9 @@ module _ {T : Type 0} (word : T → Word) (expansion : Expansion) where
     reads_all end d h = end_again (inner d)
     reads_all (more e es) d h = row_again (inner d) e es (whole e (reads e) d (omega arith)) (reads_all es d (omega arith))
 
-    reads_holes : (hs : Holes) (d : ℕ) → depth_holes hs ≤ d → HoleReader (inner d) hs
-    reads_holes closed d h = λ n kind ts rest there i fuel. absurd cc
-    reads_holes (hole e part hs) d h = holes_again (inner d) e part hs (whole e (reads e) d (omega arith)) (reads_holes hs d (omega arith))
+    reads_interpolations : (hs : Interpolations) (d : ℕ) → depth_interpolations hs ≤ d → InterpolationReader (inner d) hs
+    reads_interpolations closed d h = λ n kind ts rest there i fuel. absurd cc
+    reads_interpolations (interpolation e part hs) d h = interpolations_again (inner d) e part hs (whole e (reads e) d (omega arith)) (reads_interpolations hs d (omega arith))
 
   pub again : (levels k : ℕ) (ts : List T) (rest : List Word) (e : Shape) → Derives expansion levels k (map word ts) e rest → Reads (expression_at word expansion levels k ts) e rest
   again levels k ts rest e h = whole e (reads e) levels h.fits k ts rest h.is h.may

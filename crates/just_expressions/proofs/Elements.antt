@@ -71,11 +71,11 @@ module _ (x : Expansion) (d : ℕ) (close : TokenKind) (fs : List Expression) (n
   unfolding elements_at
   at_end t rest closes = (rw closes at (sym next)) ∙ ap (λ (es : Shapes). Ok (es, rest)) (joined-end fs)
 
-cooked_behind : (x : Expansion) (fs : List Expression) (e : Expression) → cooked_in_all x (shapes_of (fs ++ e ∷ [])) ≡ cooked_in_all x (shapes_of fs) ++ cooked_in x (shape_of e)
+pub cooked_behind : (x : Expansion) (fs : List Expression) (e : Expression) → cooked_in_all x (shapes_of (fs ++ e ∷ [])) ≡ cooked_in_all x (shapes_of fs) ++ cooked_in x (shape_of e)
 cooked_behind x [] e = append-nil (cooked_in x (shape_of e))
 cooked_behind x (f ∷ fs) e = ap (λ held. cooked_in x (shape_of f) ++ held) (cooked_behind x fs e) ∙ sym (append_assoc (cooked_in x (shape_of f)) (cooked_in_all x (shapes_of fs)) (cooked_in x (shape_of e)))
 
-held_behind : (fs : List Expression) (e : Expression) → flat_map held_by (fs ++ e ∷ []) ≡ flat_map held_by fs ++ held_by e
+pub held_behind : (fs : List Expression) (e : Expression) → flat_map held_by (fs ++ e ∷ []) ≡ flat_map held_by fs ++ held_by e
 held_behind [] e = append-nil (held_by e)
 held_behind (f ∷ fs) e = ap (λ held. held_by f ++ held) (held_behind fs e) ∙ sym (append_assoc (held_by f) (flat_map held_by fs) (held_by e))
 

@@ -8,11 +8,11 @@ use Rattle.just_strings.specs.declared.string_literal.StringLiteral.{StringLiter
 use Rattle.just_strings.specs.Kinds.{kind_of}
 use Rattle.just_strings.specs.Parts.{cooked_part}
 use Rattle.just_expression_tree.specs.declared.expression.Expression.{Expression, FormatString, the_lemmas}
-use Rattle.just_expression_tree.specs.Shape.{format, shape_of, holes_of, written}
+use Rattle.just_expression_tree.specs.Shape.{format, shape_of, interpolations_of, written}
 use Rattle.just_expressions.specs.declared.fault.Fault.{Fault}
 use Rattle.just_expressions.specs.declared.fault.Fault.TheVariants as faults
 use Rattle.just_expressions.specs.Literals.{Expansion, is_open}
-use Rattle.just_expressions.specs.Reading.{Fails, holes_at, format_at, taken_if, expression_at}
+use Rattle.just_expressions.specs.Reading.{Fails, interpolations_at, format_at, taken_if, expression_at}
 
 module _ (x : Expansion) (d : ℕ) (t : Token) (ts : List Token) (start : StringLiteral) (kind : StringKind) (same : kind ≡ kind_of (lexeme t))
     (read : taken_if word_of t (cooked_part kind (lexeme t)) ≡ Ok (written start)) (token : start.token ≡ t) where
@@ -28,20 +28,20 @@ module _ (x : Expansion) (d : ℕ) (t : Token) (ts : List Token) (start : String
   pub format_closed : (es : Vec (Expression × StringLiteral)) → is_open (lexeme t) ≡ false → es.items ≡ [] → format_at word_of x (expression_at word_of x d) t ts ≡ Ok (shape_of (FormatString start es), ts)
   unfolding format_at
   format_closed es ends none =
-      let shape : shape_of (FormatString start es) ≡ format (written start) (holes_of es.items) = search (rules, the_lemmas) in
+      let shape : shape_of (FormatString start es) ≡ format (written start) (interpolations_of es.items) = search (rules, the_lemmas) in
       let ends_so = openness false ends in
       rw (first_part, ends_so, shape, none) refl
 
-  pub format_open : (es : Vec (Expression × StringLiteral)) (rest : List Token) → is_open (lexeme t) ≡ true → holes_at word_of x (expression_at word_of x d) (suc (length ts)) kind ts ≡ Ok (holes_of es.items, rest)
+  pub format_open : (es : Vec (Expression × StringLiteral)) (rest : List Token) → is_open (lexeme t) ≡ true → interpolations_at word_of x (expression_at word_of x d) (suc (length ts)) kind ts ≡ Ok (interpolations_of es.items, rest)
       → format_at word_of x (expression_at word_of x d) t ts ≡ Ok (shape_of (FormatString start es), rest)
   unfolding format_at
   format_open es rest goes others =
-      let shape : shape_of (FormatString start es) ≡ format (written start) (holes_of es.items) = search (rules, the_lemmas) in
+      let shape : shape_of (FormatString start es) ≡ format (written start) (interpolations_of es.items) = search (rules, the_lemmas) in
       let goes_so = openness true goes in
       let others_so = rw kind_is at others in
       rw (first_part, goes_so, others_so, shape) refl
 
-  pub format_fails : is_open (lexeme t) ≡ true → (e : Fault) → Fails e (holes_at word_of x (expression_at word_of x d) (suc (length ts)) kind ts) → Fails e (format_at word_of x (expression_at word_of x d) t ts)
+  pub format_fails : is_open (lexeme t) ≡ true → (e : Fault) → Fails e (interpolations_at word_of x (expression_at word_of x d) (suc (length ts)) kind ts) → Fails e (format_at word_of x (expression_at word_of x d) t ts)
   unfolding format_at
   format_fails goes faults.OutOfMemory h = tt
   format_fails goes faults.NumbersUsed h = absurd h

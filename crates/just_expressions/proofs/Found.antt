@@ -12,12 +12,12 @@ use Rattle.just_strings.specs.Cooking.{cooked}
 use Rattle.just_strings.specs.Kinds.{kind_of}
 use Rattle.just_strings.specs.Parts.{cooked_part}
 use Rattle.just_expression_tree.specs.Operators.{Binary}
-use Rattle.just_expression_tree.specs.Shape.{Shape, Shapes, Holes, literal, command, format, variable, call, assertion, assertion_alone, group, listing, choice, choice_alone, negation, rooted, binary, end, more, closed, hole}
+use Rattle.just_expression_tree.specs.Shape.{Shape, Shapes, Interpolations, literal, command, format, variable, call, assertion, assertion_alone, group, listing, choice, choice_alone, negation, rooted, binary, end, more, closed, interpolation}
 use Rattle.just_expressions.specs.Words.{Begins, Mark, if_keyword, else_keyword, assert_keyword}
 use Rattle.just_expressions.specs.Operators.{rank, left_rank, right_rank, rank_of}
 use Rattle.just_expressions.specs.Literals.{Expansion, PartCooks, is_script, is_open}
-use Rattle.just_expressions.specs.Grammar.{May, MayStand, IsChoice, has_holes, part_kind, Closes, Is, IsBraced, AreAll, AreHoles, depth, depth_all, depth_holes, Derives}
-use Rattle.just_expressions.specs.Reading.{Read, Prefix, bang, slash, prefixed, asserted, accept, expect, is_keyword, operator_at, prefix_at, prefix_if, taken_if, command_at, literal_at, part_at, elements_at, hole_at, holes_at, format_at, braces_at, otherwise_at, choice_at, closing_at, message_at, assertion_at, call_at, named_at, bracketed_at, primary_at, operand_at, expression_at}
+use Rattle.just_expressions.specs.Grammar.{May, MayStand, IsChoice, has_interpolations, part_kind, Closes, Is, IsBraced, AreAll, AreInterpolations, depth, depth_all, depth_interpolations, Derives}
+use Rattle.just_expressions.specs.Reading.{Read, Prefix, bang, slash, prefixed, asserted, accept, expect, is_keyword, operator_at, prefix_at, prefix_if, taken_if, command_at, literal_at, part_at, elements_at, interpolation_at, interpolations_at, format_at, braces_at, otherwise_at, choice_at, closing_at, message_at, assertion_at, call_at, named_at, bracketed_at, primary_at, operand_at, expression_at}
 use Rattle.just_expressions.proofs.Taken.{bind_ok, inspect, test, ok_is, turned, some_is, text_same, text_other, same_front, clash, accept_is, accept_mark, accept_none, expect_is, expect_mark, keyword_is, keyword_lacks}
 use Rattle.just_expressions.proofs.Operators.{operator_is, operator_none, left_is, rank_bounds}
 
@@ -27,9 +27,9 @@ assert_is_no_if = text_other assert_keyword if_keyword refl
 same_keyword : (keyword text : List ℕ) (words a b : List Word) → Begins Identifier keyword words a → Begins Identifier text words b → Begins Identifier keyword words b
 same_keyword keyword text words a b h i = rw (same_front Identifier Identifier keyword text words a b h i).1 i
 
-open_kind : (hs : Holes) → has_holes hs ≡ true → part_kind hs ≡ FormatStringContinue
+open_kind : (hs : Interpolations) → has_interpolations hs ≡ true → part_kind hs ≡ FormatStringContinue
 open_kind closed h = absurd cc
-open_kind (hole e part hs) h = refl
+open_kind (interpolation e part hs) h = refl
 
 module _ {T : Type 0} (word : T → Word) (expansion : Expansion) where
   -- what is read is derived
@@ -108,35 +108,35 @@ module _ {T : Type 0} (word : T → Word) (expansion : Expansion) where
               turned (PartSound kind (map word ts)) ((s.0, true), w.0.1) y s.2 (b, c.1)
         ]
 
-    abbrev HoleSound : StringKind → List T → ((Shape × List ℕ) × Bool) × List T → Type 0
-    HoleSound kind ts y = (a : List Word) × Is expansion y.0.0.0 (map word ts) a × MayStand y.0.0.0 a × PartSound kind a ((y.0.0.1, y.0.1), y.1) × (depth y.0.0.0 ≤ d)
+    abbrev InterpolationSound : StringKind → List T → ((Shape × List ℕ) × Bool) × List T → Type 0
+    InterpolationSound kind ts y = (a : List Word) × Is expansion y.0.0.0 (map word ts) a × MayStand y.0.0.0 a × PartSound kind a ((y.0.0.1, y.0.1), y.1) × (depth y.0.0.0 ≤ d)
 
-    hole_found : (kind : StringKind) (ts : List T) (y : ((Shape × List ℕ) × Bool) × List T) → hole_at word expansion deeper kind ts ≡ Ok y → HoleSound kind ts y
-    unfolding hole_at
-    hole_found kind ts y h =
+    interpolation_found : (kind : StringKind) (ts : List T) (y : ((Shape × List ℕ) × Bool) × List T) → interpolation_at word expansion deeper kind ts ≡ Ok y → InterpolationSound kind ts y
+    unfolding interpolation_at
+    interpolation_found kind ts y h =
         let e = bind_ok _ _ y h in
         let p = bind_ok _ _ y e.2 in
         let s = sound 6 ts e.0 e.1 in
-        turned (HoleSound kind ts) (((e.0.0, p.0.0.0), p.0.0.1), p.0.1) y p.2 (map word e.0.1, s.is, s.may, part_found kind e.0.1 p.0 p.1, s.fits)
+        turned (InterpolationSound kind ts) (((e.0.0, p.0.0.0), p.0.0.1), p.0.1) y p.2 (map word e.0.1, s.is, s.may, part_found kind e.0.1 p.0 p.1, s.fits)
 
-    abbrev HolesSound : StringKind → List T → Holes × List T → Type 0
-    HolesSound kind ts y = AreHoles expansion kind y.0 (map word ts) (map word y.1) × (has_holes y.0 ≡ true) × (depth_holes y.0 ≤ d)
+    abbrev InterpolationsSound : StringKind → List T → Interpolations × List T → Type 0
+    InterpolationsSound kind ts y = AreInterpolations expansion kind y.0 (map word ts) (map word y.1) × (has_interpolations y.0 ≡ true) × (depth_interpolations y.0 ≤ d)
 
-    holes_found : (n : ℕ) (kind : StringKind) (ts : List T) (y : Holes × List T) → holes_at word expansion deeper n kind ts ≡ Ok y → HolesSound kind ts y
-    unfolding holes_at
-    holes_found zero kind ts y h = absurd cc
-    holes_found (suc n) kind ts y h =
+    interpolations_found : (n : ℕ) (kind : StringKind) (ts : List T) (y : Interpolations × List T) → interpolations_at word expansion deeper n kind ts ≡ Ok y → InterpolationsSound kind ts y
+    unfolding interpolations_at
+    interpolations_found zero kind ts y h = absurd cc
+    interpolations_found (suc n) kind ts y h =
         let g = bind_ok _ _ y h in
-        let s = hole_found kind ts g.0 g.1 in
+        let s = interpolation_found kind ts g.0 g.1 in
         elim (test g.0.0.1) [
           | inl w ↦
               let hs = bind_ok _ _ y (rw w at g.2) in
-              let t = holes_found n kind g.0.1 hs.0 hs.1 in
+              let t = interpolations_found n kind g.0.1 hs.0 hs.1 in
               let b : Begins (part_kind hs.0.0) g.0.0.0.1 s.0 (map word g.0.1) = rw (open_kind hs.0.0 t.1) (rw w at s.3.0) in
-              turned (HolesSound kind ts) (hole g.0.0.0.0 g.0.0.0.1 hs.0.0, hs.0.1) y hs.2 ((s.0, map word g.0.1, s.1, s.2, b, s.3.1, t.0), refl, omega (arith, s.4, t.2))
+              turned (InterpolationsSound kind ts) (interpolation g.0.0.0.0 g.0.0.0.1 hs.0.0, hs.0.1) y hs.2 ((s.0, map word g.0.1, s.1, s.2, b, s.3.1, t.0), refl, omega (arith, s.4, t.2))
           | inr w ↦
               let b : Begins FormatStringEnd g.0.0.0.1 s.0 (map word g.0.1) = rw w at s.3.0 in
-              turned (HolesSound kind ts) (hole g.0.0.0.0 g.0.0.0.1 closed, g.0.1) y (rw w at g.2) ((s.0, map word g.0.1, s.1, s.2, b, s.3.1, refl), refl, omega (arith, s.4))
+              turned (InterpolationsSound kind ts) (interpolation g.0.0.0.0 g.0.0.0.1 closed, g.0.1) y (rw w at g.2) ((s.0, map word g.0.1, s.1, s.2, b, s.3.1, refl), refl, omega (arith, s.4))
         ]
 
     format_found : (words : List Word) (t : T) (ts : List T) (y : Shape × List T) → Begins FormatStringStart (word t).text words (map word ts) → format_at word expansion deeper t ts ≡ Ok y → Spelled words y
@@ -149,7 +149,7 @@ module _ {T : Type 0} (word : T → Word) (expansion : Expansion) where
         elim (test (is_open s.0)) [
           | inl w ↦
               let hs = bind_ok _ _ y (rw w at s.2) in
-              let f = holes_found (suc (length ts)) (kind_of s.0) ts hs.0 hs.1 in
+              let f = interpolations_found (suc (length ts)) (kind_of s.0) ts hs.0 hs.1 in
               turned (Spelled words) (format s.0 hs.0.0, hs.0.1) y hs.2
               (tight (suc d) (format s.0 hs.0.0) words (map word hs.0.1) (map word ts, b, cooks, w ∙ sym f.1, f.0) refl (omega (arith, f.2)))
           | inr w ↦
@@ -232,22 +232,22 @@ module _ {T : Type 0} (word : T → Word) (expansion : Expansion) where
               ]
         ]
 
-    closing_found : (ts rest : List T) → closing_at word ts ≡ Ok rest → Closes (map word ts) (map word rest)
+    closing_found : (ts rest : List T) → closing_at word ts ≡ Ok rest → Closes ParenR (map word ts) (map word rest)
     unfolding closing_at
     closing_found ts rest h =
         elim (inspect (accept word Comma ts)) [
           | inl w ↦
               let p = bind_ok (expect word ParenR ts) (λ (c : T × List T). Ok c.1) rest (rw w at h) in
-              turned (λ (r : List T). Closes (map word ts) (map word r)) p.0.1 rest p.2 (inl (expect_mark word ParenR ts p.0 p.1))
+              turned (λ (r : List T). Closes ParenR (map word ts) (map word r)) p.0.1 rest p.2 (inl (expect_mark word ParenR ts p.0 p.1))
           | inr w ↦
               let p = bind_ok (expect word ParenR w.0.1) (λ (c : T × List T). Ok c.1) rest (rw w.1 at h) in
-              turned (λ (r : List T). Closes (map word ts) (map word r)) p.0.1 rest p.2 (inr (map word w.0.1, accept_mark word Comma ts w.0 w.1, expect_mark word ParenR w.0.1 p.0 p.1))
+              turned (λ (r : List T). Closes ParenR (map word ts) (map word r)) p.0.1 rest p.2 (inr (map word w.0.1, accept_mark word Comma ts w.0 w.1, expect_mark word ParenR w.0.1 p.0 p.1))
         ]
 
     -- a message and the end of the call, or the end alone
     abbrev Says : List Word → Option Shape → List Word → Type 0
     Says words None rest = Mark ParenR words rest
-    Says words (Some m) rest = (a : List Word) × Is expansion m words a × MayStand m a × Closes a rest × (depth m ≤ d)
+    Says words (Some m) rest = (a : List Word) × Is expansion m words a × MayStand m a × Closes ParenR a rest × (depth m ≤ d)
 
     abbrev MessageSound : List T → Option Shape × List T → Type 0
     MessageSound ts y = Says (map word ts) y.0 (map word y.1)

@@ -9,38 +9,17 @@ use Rattle.just_strings.specs.Cooking.{cooked}
 use Rattle.just_strings.specs.Kinds.{kind_of}
 use Rattle.just_strings.specs.Parts.{cooked_part}
 use Rattle.just_expression_tree.specs.Operators.{Binary}
-use Rattle.just_expression_tree.specs.Shape.{Shape, Shapes, Holes, literal, format, closed}
+use Rattle.just_expression_tree.specs.Shape.{Shape, Shapes, Interpolations, literal, format, closed}
 use Rattle.just_expressions.specs.Words.{is_kind, if_keyword, else_keyword, assert_keyword}
 use Rattle.just_expressions.specs.Operators.{operator_of, rank, right_rank}
 use Rattle.just_expressions.specs.Literals.{Expansion, is_script, is_open}
-use Rattle.just_expressions.specs.Reading.{◌>>=◌, Stop, Read, Prefix, bang, slash, taken_if, accept, expect, is_keyword, operator_if, operator_at, prefix_if, prefix_at, command_at, literal_at, part_at, elements_at, hole_at, holes_at, format_at, braces_at, otherwise_at, choice_at, closing_at, message_at, assertion_at, call_at, named_at, bracketed_at, primary_at, operand_at, expression_at}
+use Rattle.just_expressions.specs.Reading.{◌>>=◌, Stop, Read, Prefix, bang, slash, taken_if, accept, expect, is_keyword, operator_if, operator_at, prefix_if, prefix_at, command_at, literal_at, part_at, elements_at, interpolation_at, interpolations_at, format_at, braces_at, otherwise_at, choice_at, closing_at, message_at, assertion_at, call_at, named_at, bracketed_at, primary_at, operand_at, expression_at}
+use Rattle.just_expressions.proofs.Taken.{bind_ok, inspect, test, some_is, done, ok_is}
 
 -- ---- steps
 
-bind_ok : {A B E : Type 0} (r : Result A E) (f : A → Result B E) (y : B) → (r >>= f) ≡ Ok y → (x : A) × (r ≡ Ok x) × (f x ≡ Ok y)
-bind_ok (Ok x) f y e = (x, refl, e)
-bind_ok (Err d) f y e = absurd cc
-
--- which way an option and a test went
-pub inspect : {A : Type 0} (o : Option A) → (o ≡ None) ⊎ ((x : A) × (o ≡ Some x))
-inspect None = inl refl
-inspect (Some x) = inr (x, refl)
-
-pub test : (b : Bool) → (b ≡ true) ⊎ (b ≡ false)
-test true = inl refl
-test false = inr refl
-
-some_is : {A : Type 0} (x y : A) → Some x ≡ Some y → x ≡ y
-some_is x y e = cc
-
-abbrev done : {A E : Type 0} → A → Result A E
-done x = Ok x
-
-ok_is : {A E : Type 0} (x y : A) → done {A = A} {E = E} x ≡ Ok y → x ≡ y
-ok_is x y e = cc
-
 -- what ends with fewer tokens than that
-ended : {A T : Type 0} (a : A) (rest : List T) (p : A × List T) (n : ℕ) → done {A = A × List T} {E = Stop T} (a, rest) ≡ Ok p → length rest < n → length p.1 < n
+pub ended : {A T : Type 0} (a : A) (rest : List T) (p : A × List T) (n : ℕ) → done {A = A × List T} {E = Stop T} (a, rest) ≡ Ok p → length rest < n → length p.1 < n
 ended {A = A} {T = T} a rest p n h less = let q = ap (λ (z : A × List T). z.1) (ok_is {A = A × List T} {E = Stop T} (a, rest) p h) in rw (← q) less
 
 module _ {T : Type 0} (word : T → Word) where
@@ -163,30 +142,30 @@ module _ {T : Type 0} (word : T → Word) where
                 ]
           ]
 
-      pub hole_shorter : (kind : StringKind) (ts : List T) (p : ((Shape × List ℕ) × Bool) × List T) → hole_at word expansion deeper kind ts ≡ Ok p → length p.1 < length ts
-      unfolding hole_at
-      hole_shorter kind ts p h =
+      pub interpolation_shorter : (kind : StringKind) (ts : List T) (p : ((Shape × List ℕ) × Bool) × List T) → interpolation_at word expansion deeper kind ts ≡ Ok p → length p.1 < length ts
+      unfolding interpolation_at
+      interpolation_shorter kind ts p h =
           let e = bind_ok _ _ p h in
           let less = each 6 ts e.0 e.1 in
           let s = bind_ok _ _ p e.2 in
           let r = part_shorter kind e.0.1 s.0 s.1 in ended _ s.0.1 p (length ts) s.2 (omega (arith, r, less))
 
-      holes_shorter : (n : ℕ) (kind : StringKind) (ts : List T) (p : Holes × List T) → holes_at word expansion deeper n kind ts ≡ Ok p → length p.1 < length ts
-      unfolding holes_at
-      holes_shorter zero kind ts p h = absurd cc
-      holes_shorter (suc n) kind ts p h =
+      interpolations_shorter : (n : ℕ) (kind : StringKind) (ts : List T) (p : Interpolations × List T) → interpolations_at word expansion deeper n kind ts ≡ Ok p → length p.1 < length ts
+      unfolding interpolations_at
+      interpolations_shorter zero kind ts p h = absurd cc
+      interpolations_shorter (suc n) kind ts p h =
           let e = bind_ok _ _ p h in
-          let less = hole_shorter kind ts e.0 e.1 in
+          let less = interpolation_shorter kind ts e.0 e.1 in
           elim (test e.0.0.1) [
             | inl f ↦
                 let hs = bind_ok _ _ p (rw f at e.2) in
-                let r = holes_shorter n kind e.0.1 hs.0 hs.1 in ended _ hs.0.1 p (length ts) hs.2 (omega (arith, r, less))
+                let r = interpolations_shorter n kind e.0.1 hs.0 hs.1 in ended _ hs.0.1 p (length ts) hs.2 (omega (arith, r, less))
             | inr f ↦ ended _ e.0.1 p (length ts) (rw f at e.2) less
           ]
 
       -- what is read behind the first part of a format string
       abbrev behind_first : List ℕ → List T → Read T Shape
-      behind_first s ts = if is_open s then (holes_at word expansion deeper (suc (length ts)) (kind_of s) ts >>= λ hs. Ok (format s hs.0, hs.1)) else Ok (format s closed, ts)
+      behind_first s ts = if is_open s then (interpolations_at word expansion deeper (suc (length ts)) (kind_of s) ts >>= λ hs. Ok (format s hs.0, hs.1)) else Ok (format s closed, ts)
 
       format_no_longer : (t : T) (ts : List T) (p : Shape × List T) → format_at word expansion deeper t ts ≡ Ok p → length p.1 < suc (length ts)
       unfolding format_at
@@ -195,7 +174,7 @@ module _ {T : Type 0} (word : T → Word) where
           elim (test (is_open s.0)) [
             | inl f ↦
                 let hs = bind_ok _ _ p (rw f at s.2) in
-                let less = holes_shorter (suc (length ts)) (kind_of s.0) ts hs.0 hs.1 in ended _ hs.0.1 p (suc (length ts)) hs.2 (omega (arith, less))
+                let less = interpolations_shorter (suc (length ts)) (kind_of s.0) ts hs.0 hs.1 in ended _ hs.0.1 p (suc (length ts)) hs.2 (omega (arith, less))
             | inr f ↦ ended _ ts p (suc (length ts)) (rw f at s.2) (omega arith)
           ]
 

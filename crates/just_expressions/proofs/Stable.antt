@@ -14,7 +14,7 @@ use Rattle.just_expressions.specs.Words.{if_keyword, else_keyword, assert_keywor
 use Rattle.just_expressions.specs.Operators.{right_rank}
 use Rattle.just_expressions.specs.Literals.{Expansion, is_open}
 use Rattle.just_expressions.specs.Grammar.{depth, Derives}
-use Rattle.just_expressions.specs.Reading.{◌>>=◌, on, Stop, unexpected, refused, Read, accept, expect, is_keyword, operator_at, prefix_at, taken_if, literal_at, elements_at, hole_at, holes_at, format_at, braces_at, otherwise_at, choice_at, closing_at, message_at, assertion_at, call_at, named_at, bracketed_at, primary_at, operand_at, expression_at}
+use Rattle.just_expressions.specs.Reading.{◌>>=◌, on, Stop, unexpected, refused, Read, accept, expect, is_keyword, operator_at, prefix_at, taken_if, literal_at, elements_at, interpolation_at, interpolations_at, format_at, braces_at, otherwise_at, choice_at, closing_at, message_at, assertion_at, call_at, named_at, bracketed_at, primary_at, operand_at, expression_at}
 use Rattle.just_expressions.proofs.Taken.{test}
 use Rattle.just_expressions.proofs.Found.{found}
 use Rattle.just_expressions.proofs.Again.{Reads, again}
@@ -46,22 +46,22 @@ module _ {T : Type 0} (word : T → Word) (expansion : Expansion) where
         (bind (p 6 ts) (q 6 ts) _ _ (H 6 ts) (λ e. either (accept word Comma e.1) _ _ _ _ (inr refl) (λ c. bind (elements_at word expansion p n close c.1) (elements_at word expansion q n close c.1) _ _ (elements n close c.1) (λ es. inr refl))))
         (λ c. inr refl)
 
-    hole : (kind : StringKind) (ts : List T) → Refines (hole_at word expansion p kind ts) (hole_at word expansion q kind ts)
-    unfolding hole_at
-    hole kind ts = bind (p 6 ts) (q 6 ts) _ _ (H 6 ts) (λ e. inr refl)
+    interpolation : (kind : StringKind) (ts : List T) → Refines (interpolation_at word expansion p kind ts) (interpolation_at word expansion q kind ts)
+    unfolding interpolation_at
+    interpolation kind ts = bind (p 6 ts) (q 6 ts) _ _ (H 6 ts) (λ e. inr refl)
 
-    holes : (n : ℕ) (kind : StringKind) (ts : List T) → Refines (holes_at word expansion p n kind ts) (holes_at word expansion q n kind ts)
-    unfolding holes_at
-    holes zero kind ts = inr refl
-    holes (suc n) kind ts =
-        bind (hole_at word expansion p kind ts) (hole_at word expansion q kind ts) _ _ (hole kind ts) (λ h.
-        chosen h.0.1 _ _ _ _ (bind (holes_at word expansion p n kind h.1) (holes_at word expansion q n kind h.1) _ _ (holes n kind h.1) (λ hs. inr refl)) (inr refl))
+    interpolations : (n : ℕ) (kind : StringKind) (ts : List T) → Refines (interpolations_at word expansion p n kind ts) (interpolations_at word expansion q n kind ts)
+    unfolding interpolations_at
+    interpolations zero kind ts = inr refl
+    interpolations (suc n) kind ts =
+        bind (interpolation_at word expansion p kind ts) (interpolation_at word expansion q kind ts) _ _ (interpolation kind ts) (λ h.
+        chosen h.0.1 _ _ _ _ (bind (interpolations_at word expansion p n kind h.1) (interpolations_at word expansion q n kind h.1) _ _ (interpolations n kind h.1) (λ hs. inr refl)) (inr refl))
 
     format : (t : T) (ts : List T) → Refines (format_at word expansion p t ts) (format_at word expansion q t ts)
     unfolding format_at
     format t ts =
         bind (taken_if word t (cooked_part (kind_of (word t).text) (word t).text)) (taken_if word t (cooked_part (kind_of (word t).text) (word t).text)) _ _ (inr refl) (λ s.
-        chosen (is_open s) _ _ _ _ (bind (holes_at word expansion p (suc (length ts)) (kind_of s) ts) (holes_at word expansion q (suc (length ts)) (kind_of s) ts) _ _ (holes (suc (length ts)) (kind_of s) ts) (λ hs. inr refl)) (inr refl))
+        chosen (is_open s) _ _ _ _ (bind (interpolations_at word expansion p (suc (length ts)) (kind_of s) ts) (interpolations_at word expansion q (suc (length ts)) (kind_of s) ts) _ _ (interpolations (suc (length ts)) (kind_of s) ts) (λ hs. inr refl)) (inr refl))
 
     braces : (ts : List T) → Refines (braces_at word expansion p ts) (braces_at word expansion q ts)
     unfolding braces_at

@@ -5,11 +5,11 @@ use Rattle.just_text.specs.declared.token_kind.TokenKind.{TokenKind}
 use Rattle.just_text.specs.declared.token_kind.TokenKind.TheVariants.{Backtick, Bang, BraceL, BraceR, BracketL, BracketR, Comma, FormatStringStart, Identifier, ParenL, ParenR, Slash, StringToken}
 use Rattle.just_strings.specs.declared.string_kind.StringKind.{StringKind}
 use Rattle.just_strings.specs.Kinds.{kind_of}
-use Rattle.just_expression_tree.specs.Shape.{Shape, Shapes, Holes, literal, command, format, variable, call, assertion, assertion_alone, group, listing, choice, choice_alone, negation, rooted, binary, end, more, closed, hole}
+use Rattle.just_expression_tree.specs.Shape.{Shape, Shapes, Interpolations, literal, command, format, variable, call, assertion, assertion_alone, group, listing, choice, choice_alone, negation, rooted, binary, end, more, closed, interpolation}
 use Rattle.just_expressions.specs.Words.{Begins, Mark, Lacks, if_keyword, else_keyword, assert_keyword}
 use Rattle.just_expressions.specs.Operators.{sign, rank_of}
 use Rattle.just_expressions.specs.Literals.{Expansion}
-use Rattle.just_expressions.specs.Grammar.{part_kind, Closes, Is, AreAll, AreHoles, depth}
+use Rattle.just_expressions.specs.Grammar.{part_kind, Closes, Is, AreAll, AreInterpolations, depth}
 use Rattle.just_expressions.proofs.Taken.{same_front}
 use Rattle.just_expressions.proofs.Operators.{rank_bounds}
 
@@ -69,7 +69,7 @@ begins_shorter kind text words rest b = rw b (omega arith)
 pub mark_shorter : (kind : TokenKind) (words rest : List Word) → Mark kind words rest → length rest < length words
 mark_shorter kind words rest m = begins_shorter kind m.0 words rest m.1
 
-closes_shorter : (words rest : List Word) → Closes words rest → length rest < length words
+closes_shorter : (words rest : List Word) → Closes ParenR words rest → length rest < length words
 closes_shorter words rest (inl m) = mark_shorter ParenR words rest m
 closes_shorter words rest (inr m) = omega (arith, mark_shorter Comma words m.0 m.1, mark_shorter ParenR m.0 rest m.2)
 
@@ -78,7 +78,7 @@ module _ (expansion : Expansion) where
     pub shorter : (e : Shape) (words rest : List Word) → Is expansion e words rest → length rest < length words
     shorter (literal s) words rest i = begins_shorter StringToken s words rest i.0
     shorter (command s) words rest i = begins_shorter Backtick s words rest i.0
-    shorter (format s hs) words rest i = omega (arith, begins_shorter FormatStringStart s words i.0 i.1, shorter_holes hs (kind_of s) i.0 rest i.4)
+    shorter (format s hs) words rest i = omega (arith, begins_shorter FormatStringStart s words i.0 i.1, shorter_interpolations hs (kind_of s) i.0 rest i.4)
     shorter (variable x) words rest i = begins_shorter Identifier x words rest i.0
     shorter (call f es) words rest i = omega (arith, begins_shorter Identifier f words i.0 i.2, mark_shorter ParenL i.0 i.1 i.5, shorter_all es ParenR i.1 rest i.6)
     shorter (assertion c m) words rest i =
@@ -109,9 +109,9 @@ module _ (expansion : Expansion) where
           | inr w ↦ omega (arith, shorter e words i.0 i.1, mark_shorter close i.0 rest w.1)
         ]
 
-    shorter_holes : (hs : Holes) (kind : StringKind) (words rest : List Word) → AreHoles expansion kind hs words rest → length rest ≤ length words
-    shorter_holes closed kind words rest i = omega (arith, ap length i)
-    shorter_holes (hole e part hs) kind words rest i = omega (arith, shorter e words i.0 i.2, begins_shorter (part_kind hs) part i.0 i.1 i.4, shorter_holes hs kind i.1 rest i.6)
+    shorter_interpolations : (hs : Interpolations) (kind : StringKind) (words rest : List Word) → AreInterpolations expansion kind hs words rest → length rest ≤ length words
+    shorter_interpolations closed kind words rest i = omega (arith, ap length i)
+    shorter_interpolations (interpolation e part hs) kind words rest i = omega (arith, shorter e words i.0 i.2, begins_shorter (part_kind hs) part i.0 i.1 i.4, shorter_interpolations hs kind i.1 rest i.6)
 
 pub depth_positive : (e : Shape) → 1 ≤ depth e
 depth_positive (literal s) = omega arith

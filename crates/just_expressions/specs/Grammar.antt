@@ -6,7 +6,7 @@ use Rattle.just_text.specs.declared.token_kind.TokenKind.TheVariants.{Backtick, 
 use Rattle.just_strings.specs.declared.string_kind.StringKind.{StringKind}
 use Rattle.just_strings.specs.Kinds.{kind_of}
 use Rattle.just_expression_tree.specs.Operators.{Binary}
-use Rattle.just_expression_tree.specs.Shape.{Shape, Shapes, Holes, literal, command, format, variable, call, assertion, assertion_alone, group, listing, choice, choice_alone, negation, rooted, binary, end, more, closed, hole}
+use Rattle.just_expression_tree.specs.Shape.{Shape, Shapes, Interpolations, literal, command, format, variable, call, assertion, assertion_alone, group, listing, choice, choice_alone, negation, rooted, binary, end, more, closed, interpolation}
 use Rattle.just_expressions.specs.Words.{Begins, Mark, Lacks, LacksKeyword, if_keyword, else_keyword, assert_keyword}
 use Rattle.just_expressions.specs.Operators.{sign, rank, left_rank, right_rank, rank_of}
 use Rattle.just_expressions.specs.Literals.{Expansion, Cooks, PartCooks, is_script, is_open}
@@ -27,18 +27,18 @@ IsChoice (choice c t o) = Unit {0}
 IsChoice (choice_alone c t) = Unit {0}
 IsChoice e = ⊥
 
-abbrev pub has_holes : Holes → Bool
-has_holes closed = false
-has_holes (hole e part hs) = true
+abbrev pub has_interpolations : Interpolations → Bool
+has_interpolations closed = false
+has_interpolations (interpolation e part hs) = true
 
 -- the kind of the part before these interpolations
-abbrev pub part_kind : Holes → TokenKind
+abbrev pub part_kind : Interpolations → TokenKind
 part_kind closed = FormatStringEnd
-part_kind (hole e part hs) = FormatStringContinue
+part_kind (interpolation e part hs) = FormatStringContinue
 
--- a call's closing parenthesis, perhaps behind a comma
-abbrev pub Closes : List Word → List Word → Type 0
-Closes words rest = Mark ParenR words rest ⊎ ((a : List Word) × Mark Comma words a × Mark ParenR a rest)
+-- up to rest there is the closing mark, perhaps behind a comma
+abbrev pub Closes : TokenKind → List Word → List Word → Type 0
+Closes close words rest = Mark close words rest ⊎ ((a : List Word) × Mark Comma words a × Mark close a rest)
 
 -- an expression in braces, where the first argument says what words spell it
 abbrev pub IsBraced : (List Word → List Word → Type 0) → Shape → List Word → List Word → Type 0
@@ -50,13 +50,13 @@ module _ (expansion : Expansion) where
     pub Is : Shape → List Word → List Word → Type 0
     Is (literal s) words rest = Begins StringToken s words rest × Cooks expansion s
     Is (command s) words rest = Begins Backtick s words rest × (is_script s ≡ false)
-    Is (format s hs) words rest = (a : List Word) × Begins FormatStringStart s words a × PartCooks (kind_of s) s × (is_open s ≡ has_holes hs) × AreHoles (kind_of s) hs a rest
+    Is (format s hs) words rest = (a : List Word) × Begins FormatStringStart s words a × PartCooks (kind_of s) s × (is_open s ≡ has_interpolations hs) × AreInterpolations (kind_of s) hs a rest
     -- a name before a parenthesis is a call
     Is (variable x) words rest = Begins Identifier x words rest × (x ≢ if_keyword) × Lacks ParenL rest
     Is (call f es) words rest = (a b : List Word) × Begins Identifier f words a × (f ≢ if_keyword) × (f ≢ assert_keyword) × Mark ParenL a b × AreAll es ParenR b rest
     Is (assertion c m) words rest =
-        (a b d f g : List Word) × Begins Identifier assert_keyword words a × Mark ParenL a b × Is c b d × MayStand c d × Mark Comma d f × Is m f g × MayStand m g × Closes g rest
-    Is (assertion_alone c) words rest = (a b d : List Word) × Begins Identifier assert_keyword words a × Mark ParenL a b × Is c b d × MayStand c d × Closes d rest
+        (a b d f g : List Word) × Begins Identifier assert_keyword words a × Mark ParenL a b × Is c b d × MayStand c d × Mark Comma d f × Is m f g × MayStand m g × Closes ParenR g rest
+    Is (assertion_alone c) words rest = (a b d : List Word) × Begins Identifier assert_keyword words a × Mark ParenL a b × Is c b d × MayStand c d × Closes ParenR d rest
     Is (group e) words rest = (a b : List Word) × Mark ParenL words a × Is e a b × MayStand e b × Mark ParenR b rest
     Is (listing es) words rest = (a : List Word) × Mark BracketL words a × AreAll es BracketR a rest
     -- another conditional behind `else` may go without braces
@@ -77,16 +77,16 @@ module _ (expansion : Expansion) where
         × (((b : List Word) × Mark Comma a b × AreAll es close b rest) ⊎ ((es ≡ end) × Mark close a rest))
 
     -- interpolations of a format string of this kind, each with the part behind it
-    pub AreHoles : StringKind → Holes → List Word → List Word → Type 0
-    AreHoles kind closed words rest = words ≡ rest
-    AreHoles kind (hole e part hs) words rest = (a b : List Word) × Is e words a × MayStand e a × Begins (part_kind hs) part a b × PartCooks kind part × AreHoles kind hs b rest
+    pub AreInterpolations : StringKind → Interpolations → List Word → List Word → Type 0
+    AreInterpolations kind closed words rest = words ≡ rest
+    AreInterpolations kind (interpolation e part hs) words rest = (a b : List Word) × Is e words a × MayStand e a × Begins (part_kind hs) part a b × PartCooks kind part × AreInterpolations kind hs b rest
 
 -- how deep expressions nest: what stands in brackets, braces or a string is one deeper, and so are a condition, an operand and a right side
 abbrev mutual
   pub depth : Shape → ℕ
   depth (literal s) = 1
   depth (command s) = 1
-  depth (format s hs) = suc (depth_holes hs)
+  depth (format s hs) = suc (depth_interpolations hs)
   depth (variable x) = 1
   depth (call f es) = suc (depth_all es)
   depth (assertion c m) = suc (max (depth c) (depth m))
@@ -103,9 +103,9 @@ abbrev mutual
   depth_all end = 0
   depth_all (more e es) = max (depth e) (depth_all es)
 
-  pub depth_holes : Holes → ℕ
-  depth_holes closed = 0
-  depth_holes (hole e part hs) = max (depth e) (depth_holes hs)
+  pub depth_interpolations : Interpolations → ℕ
+  depth_interpolations closed = 0
+  depth_interpolations (interpolation e part hs) = max (depth e) (depth_interpolations hs)
 
 -- The words up to rest spell the expression, which may stand where rank k is allowed and nests at most so many levels deep.
 pub record Derives (expansion : Expansion) (levels k : ℕ) (words : List Word) (e : Shape) (rest : List Word) : Type 0 where

@@ -11,7 +11,7 @@ use Rattle.just_strings.specs.Kinds.{kind_of}
 use Rattle.just_strings.specs.Parts.{cooked_part}
 use Rattle.just_expression_tree.specs.declared.expression.Expression.{Expression, fold-Expression}
 use Rattle.just_expression_tree.specs.declared.expression.Expression.TheOpen.{Expression-F}
-use Rattle.just_expression_tree.specs.Shape.{Shape, Shapes, Holes, literal, command as command_shape, format, variable, call, assertion, assertion_alone, group, listing, choice, choice_alone, negation, rooted, binary, end, more, closed, hole, shape_of, shapes_of, holes_of}
+use Rattle.just_expression_tree.specs.Shape.{Shape, Shapes, Interpolations, literal, command as command_shape, format, variable, call, assertion, assertion_alone, group, listing, choice, choice_alone, negation, rooted, binary, end, more, closed, interpolation, shape_of, shapes_of, interpolations_of}
 use Rattle.just_expressions.specs.Words.{assert_keyword}
 
 -- what `x` makes of a text, or the refusal's text
@@ -53,7 +53,7 @@ module _ (expansion : Expansion) where
     pub cooked_in : Shape → List Held
     cooked_in (literal s) = of_string (kind_of s) (text_or_none (cooked expansion s)) ∷ []
     cooked_in (command_shape s) = of_command (command s) ∷ []
-    cooked_in (format s hs) = of_string (kind_of s) (text_or_none (cooked_part (kind_of s) s)) ∷ cooked_in_holes (kind_of s) hs
+    cooked_in (format s hs) = of_string (kind_of s) (text_or_none (cooked_part (kind_of s) s)) ∷ cooked_in_interpolations (kind_of s) hs
     cooked_in (variable x) = []
     cooked_in (call f es) = cooked_in_all es
     cooked_in (assertion c m) = of_assertion assert_keyword ∷ cooked_in c ++ cooked_in m
@@ -71,18 +71,18 @@ module _ (expansion : Expansion) where
     cooked_in_all (more e es) = cooked_in e ++ cooked_in_all es
 
     -- each part behind an interpolation has the kind of the format string
-    pub cooked_in_holes : StringKind → Holes → List Held
-    cooked_in_holes kind closed = []
-    cooked_in_holes kind (hole e part hs) = cooked_in e ++ of_string kind (text_or_none (cooked_part kind part)) ∷ cooked_in_holes kind hs
+    pub cooked_in_interpolations : StringKind → Interpolations → List Held
+    cooked_in_interpolations kind closed = []
+    cooked_in_interpolations kind (interpolation e part hs) = cooked_in e ++ of_string kind (text_or_none (cooked_part kind part)) ∷ cooked_in_interpolations kind hs
 
 -- the kind and the text that a string holds
 abbrev pub string_held : StringLiteral → Held
 string_held s = of_string s.kind s.cooked
 
 -- what the interpolations of a format string hold, each with the part behind it
-abbrev pub held_by_holes : List (List Held × StringLiteral) → List Held
-held_by_holes [] = []
-held_by_holes ((inside, part) ∷ others) = inside ++ string_held part ∷ held_by_holes others
+abbrev pub held_by_interpolations : List (List Held × StringLiteral) → List Held
+held_by_interpolations [] = []
+held_by_interpolations ((inside, part) ∷ others) = inside ++ string_held part ∷ held_by_interpolations others
 
 -- one level, with what each expression inside holds
 abbrev pub held_step : Expression-F (List Held) → List Held
@@ -95,7 +95,7 @@ held_step (Expression-F.Comparison l operator r token) = l.value ++ r.value
 held_step (Expression-F.Concatenation l token r) = l.value ++ r.value
 held_step (Expression-F.Conditional c t None) = c.value ++ t.value
 held_step (Expression-F.Conditional c t (Some o)) = c.value ++ t.value ++ o.value
-held_step (Expression-F.FormatString start es) = string_held start ∷ held_by_holes es.items
+held_step (Expression-F.FormatString start es) = string_held start ∷ held_by_interpolations es.items
 held_step (Expression-F.Group e) = e.value
 held_step (Expression-F.Join None token r) = r.value
 held_step (Expression-F.Join (Some l) token r) = l.value ++ r.value
@@ -124,5 +124,5 @@ abbrev pub AreCooked : Expansion → List Expression → Type 0
 AreCooked expansion es = flat_map held_by es ≡ cooked_in_all expansion (shapes_of es)
 
 -- the same of the interpolations of a format string of this kind, and of the parts behind them
-abbrev pub AreHolesCooked : Expansion → StringKind → List (Expression × StringLiteral) → Type 0
-AreHolesCooked expansion kind es = held_by_holes (map (λ e. (held_by e.0, e.1)) es) ≡ cooked_in_holes expansion kind (holes_of es)
+abbrev pub AreInterpolationsCooked : Expansion → StringKind → List (Expression × StringLiteral) → Type 0
+AreInterpolationsCooked expansion kind es = held_by_interpolations (map (λ e. (held_by e.0, e.1)) es) ≡ cooked_in_interpolations expansion kind (interpolations_of es)

@@ -12,7 +12,7 @@ use Rattle.just_strings.specs.Cooking.{cooked}
 use Rattle.just_strings.specs.Kinds.{kind_of}
 use Rattle.just_strings.specs.Parts.{cooked_part}
 use Rattle.just_expression_tree.specs.Operators.{Binary}
-use Rattle.just_expression_tree.specs.Shape.{Shape, Shapes, Holes, literal, command, format, variable, call, assertion, assertion_alone, group, listing, choice, choice_alone, negation, rooted, binary, end, more, closed, hole}
+use Rattle.just_expression_tree.specs.Shape.{Shape, Shapes, Interpolations, literal, command, format, variable, call, assertion, assertion_alone, group, listing, choice, choice_alone, negation, rooted, binary, end, more, closed, interpolation}
 use Rattle.just_expressions.specs.declared.fault.Fault.{Fault}
 use Rattle.just_expressions.specs.declared.fault.Fault.TheVariants as faults
 use Rattle.just_expressions.specs.declared.cursor.Cursor.{Cursor}
@@ -158,21 +158,21 @@ module _ {T : Type 0} (word : T → Word) where
           (λ p. Ok (end, p.1))
 
       -- an interpolation and the part behind it
-      unfoldable pub hole_at : StringKind → List T → Read T ((Shape × List ℕ) × Bool)
-      hole_at kind ts = deeper 6 ts >>= λ e. part_at kind e.1 >>= λ p. Ok (((e.0, p.0.0), p.0.1), p.1)
+      unfoldable pub interpolation_at : StringKind → List T → Read T ((Shape × List ℕ) × Bool)
+      interpolation_at kind ts = deeper 6 ts >>= λ e. part_at kind e.1 >>= λ p. Ok (((e.0, p.0.0), p.0.1), p.1)
 
       -- the interpolations of a format string, at least one
-      unfoldable pub holes_at : ℕ → StringKind → List T → Read T Holes
-      holes_at zero kind ts = Err (unexpected (first ts))
-      holes_at (suc n) kind ts =
-          hole_at kind ts >>= λ h. if h.0.1
-          then (holes_at n kind h.1 >>= λ hs. Ok (hole h.0.0.0 h.0.0.1 hs.0, hs.1))
-          else Ok (hole h.0.0.0 h.0.0.1 closed, h.1)
+      unfoldable pub interpolations_at : ℕ → StringKind → List T → Read T Interpolations
+      interpolations_at zero kind ts = Err (unexpected (first ts))
+      interpolations_at (suc n) kind ts =
+          interpolation_at kind ts >>= λ h. if h.0.1
+          then (interpolations_at n kind h.1 >>= λ hs. Ok (interpolation h.0.0.0 h.0.0.1 hs.0, hs.1))
+          else Ok (interpolation h.0.0.0 h.0.0.1 closed, h.1)
 
       unfoldable pub format_at : T → List T → Read T Shape
       format_at t ts =
           taken_if t (cooked_part (kind_of (word t).text) (word t).text) >>= λ s. if is_open s
-          then (holes_at (suc (length ts)) (kind_of s) ts >>= λ hs. Ok (format s hs.0, hs.1))
+          then (interpolations_at (suc (length ts)) (kind_of s) ts >>= λ hs. Ok (format s hs.0, hs.1))
           else Ok (format s closed, ts)
 
       unfoldable pub braces_at : List T → Read T Shape

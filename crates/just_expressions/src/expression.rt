@@ -2,9 +2,9 @@
 ghost use Rattle.std.specs.Prelude.{◌≡◌, Err, IfOk, IfSome, List, length, suc};
 ghost use Rattle.just_text.specs.Tokens.{word_of, lexeme};
 ghost use Rattle.just_text.specs.declared.token.Token.{Token};
-ghost use Rattle.just_expression_tree.specs.Shape.{Shape, inner_shape, shape_of, shapes_of, holes_of};
-ghost use Rattle.just_expressions.specs.Literals.{AreCooked, AreHolesCooked, IsCooked};
-ghost use Rattle.just_expressions.specs.Reading.{Fails, Gives, ahead, first, too_deep, elements_at, holes_at, format_at, braces_at, otherwise_at, choice_at, closing_at, message_at, assertion_at, call_at, named_at, bracketed_at, primary_at, operand_at, expression_at};
+ghost use Rattle.just_expression_tree.specs.Shape.{Shape, inner_shape, shape_of, shapes_of, interpolations_of};
+ghost use Rattle.just_expressions.specs.Literals.{AreCooked, AreInterpolationsCooked, IsCooked};
+ghost use Rattle.just_expressions.specs.Reading.{Fails, Gives, ahead, first, too_deep, elements_at, interpolations_at, format_at, braces_at, otherwise_at, choice_at, closing_at, message_at, assertion_at, call_at, named_at, bracketed_at, primary_at, operand_at, expression_at};
 ghost use Rattle.just_expressions.specs.Words.{assert_keyword};
 
 use crate::cursor::Cursor;
@@ -354,7 +354,7 @@ impl<'t, 'src> Cursor<'t, 'src> {
         let kind = StringKind::of_lexeme(token.lexeme());
         let start = format_part(self.alloc, kind, token)?;
         if is_open(token.lexeme()) {
-            let expressions = self.holes(expander, kind, levels)?;
+            let expressions = self.interpolations(expander, kind, levels)?;
             return Ok(Expression::FormatString { start, expressions });
         }
         let expressions = Vec::new(self.alloc);
@@ -363,22 +363,22 @@ impl<'t, 'src> Cursor<'t, 'src> {
 
     // The interpolations of a format string, each with the part behind it.
     #[cycle(expression)]
-    fn holes<E: Expander>(
+    fn interpolations<E: Expander>(
         &mut self,
         expander: &E,
         kind: StringKind,
         levels: u16,
     ) -> Result<Vec<(Expression<'src>, StringLiteral<'src>)>, Fault<'src>>
-        ensures gives { Gives (λ es. (holes_of es.items, ahead self.new)) result (holes_at word_of (E.expansion expander.now) (expression_at word_of (E.expansion expander.now) levels) (suc (length (ahead self.old))) kind (ahead self.old)) }
-        ensures cooked { IfOk result (λ es. AreHolesCooked (E.expansion expander.now) kind es.items) }
+        ensures gives { Gives (λ es. (interpolations_of es.items, ahead self.new)) result (interpolations_at word_of (E.expansion expander.now) (expression_at word_of (E.expansion expander.now) levels) (suc (length (ahead self.old))) kind (ahead self.old)) }
+        ensures cooked { IfOk result (λ es. AreInterpolationsCooked (E.expansion expander.now) kind es.items) }
     {
-        let mut holes = Vec::new(self.alloc);
+        let mut interpolations = Vec::new(self.alloc);
         loop {
             let expression = self.ranked(expander, WHOLE, levels)?;
             let (expression, (part, follows)) = both(expression, self.part(kind))?;
-            holes.push((expression, part))?;
+            interpolations.push((expression, part))?;
             if !follows {
-                return Ok(holes);
+                return Ok(interpolations);
             }
         }
     }

@@ -8,9 +8,9 @@ use Rattle.just_expressions.specs.Words.{Mark}
 use Rattle.just_expressions.specs.Literals.{Expansion}
 use Rattle.just_expressions.specs.Reading.{Stop, accept, expect, is_next}
 use Rattle.just_expressions.proofs.Shorter.{accept_shorter}
-use Rattle.just_recipes.specs.RecipeReading.{eol_at}
-use Rattle.just_recipes.specs.RecipeLaws.{EolsExactly}
-use Rattle.just_recipes.proofs.RecipeTaken.{bind_ok, inspect, test, turned, accept_mark, expect_begins, taken, none_taken, no_accept, is_next-yes, is_next-no, Reads}
+use Rattle.just_recipes.specs.Reading.{eol_at}
+use Rattle.just_recipes.specs.Laws.{EolsExactly}
+use Rattle.just_recipes.proofs.RecipeTaken.{accept_mark, expect_begins, taken, none_taken, no_accept, is_next-yes, is_next-no, Reads}
 use Rattle.just_recipes.proofs.ExpressionsRead.{fewer}
 use Rattle.just_attributed_items.specs.Halting.{or_stopped}
 use Rattle.just_attributed_items.specs.Items.{IsAttributed}
@@ -21,6 +21,7 @@ use Rattle.just_grammar.specs.Reading.{behind_mark, comment_at, ended, filled_at
 use Rattle.just_grammar.specs.Laws.{AreFile, FilesExactly}
 use Rattle.just_grammar.proofs.ItemWords.{IsNeverFirst}
 use Rattle.just_grammar.proofs.EntryWords.{IsNeverAhead, attributed_lacks, entry, entry_shorter, entry_lacks, entries_lack}
+use Rattle.just_expressions.proofs.Taken.{bind_ok, inspect, test, turned}
 
 -- ---- steps
 

@@ -13,7 +13,7 @@ use Rattle.just_expressions.specs.declared.fault.Fault.TheVariants as faults
 use Rattle.just_expressions.specs.Literals.{Expansion}
 use Rattle.just_expressions.specs.Reading.{◌>>=◌, accept}
 use Rattle.just_expressions.proofs.Shorter.{accept_shorter}
-use Rattle.just_recipes.specs.RecipeLaws.{EolsExactly}
+use Rattle.just_recipes.specs.Laws.{EolsExactly}
 use Rattle.just_recipes.proofs.ExpressionsRead.{fewer}
 use Rattle.just_attributed_items.specs.Halting.{Halt, HaltsUnless}
 use Rattle.just_attributed_items.specs.Laws.{AttributedExactly}

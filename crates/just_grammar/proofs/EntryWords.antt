@@ -16,9 +16,9 @@ use Rattle.just_attribute_lines.specs.Lines.{IsAttribute, IsBetween, IsLast, Are
 use Rattle.just_attribute_lines.proofs.Rest.{closes_takes, between_takes, attribute_takes, line_end_takes}
 use Rattle.just_recipes.proofs.RecipeTaken.{front_shorter, mark_shorter, lacks}
 use Rattle.just_items.specs.Keywords.{set_keyword}
-use Rattle.just_settings.specs.declared.form.Form.{Form}
-use Rattle.just_settings.specs.declared.form.Form.TheVariants.{Indentation, Interpreter, Truth, Value, Version as VersionForm}
-use Rattle.just_settings.specs.Settings.{AreElements, IsValue, IsSet}
+use Rattle.just_items.specs.declared.form.Form.{Form}
+use Rattle.just_items.specs.declared.form.Form.TheVariants.{Indentation, Interpreter, Truth, Value, Version as VersionForm}
+use Rattle.just_items.specs.Settings.{AreElements, IsValue, IsSet}
 use Rattle.just_attributed_items.specs.Bare.{IsBare}
 use Rattle.just_attributed_items.specs.Fitting.{with_attributes}
 use Rattle.just_attributed_items.specs.Items.{IsAttributed}

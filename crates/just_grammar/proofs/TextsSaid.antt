@@ -11,7 +11,7 @@ use Rattle.just_tree.specs.Files.{ItemShape}
 use Rattle.just_expressions.specs.Words.{is_significant, significant}
 use Rattle.just_expressions.specs.Literals.{Expansion}
 use Rattle.just_expressions.specs.Reading.{shown}
-use Rattle.just_recipes.proofs.RecipeTaken.{test, ok_is, same_words}
+use Rattle.just_recipes.proofs.RecipeTaken.{same_words}
 use Rattle.just_attributed_items.specs.Halting.{Halt}
 use Rattle.semver.specs.declared.Version.{Version}
 use Rattle.just_grammar.specs.Files.{Entry, items_in, Derives}
@@ -19,6 +19,7 @@ use Rattle.just_grammar.specs.Parsed.{HaltsBy}
 use Rattle.just_grammar.specs.Reading.{file_at}
 use Rattle.just_grammar.specs.Reads.{Reads, Halts, IsSyntaxFault}
 use Rattle.just_grammar.specs.Laws.{AreFile, FilesExactly, AtMostOne, SaysAtMostOne, FaultsSayNothing}
+use Rattle.just_expressions.proofs.Taken.{test, ok_is}
 
 -- the words of tokens that are not white space are their words that are not
 pub shown_words : (ts : List Token) → map word_of (shown ts) ≡ significant (words_of ts)

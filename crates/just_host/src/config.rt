@@ -23,9 +23,9 @@ pub struct Config {
     pub yes: bool,
     /// Whether recipes run without their dependencies.
     pub no_dependencies: bool,
-    /// Whether commands are run unprinted.
+    /// Whether commands are run without being shown, and what they print is dropped.
     pub quiet: bool,
-    /// Whether the names of recipes are printed as they run.
+    /// Whether each command is shown, whatever `quiet` and the signs of quiet in a recipe say.
     pub loquacious: bool,
     /// Whether features that may still change are allowed.
     pub unstable: bool,

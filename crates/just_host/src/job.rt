@@ -25,7 +25,7 @@ pub struct CommandJob {
     pub removed: Sequence<Text>,
     /// The folder that the command runs in, where one is given.
     pub folder: Option<Text>,
-    /// Whether the command runs unprinted.
+    /// Whether what the command prints is dropped: of an event all, of a question its errors.
     pub quiet: bool,
 }
 

@@ -12,15 +12,16 @@ use Rattle.just_expressions.specs.Literals.{Expansion}
 use Rattle.just_expressions.specs.Laws.{Exactly}
 use Rattle.just_expressions.specs.Reading.{taken_if}
 use Rattle.just_expressions.proofs.Taken.{taken, marked}
-use Rattle.just_recipes.specs.Bodies.{IsExpression, IsEol}
-use Rattle.just_recipes.specs.RecipeLaws.{EolsExactly, PathsExactly}
+use Rattle.just_recipes.specs.Bodies.{IsEol}
+use Rattle.just_recipes.specs.Laws.{EolsExactly, PathsExactly}
 use Rattle.just_items.specs.Keywords.{alias_keyword, import_keyword, mod_keyword, unexport_keyword}
-use Rattle.just_items.specs.Items.{IsAlias, IsUnexport, IsString, IsAssignment, IsFunction, IsImport, IsFile, IsModule, IsItem}
-use Rattle.just_items.specs.Reading.{alias_at, unexport_at, string_at, value_at, assignment_at, function_at, import_at, file_at, module_at, kind_at, item_of}
+use Rattle.just_items.specs.Items.{IsAlias, IsUnexport, IsAssignment, IsFunction, IsImport, IsFile, IsModule, IsItem}
+use Rattle.just_items.specs.Reading.{alias_at, unexport_at, value_at, assignment_at, function_at, import_at, file_at, module_at, kind_at, item_of}
 use Rattle.just_items.proofs.Fronts.{other_first, end_lacks, Reads, is_next-yes, is_next-no, optional_again}
 use Rattle.just_items.proofs.PrecedingWords.{words_again}
 use Rattle.just_items.proofs.ParameterNames.{parameters_again}
 use Rattle.just_items.proofs.FirstWords.{alias_told, assignment_told, function_told, import_told, unexport_told, module_told}
+use Rattle.just_expressions.specs.Strings.{IsExpression, IsString, string_at}
 
 module _ {T : Type 0} (word : T → Word) (expansion : Expansion) (expressions : Exactly word expansion 256 6) (paths : PathsExactly word) (ends : EolsExactly word) where
   -- ---- items without expressions

@@ -14,16 +14,17 @@ use Rattle.just_expressions.specs.Literals.{Expansion}
 use Rattle.just_expressions.specs.Laws.{Exactly}
 use Rattle.just_expressions.specs.Reading.{expect, is_next, taken_if}
 use Rattle.just_expressions.proofs.Taken.{bind_ok, test, turned, ok_is, expect_is, expect_mark}
-use Rattle.just_recipes.specs.Bodies.{IsExpression, IsEol}
-use Rattle.just_recipes.specs.RecipeLaws.{EolsExactly, PathsExactly}
-use Rattle.just_recipes.specs.RecipeReading.{marked_at}
-use Rattle.just_items.specs.Items.{IsAlias, IsUnexport, IsString, IsAssignment, IsFunction, IsImport, IsFile, IsModule, IsItem}
+use Rattle.just_recipes.specs.Bodies.{IsEol}
+use Rattle.just_recipes.specs.Laws.{EolsExactly, PathsExactly}
+use Rattle.just_recipes.specs.Reading.{marked_at}
+use Rattle.just_items.specs.Items.{IsAlias, IsUnexport, IsAssignment, IsFunction, IsImport, IsFile, IsModule, IsItem}
 use Rattle.just_items.specs.Keywords.{alias_keyword, import_keyword, mod_keyword, unexport_keyword}
-use Rattle.just_items.specs.Reading.{is_named_value, alias_at, unexport_at, string_at, value_at, assignment_at, function_at, import_at, file_at, module_at, kind_at, item_of}
+use Rattle.just_items.specs.Reading.{is_named_value, alias_at, unexport_at, value_at, assignment_at, function_at, import_at, file_at, module_at, kind_at, item_of}
 use Rattle.just_items.proofs.Fronts.{keyword_taken, optional_found}
 use Rattle.just_items.proofs.Told.{StartsWith, OneWord, TwoWords, Told, told}
 use Rattle.just_items.proofs.PrecedingWords.{words_found}
 use Rattle.just_items.proofs.ParameterNames.{parameters_found}
+use Rattle.just_expressions.specs.Strings.{IsExpression, IsString, string_at}
 
 module _ {T : Type 0} (word : T → Word) (expansion : Expansion) (expressions : Exactly word expansion 256 6) (paths : PathsExactly word) (ends : EolsExactly word) where
   -- ---- items without expressions

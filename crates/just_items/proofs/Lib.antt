@@ -7,6 +7,14 @@ pub mod ParameterNames
 pub mod Parameters
 pub mod PrecedingWords
 pub mod RecipesTold
-pub mod Refusals
 pub mod Told
 pub mod Words
+pub mod Strings
+pub mod Elements
+pub mod Forms
+pub mod SetWords
+pub mod Truths
+pub mod SetStrings
+pub mod Interpreters
+pub mod SetValues
+pub mod Exact

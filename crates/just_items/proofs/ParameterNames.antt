@@ -7,7 +7,7 @@ use Rattle.just_expressions.specs.Words.{Begins, Mark}
 use Rattle.just_expressions.specs.Reading.{accept, expect}
 use Rattle.just_expressions.proofs.Taken.{bind_ok, inspect, test, turned, accept_mark, expect_is, expect_mark, taken, marked, other_accept}
 use Rattle.just_recipes.specs.Headers.{AreDistinct}
-use Rattle.just_recipes.specs.RecipeReading.{is_named}
+use Rattle.just_recipes.specs.Reading.{is_named}
 use Rattle.just_recipes.proofs.Distinct.{AreNew, nothing_before, one_more, more_before}
 use Rattle.just_items.specs.Items.{AreNames}
 use Rattle.just_items.specs.Reading.{names_at}

@@ -12,14 +12,12 @@ use Rattle.just_tree.specs.Items.{name_of, names_of}
 use Rattle.just_expressions.specs.declared.fault.Fault.{Fault}
 use Rattle.just_expressions.specs.declared.fault.Fault.TheVariants as faults
 use Rattle.just_expressions.specs.Reading.{◌>>=◌, on, refused, Read, Stop, Fails, accept, expect}
-use Rattle.just_expressions.proofs.Shorter.{test, expect_shorter}
+use Rattle.just_expressions.proofs.Shorter.{expect_shorter}
 use Rattle.just_recipes.specs.Numbering.{FailsUnless}
-use Rattle.just_recipes.specs.RecipeReading.{is_named}
-use Rattle.just_recipes.specs.RecipeSeen.{with_name}
+use Rattle.just_recipes.specs.Reading.{is_named}
+use Rattle.just_recipes.specs.Seen.{with_name}
 use Rattle.just_items.specs.Reading.{names_at, new_name_at}
-
-abbrev done : {A E : Type 0} → A → Result A E
-done x = Ok x
+use Rattle.just_expressions.proofs.Taken.{test, done}
 
 -- the parameters that were read, and then others
 abbrev pub behind : List (Name × ℕ) → Read Token (List (List ℕ)) → Read Token (List (List ℕ))

@@ -13,7 +13,7 @@ use Rattle.just_expressions.specs.Literals.{Expansion}
 use Rattle.just_expressions.specs.Reading.{accept}
 use Rattle.just_expressions.proofs.Taken.{inspect, same_front, clash, accept_is, accept_none, taken, other_accept}
 use Rattle.just_recipes.specs.Headers.{IsKind, IsExported, IsQuiet, IsDefault, AreParameters, IsRecipe}
-use Rattle.just_recipes.specs.RecipeLaws.{EolsExactly}
+use Rattle.just_recipes.specs.Laws.{EolsExactly}
 use Rattle.just_items.specs.Reading.{are_both_words, is_named_value, kind_by_two, kind_by_one, kind_at}
 use Rattle.just_items.proofs.Fronts.{other_first, is_next-no, no_value, no_name, ends_here-no}
 

@@ -6,9 +6,10 @@ use Rattle.just_tree.specs.Files.{ItemShape, alias_item, assignment_item, functi
 use Rattle.just_tree.specs.Items.{AliasShape, AssignmentShape, FunctionShape, ImportShape, ModuleShape}
 use Rattle.just_expressions.specs.Words.{Begins, Mark}
 use Rattle.just_expressions.specs.Literals.{Expansion, Cooks}
-use Rattle.just_recipes.specs.Bodies.{IsExpression, IsEol}
+use Rattle.just_recipes.specs.Bodies.{IsEol}
 use Rattle.just_recipes.specs.Headers.{AreDistinct, IsPath}
 use Rattle.just_items.specs.Keywords.{alias_keyword, eager_keyword, export_keyword, import_keyword, mod_keyword, unexport_keyword}
+use Rattle.just_expressions.specs.Strings.{IsExpression, IsString}
 
 -- up to rest there is the alias
 abbrev pub IsAlias : AliasShape → List Word → List Word → Type 0
@@ -40,10 +41,6 @@ abbrev pub IsUnexport : List ℕ → List Word → List Word → Type 0
 IsUnexport name words rest = (b c : List Word) × Begins Identifier unexport_keyword words b × Begins Identifier name b c × IsEol c rest
 
 module _ (expansion : Expansion) where
-  -- up to rest there is the string, which has a cooked text
-  abbrev pub IsString : List ℕ → List Word → List Word → Type 0
-  IsString s words rest = Begins StringToken s words rest × Cooks expansion s
-
   -- up to rest there is the assignment
   abbrev pub IsAssignment : AssignmentShape → List Word → List Word → Type 0
   IsAssignment a words rest =
@@ -58,12 +55,12 @@ module _ (expansion : Expansion) where
   -- up to rest there is the import
   abbrev pub IsImport : ImportShape → List Word → List Word → Type 0
   IsImport i words rest =
-      (b c d : List Word) × Begins Identifier import_keyword words b × IsOptional i.optional b c × IsString i.path c d × IsEol d rest
+      (b c d : List Word) × Begins Identifier import_keyword words b × IsOptional i.optional b c × IsString expansion i.path c d × IsEol d rest
 
   -- up to rest there is the file of a submodule, or nothing where none is named
   abbrev pub IsFile : Option (List ℕ) → List Word → List Word → Type 0
   IsFile None words rest = words ≡ rest
-  IsFile (Some path) words rest = IsString path words rest
+  IsFile (Some path) words rest = IsString expansion path words rest
 
   -- up to rest there is the submodule
   abbrev pub IsModule : ModuleShape → List Word → List Word → Type 0

@@ -5,3 +5,9 @@ pub mod Numbered
 pub mod Plain
 pub mod Cooked
 pub mod Laws
+pub mod Names
+pub mod Settings
+pub mod Versions
+pub mod SettingReading
+pub mod SettingCooked
+pub mod SettingLaws

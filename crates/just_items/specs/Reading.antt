@@ -13,9 +13,10 @@ use Rattle.just_tree.specs.Items.{AliasShape, AssignmentShape, FunctionShape, Im
 use Rattle.just_expression_tree.specs.Shape.{Shape}
 use Rattle.just_expressions.specs.Literals.{Expansion}
 use Rattle.just_expressions.specs.Reading.{◌>>=◌, on, Read, unexpected, refused, first, accept, expect, is_next, taken_if, expression_at}
-use Rattle.just_recipes.specs.RecipeReading.{eol_at, is_named, marked_at, path_at}
-use Rattle.just_recipes.specs.RecipeSeen.{with_name}
+use Rattle.just_recipes.specs.Reading.{eol_at, is_named, marked_at, path_at}
+use Rattle.just_recipes.specs.Seen.{with_name}
 use Rattle.just_items.specs.Keywords.{alias_keyword, eager_keyword, export_keyword, import_keyword, mod_keyword, set_keyword, unexport_keyword}
+use Rattle.just_expressions.specs.Strings.{string_at}
 
 abbrev pub is_ok : {A E : Type 0} → Result A E → Bool
 is_ok (Ok x) = true
@@ -105,9 +106,6 @@ module _ {T : Type 0} (word : T → Word) where
       (λ p. Ok ([], p.1))
 
   module _ (expansion : Expansion) where
-    unfoldable pub string_at : List T → Read T (List ℕ)
-    string_at ts = expect word StringToken ts >>= λ t. taken_if word t.0 (cooked expansion (word t.0).text) >>= λ s. Ok (s, t.1)
-
     -- `:=`, an expression and the end of the line
     unfoldable pub value_at : List T → Read T Shape
     value_at ts = expect word ColonEquals ts >>= λ c. expression_at word expansion 256 6 c.1 >>= λ e. eol_at word e.1 >>= λ rest. Ok (e.0, rest)
@@ -125,11 +123,11 @@ module _ {T : Type 0} (word : T → Word) where
     unfoldable pub import_at : List T → Read T ImportShape
     import_at ts =
         expect word Identifier ts >>= λ k. (let q = marked_at word QuestionMark k.1 in
-        string_at q.1 >>= λ s. eol_at word s.1 >>= λ rest. Ok (record { optional = q.0; path = s.0 }, rest))
+        string_at word expansion q.1 >>= λ s. eol_at word s.1 >>= λ rest. Ok (record { optional = q.0; path = s.0 }, rest))
 
     -- the file of a submodule, if one is named
     unfoldable pub file_at : List T → Read T (Option (List ℕ))
-    file_at ts = if is_next word StringToken ts then (string_at ts >>= λ s. Ok (Some s.0, s.1)) else Ok (None, ts)
+    file_at ts = if is_next word StringToken ts then (string_at word expansion ts >>= λ s. Ok (Some s.0, s.1)) else Ok (None, ts)
 
     unfoldable pub module_at : List T → Read T ModuleShape
     module_at ts =

@@ -1,23 +1,22 @@
 //! Items but recipes and settings, without their attributes.
-ghost use Rattle.std.specs.Prelude.{◌≡◌, ◌≢◌, ◌||◌, ℕ, suc, false, IfOk, IfSome, List, OnOk, [], ◌∷◌, option_map, length};
+ghost use Rattle.std.specs.Prelude.{◌≡◌, ◌||◌, ℕ, suc, false, IfOk, IfSome, List, OnOk, [], ◌∷◌, option_map, length};
 ghost use Rattle.std.specs.Str.{bytes_eq};
 ghost use Rattle.just_text.specs.Tokens.{lexeme, word_of};
-ghost use Rattle.just_text.specs.declared.compile_error.CompileErrorKind.TheVariants as kinds;
 ghost use Rattle.just_text.specs.declared.token_kind.TokenKind.TheVariants.{Identifier};
 ghost use Rattle.just_attributes.specs.Sets.{items_of};
 ghost use Rattle.just_tree.specs.Files.{item_shape};
 ghost use Rattle.just_tree.specs.Items.{alias_shape, assignment_shape, function_shape, import_shape, module_shape, names_of, unexport_shape};
 ghost use Rattle.just_expression_tree.specs.Shape.{shape_of, written};
-ghost use Rattle.just_expressions.specs.declared.fault.Fault.TheVariants.{OutOfMemory, Refused};
 ghost use Rattle.just_expressions.specs.Literals.{IsCooked};
 ghost use Rattle.just_expressions.specs.Reading.{Gives, ahead, expect};
 ghost use Rattle.just_recipes.specs.Numbering.{AreBindingsUsed, GivesUnless};
-ghost use Rattle.just_recipes.specs.RecipeSeen.{HasNames, with_name};
-ghost use Rattle.just_items.specs.Cooked.{IsCookedItem, IsCookedString};
+ghost use Rattle.just_recipes.specs.Seen.{HasNames, with_name};
+ghost use Rattle.just_items.specs.Cooked.{IsCookedItem};
+ghost use Rattle.just_expressions.specs.Strings.{IsCookedString};
 ghost use Rattle.just_items.specs.Keywords.{eager_keyword, export_keyword};
 ghost use Rattle.just_items.specs.Numbered.{AreNext, binding_numbers, parameter_numbers};
 ghost use Rattle.just_items.specs.Plain.{IsPlainAssignment, IsPlainItem, is_private};
-ghost use Rattle.just_items.specs.Reading.{alias_at, assignment_at, file_at, function_at, import_at, item_of, module_at, names_at, new_name_at, string_at, unexport_at, value_at, words_at};
+ghost use Rattle.just_items.specs.Reading.{alias_at, assignment_at, file_at, function_at, import_at, item_of, module_at, names_at, new_name_at, unexport_at, value_at, words_at};
 
 use crate::kind::is_named_value;
 use just_attributes::{AttributeSet, ItemKind};
@@ -25,9 +24,7 @@ use just_expression_tree::Expression;
 use just_expressions::{Cursor, Fault};
 use just_recipes::{end_of_line, ended, namepath, next_binding};
 use just_strings::StringLiteral;
-use just_text::{
-    CompileError, CompileErrorKind, Expander, Name, Namepath, Numerator, Text, Token, TokenKind,
-};
+use just_text::{CompileErrorKind, Expander, Name, Namepath, Numerator, Text, TokenKind};
 use just_tree::{
     Alias, Assignment, Binding, FunctionDefinition, FunctionParameter, Import, Item, Module,
     Unexport,
@@ -241,41 +238,9 @@ fn function<'src, E: Expander>(
     })
 }
 
-/// Why a token is refused.
-fn refused<'src>(token: Token<'src>, error: CompileError<'src>) -> Fault<'src>
-    ensures memory { error.entry.kind ≡ kinds.OutOfMemory → result ≡ OutOfMemory }
-    ensures why { error.entry.kind ≢ kinds.OutOfMemory → result ≡ Refused token.entry error.entry.kind }
-{
-    match error.kind {
-        CompileErrorKind::OutOfMemory => Fault::OutOfMemory,
-        kind => Fault::Refused(token, kind),
-    }
-}
-
-/// Takes the string that stands here, with its cooked text.
-///
-/// Refused where no string comes, where it can't be cooked, and where memory runs out. After a
-/// refusal it is not said where the cursor stands.
-#[tactic(auto, unfolding(crate::specs::Reading::string_at))]
-pub fn string<'src, E: Expander>(
-    alloc: Global,
-    cursor: &mut Cursor<'_, 'src>,
-    expander: &E,
-) -> Result<StringLiteral<'src>, Fault<'src>>
-    ensures gives { Gives (λ s. (written s, ahead cursor.new)) result (string_at word_of (E.expansion expander.now) (ahead cursor.old)) }
-    ensures cooked { IfOk result (IsCookedString (E.expansion expander.now)) }
-{
-    let token = cursor.expect(TokenKind::StringToken)?;
-    match StringLiteral::cook(alloc, token, expander) {
-        Ok(literal) => Ok(literal),
-        Err(error) => Err(refused(token, error)),
-    }
-}
-
 /// `import STRING` or `import? STRING`, and the end of its line.
-#[tactic(auto, unfolding(crate::specs::Reading::import_at, just_recipes::specs::RecipeReading::marked_at))]
+#[tactic(auto, unfolding(crate::specs::Reading::import_at, just_recipes::specs::Reading::marked_at))]
 fn import<'src, E: Expander>(
-    alloc: Global,
     cursor: &mut Cursor<'_, 'src>,
     expander: &E,
 ) -> Result<Import<'src>, Fault<'src>>
@@ -284,7 +249,7 @@ fn import<'src, E: Expander>(
 {
     cursor.expect(TokenKind::Identifier)?;
     let optional = cursor.accept(TokenKind::QuestionMark).is_some();
-    let path = string(alloc, cursor, expander)?;
+    let path = cursor.string(expander)?;
     end_of_line(cursor)?;
     Ok(Import { optional, path })
 }
@@ -292,7 +257,6 @@ fn import<'src, E: Expander>(
 /// The file of a submodule, if one is named.
 #[tactic(auto, unfolding(crate::specs::Reading::file_at))]
 fn file<'src, E: Expander>(
-    alloc: Global,
     cursor: &mut Cursor<'_, 'src>,
     expander: &E,
 ) -> Result<Option<StringLiteral<'src>>, Fault<'src>>
@@ -302,11 +266,11 @@ fn file<'src, E: Expander>(
     if !cursor.is_next(TokenKind::StringToken) {
         return Ok(None);
     }
-    Ok(Some(string(alloc, cursor, expander)?))
+    Ok(Some(cursor.string(expander)?))
 }
 
 /// `mod NAME` or `mod? NAME`, perhaps a file, and the end of its line.
-#[tactic(auto, unfolding(crate::specs::Reading::module_at, just_recipes::specs::RecipeReading::marked_at))]
+#[tactic(auto, unfolding(crate::specs::Reading::module_at, just_recipes::specs::Reading::marked_at))]
 fn submodule<'src, E: Expander>(
     alloc: Global,
     cursor: &mut Cursor<'_, 'src>,
@@ -319,7 +283,7 @@ fn submodule<'src, E: Expander>(
     cursor.expect(TokenKind::Identifier)?;
     let optional = cursor.accept(TokenKind::QuestionMark).is_some();
     let name = name(cursor)?;
-    let path = file(alloc, cursor, expander)?;
+    let path = file(cursor, expander)?;
     end_of_line(cursor)?;
     Ok(Module {
         attributes: AttributeSet::new(alloc),
@@ -354,7 +318,7 @@ pub fn item<'src, E: Expander>(
             assignment(alloc, cursor, expander, numerator).map(Item::Assignment)
         }
         ItemKind::Function => function(alloc, cursor, expander, numerator).map(Item::Function),
-        ItemKind::Import => import(alloc, cursor, expander).map(Item::Import),
+        ItemKind::Import => import(cursor, expander).map(Item::Import),
         ItemKind::Module => submodule(alloc, cursor, expander).map(Item::Module),
         ItemKind::Unexport => unexport(cursor).map(Item::Unexport),
         _ => Err(cursor.unexpected()),

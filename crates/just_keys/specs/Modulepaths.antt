@@ -38,15 +38,6 @@ path_of_words [] = Some []
 path_of_words (word ∷ []) = path_of_word word
 path_of_words (word ∷ other ∷ words) = names (word ∷ other ∷ words)
 
--- the names behind the first one
-abbrev pub more_names : List (List ℕ) → List ℕ
-more_names names = flat_map (λ name. codes "::" ++ name) names
-
--- the printed path
-abbrev pub path_text : List (List ℕ) → List ℕ
-path_text [] = []
-path_text (name ∷ names) = name ++ more_names names
-
 -- paths name by name, names byte by byte
 abbrev pub paths_cmp : List (List ℕ) → List (List ℕ) → Ordering
 paths_cmp = slice_cmp (slice_cmp nat_cmp)

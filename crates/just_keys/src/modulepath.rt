@@ -7,7 +7,8 @@ ghost use Rattle.std.specs.Str.{bytes_eq};
 ghost use Rattle.std.proofs.Common.{rules};
 ghost use Rattle.just_text.specs.Tokens.{lexeme};
 ghost use Rattle.just_keys.specs.Modulepaths as spec;
-ghost use Rattle.just_keys.specs.Modulepaths.{path_text, paths_cmp, paths_eq, paths_ties};
+ghost use Rattle.just_keys.specs.Modulepaths.{paths_cmp, paths_eq, paths_ties};
+ghost use Rattle.just_text.specs.Names.{joined_names};
 ghost use Rattle.just_keys.specs.Tables.{texts};
 
 use just_text::{Namepath, Text};
@@ -172,7 +173,7 @@ impl Modulepath {
 
 /// The names with `::` between them.
 impl fmt::Display for Modulepath {
-    ghost output = { λ path. Some (path_text path) };
+    ghost output = { λ path. Some (joined_names path) };
 
     fn fmt<W: fmt::Write>(&self, f: &mut fmt::Formatter<W>) -> fmt::Result {
         let Some((first, others)) = self.components.split_first() else {

@@ -8,11 +8,11 @@ use Rattle.just_text.specs.declared.token_kind.TokenKind.{TokenKind}
 use Rattle.just_text.specs.declared.token_kind.TokenKind.TheVariants.{AmpersandAmpersand, Asterisk, At, Backtick, Bang, BangEquals, BangTilde, BarBar, BraceL, BraceR, BracketL, BracketR, ByteOrderMark, Colon, ColonColon, ColonEquals, Comma, Comment, Dedent, Dollar, Eof, Eol, Equals, EqualsEquals, EqualsTilde, FormatStringContinue, FormatStringEnd, FormatStringStart, Identifier, Indent, InterpolationEnd, InterpolationStart, ParenL, ParenR, Plus, PlusPlus, QuestionMark, Slash, StringToken, Text, Whitespace}
 use Rattle.just_lexer.specs.declared.quotes.Quotes.{Quotes}
 use Rattle.just_lexer.specs.declared.mode.Open.{Open}
-use Rattle.just_lexer.specs.declared.mode.Open.TheVariants.{Bracket, Interpolation, Hole}
+use Rattle.just_lexer.specs.declared.mode.Open.TheVariants.{Bracket, Interpolation, FormatInterpolation}
 use Rattle.just_lexer.specs.Classes.{first, second, is_letter, is_word, is_blank, is_quote, at_two, line_end_len, at_line_end, continued_len, at_continuation, at_closing_braces, line_len, blank_len}
-use Rattle.just_lexer.specs.Strings.{ended_len, opened_len, opens_string, ends_in_hole}
+use Rattle.just_lexer.specs.Strings.{ended_len, opened_len, opens_string, ends_in_format_interpolation}
 use Rattle.just_lexer.specs.Modes.{in_brackets}
-use Rattle.just_lexer.specs.Longest.{one, two, name_len, string_len, part_behind, white_len, reach, is_bracket, is_interpolation, is_hole, is_line_kind}
+use Rattle.just_lexer.specs.Longest.{one, two, name_len, string_len, part_behind, white_len, reach, is_bracket, is_interpolation, is_format_interpolation, is_line_kind}
 use Rattle.just_lexer.specs.Lexing.{Found, mark_of, part_token, closing_token, other_token, single_token, mark_token, blank_token, word_token}
 
 -- what stands at the front of a text that a kind reaches into
@@ -20,87 +20,87 @@ use Rattle.just_lexer.specs.Lexing.{Found, mark_of, part_token, closing_token, o
 one_from : (b : ℕ) (text : List ℕ) → 0 < one b text → first text ≡ b
 one_from b text = cond_both (first text == b) 1 0 (λ n. 0 < n → first text ≡ b) (λ h p. eqb-true (first text) b h) (λ h p. absurd (omega arith))
 
-two_from : (a b : ℕ) (text : List ℕ) → 0 < two a b text → (first text ≡ a) × (second text ≡ b)
+pub two_from : (a b : ℕ) (text : List ℕ) → 0 < two a b text → (first text ≡ a) × (second text ≡ b)
 two_from a b text =
     cond_both (at_two a b text) 2 0 (λ n. 0 < n → (first text ≡ a) × (second text ≡ b))
     (λ h p. let both = and_parts (first text == a) (second text == b) h in (eqb-true (first text) a both.0, eqb-true (second text) b both.1))
     (λ h p. absurd (omega arith))
 
-blank_cases : (b : ℕ) → is_blank b ≡ true → (b ≡ 32) ⊎ (b ≡ 9)
+pub blank_cases : (b : ℕ) → is_blank b ≡ true → (b ≡ 32) ⊎ (b ≡ 9)
 blank_cases b h = grind (arith, nat_tests)
 
-end_cases : (text : List ℕ) → 0 < line_end_len text → (first text ≡ 10) ⊎ ((first text ≡ 13) × (second text ≡ 10))
+pub end_cases : (text : List ℕ) → 0 < line_end_len text → (first text ≡ 10) ⊎ ((first text ≡ 13) × (second text ≡ 10))
 end_cases text =
     cond_both (first text == 10) 1 (two 13 10 text) (λ n. 0 < n → (first text ≡ 10) ⊎ ((first text ≡ 13) × (second text ≡ 10)))
     (λ h p. inl (eqb-true (first text) 10 h))
     (λ h p. inr (two_from 13 10 text p))
 
-continuation_from : (text : List ℕ) → at_continuation text ≡ true → (first text ≡ 92) × (at_line_end (drop 1 text) ≡ true)
+pub continuation_from : (text : List ℕ) → at_continuation text ≡ true → (first text ≡ 92) × (at_line_end (drop 1 text) ≡ true)
 continuation_from text =
     cond_both (first text == 92) (line_end_len (drop 1 text)) 0 (λ n. nat_lt 0 n ≡ true → (first text ≡ 92) × (at_line_end (drop 1 text) ≡ true))
     (λ h p. (eqb-true (first text) 92 h, p))
     (λ h p. cc)
 
-neither : (a b : Bool) → not (a || b) ≡ true → (a ≡ false) × (b ≡ false)
+pub neither : (a b : Bool) → not (a || b) ≡ true → (a ≡ false) × (b ≡ false)
 neither true b e = cc
 neither false true e = cc
 neither false false e = (refl, refl)
 
-no_quote : (b : ℕ) → is_letter b ≡ true → is_quote b ≡ false
+pub no_quote : (b : ℕ) → is_letter b ≡ true → is_quote b ≡ false
 no_quote b h = grind (arith, nat_tests)
 
-no_tick : (b : ℕ) → is_letter b ≡ true → (b == 96) ≡ false
+pub no_tick : (b : ℕ) → is_letter b ≡ true → (b == 96) ≡ false
 no_tick b h = grind (arith, nat_tests)
 
-not_nothing : (n : ℕ) → 0 < n → (n == 0) ≡ false
+pub not_nothing : (n : ℕ) → 0 < n → (n == 0) ≡ false
 not_nothing n p = grind (arith, nat_tests)
 
 -- closing marks
 
-paren_closes : (inner : Option Open) (text : List ℕ) → is_bracket inner delimiters.Paren ≡ true → first text ≡ 41 → word_token inner text ≡ Ok (ParenR, 1)
+pub paren_closes : (inner : Option Open) (text : List ℕ) → is_bracket inner delimiters.Paren ≡ true → first text ≡ 41 → word_token inner text ≡ Ok (ParenR, 1)
 unfolding word_token blank_token mark_token single_token closing_token
 paren_closes (Some (Bracket delimiters.Paren)) text h e = rw e (rw e refl)
 paren_closes _ text h e = cc
 
-bracket_closes : (inner : Option Open) (text : List ℕ) → is_bracket inner delimiters.Bracket ≡ true → first text ≡ 93 → word_token inner text ≡ Ok (BracketR, 1)
+pub bracket_closes : (inner : Option Open) (text : List ℕ) → is_bracket inner delimiters.Bracket ≡ true → first text ≡ 93 → word_token inner text ≡ Ok (BracketR, 1)
 unfolding word_token blank_token mark_token single_token closing_token
 bracket_closes (Some (Bracket delimiters.Bracket)) text h e = rw e (rw e refl)
 bracket_closes _ text h e = cc
 
-brace_closes : (inner : Option Open) (text : List ℕ) → is_bracket inner delimiters.Brace ≡ true → first text ≡ 125 → word_token inner text ≡ Ok (BraceR, 1)
+pub brace_closes : (inner : Option Open) (text : List ℕ) → is_bracket inner delimiters.Brace ≡ true → first text ≡ 125 → word_token inner text ≡ Ok (BraceR, 1)
 unfolding word_token blank_token mark_token single_token closing_token
 brace_closes (Some (Bracket delimiters.Brace)) text h e = rw e (rw e refl)
 brace_closes _ text h e = cc
 
-interpolation_closes : (inner : Option Open) (text : List ℕ) → is_interpolation inner ≡ true → first text ≡ 125 → second text ≡ 125 → word_token inner text ≡ Ok (InterpolationEnd, 2)
+pub interpolation_closes : (inner : Option Open) (text : List ℕ) → is_interpolation inner ≡ true → first text ≡ 125 → second text ≡ 125 → word_token inner text ≡ Ok (InterpolationEnd, 2)
 unfolding word_token blank_token mark_token single_token closing_token
 interpolation_closes (Some Interpolation) text h a b = rw a (rw a (rw (a, b) refl))
 interpolation_closes _ text h a b = cc
 
-part_follows : (q : Quotes) (around : Bool) (text : List ℕ) → first text ≡ 125 → second text ≡ 125 → word_token (Some (Hole q around)) text ≡ part_token (ended_len true q 2 text) text
+pub part_follows : (q : Quotes) (around : Bool) (text : List ℕ) → first text ≡ 125 → second text ≡ 125 → word_token (Some (FormatInterpolation q around)) text ≡ part_token (ended_len true q 2 text) text
 unfolding word_token blank_token mark_token single_token closing_token
 part_follows q around text a b = rw a (rw a (rw (a, b) refl))
 
 -- a part that is there has two closing braces at its front, and this length
-part_from : (q : Quotes) (around : Bool) (text : List ℕ) → 0 < part_behind (Some (Hole q around)) text → ((first text ≡ 125) × (second text ≡ 125)) × (part_behind (Some (Hole q around)) text ≡ ended_len true q 2 text)
+pub part_from : (q : Quotes) (around : Bool) (text : List ℕ) → 0 < part_behind (Some (FormatInterpolation q around)) text → ((first text ≡ 125) × (second text ≡ 125)) × (part_behind (Some (FormatInterpolation q around)) text ≡ ended_len true q 2 text)
 part_from q around text =
     cond_both (at_closing_braces text) (ended_len true q 2 text) 0 (λ n. 0 < n → ((first text ≡ 125) × (second text ≡ 125)) × (n ≡ ended_len true q 2 text))
     (λ h p. let both = and_parts (first text == 125) (second text == 125) h in ((eqb-true (first text) 125 both.0, eqb-true (second text) 125 both.1), refl))
     (λ h p. absurd (omega arith))
 
-part_continues : (inner : Option Open) (text : List ℕ) → is_hole inner ≡ true → 0 < part_behind inner text → ends_in_hole (part_behind inner text) text ≡ true → word_token inner text ≡ Ok (FormatStringContinue, part_behind inner text)
-part_continues (Some (Hole q around)) text h p hole =
+pub part_continues : (inner : Option Open) (text : List ℕ) → is_format_interpolation inner ≡ true → 0 < part_behind inner text → ends_in_format_interpolation (part_behind inner text) text ≡ true → word_token inner text ≡ Ok (FormatStringContinue, part_behind inner text)
+part_continues (Some (FormatInterpolation q around)) text h p format_interpolation =
     let (braces, len) = part_from q around text p in
-    let some : (part_behind (Some (Hole q around)) text == 0) ≡ false = not_nothing _ p in
-    part_follows q around text braces.0 braces.1 ∙ ap (λ n. part_token n text) (sym len) ∙ rw (some, hole) refl
-part_continues _ text h p hole = cc
+    let some : (part_behind (Some (FormatInterpolation q around)) text == 0) ≡ false = not_nothing _ p in
+    part_follows q around text braces.0 braces.1 ∙ ap (λ n. part_token n text) (sym len) ∙ rw (some, format_interpolation) refl
+part_continues _ text h p format_interpolation = cc
 
-part_ends : (inner : Option Open) (text : List ℕ) → is_hole inner ≡ true → 0 < part_behind inner text → ends_in_hole (part_behind inner text) text ≡ false → word_token inner text ≡ Ok (FormatStringEnd, part_behind inner text)
-part_ends (Some (Hole q around)) text h p hole =
+pub part_ends : (inner : Option Open) (text : List ℕ) → is_format_interpolation inner ≡ true → 0 < part_behind inner text → ends_in_format_interpolation (part_behind inner text) text ≡ false → word_token inner text ≡ Ok (FormatStringEnd, part_behind inner text)
+part_ends (Some (FormatInterpolation q around)) text h p format_interpolation =
     let (braces, len) = part_from q around text p in
-    let some : (part_behind (Some (Hole q around)) text == 0) ≡ false = not_nothing _ p in
-    part_follows q around text braces.0 braces.1 ∙ ap (λ n. part_token n text) (sym len) ∙ rw (some, hole) refl
-part_ends _ text h p hole = cc
+    let some : (part_behind (Some (FormatInterpolation q around)) text == 0) ≡ false = not_nothing _ p in
+    part_follows q around text braces.0 braces.1 ∙ ap (λ n. part_token n text) (sym len) ∙ rw (some, format_interpolation) refl
+part_ends _ text h p format_interpolation = cc
 
 -- the kind is the token's or reaches less
 abbrev pub BeatenBy : Option Open → List ℕ → TokenKind → Found → Type 0
@@ -183,17 +183,17 @@ module _ (inner : Option Open) (text : List ℕ) where
       (λ inside p. given Whitespace (line_end_len text) (line_end_given p ∙ rw inside refl))
       (λ _ p. absurd (omega arith))))
 
-  continue_beats : is_hole inner ≡ true → 0 < reach inner FormatStringContinue text → Beaten FormatStringContinue
-  continue_beats hole =
-      cond_both (ends_in_hole (part_behind inner text) text) (part_behind inner text) 0 (λ n. 0 < n → Beaten FormatStringContinue)
-      (λ h p. given FormatStringContinue (part_behind inner text) (part_continues inner text hole p h))
+  continue_beats : is_format_interpolation inner ≡ true → 0 < reach inner FormatStringContinue text → Beaten FormatStringContinue
+  continue_beats format_interpolation =
+      cond_both (ends_in_format_interpolation (part_behind inner text) text) (part_behind inner text) 0 (λ n. 0 < n → Beaten FormatStringContinue)
+      (λ h p. given FormatStringContinue (part_behind inner text) (part_continues inner text format_interpolation p h))
       (λ h p. absurd (omega arith))
 
-  end_beats : is_hole inner ≡ true → 0 < reach inner FormatStringEnd text → Beaten FormatStringEnd
-  end_beats hole =
-      cond_both (ends_in_hole (part_behind inner text) text) 0 (part_behind inner text) (λ n. 0 < n → Beaten FormatStringEnd)
+  end_beats : is_format_interpolation inner ≡ true → 0 < reach inner FormatStringEnd text → Beaten FormatStringEnd
+  end_beats format_interpolation =
+      cond_both (ends_in_format_interpolation (part_behind inner text) text) 0 (part_behind inner text) (λ n. 0 < n → Beaten FormatStringEnd)
       (λ h p. absurd (omega arith))
-      (λ h p. given FormatStringEnd (part_behind inner text) (part_ends inner text hole p h))
+      (λ h p. given FormatStringEnd (part_behind inner text) (part_ends inner text format_interpolation p h))
 
   pub beaten : (k : TokenKind) → is_line_kind inner k ≡ true → 0 < reach inner k text → Beaten k
   unfolding word_token blank_token mark_token single_token

@@ -17,7 +17,7 @@ use Rattle.just_lexer.specs.declared.fault.Fault.TheVariants as faults
 use Rattle.just_lexer.specs.declared.quotes.Quotes.{Quotes}
 use Rattle.just_lexer.specs.declared.mode.Indentation.{Indentation}
 use Rattle.just_lexer.specs.declared.mode.Open.{Open}
-use Rattle.just_lexer.specs.declared.mode.Open.TheVariants.{Bracket, Interpolation, Hole}
+use Rattle.just_lexer.specs.declared.mode.Open.TheVariants.{Bracket, Interpolation, FormatInterpolation}
 use Rattle.just_lexer.specs.declared.mode.Line.{Line}
 use Rattle.just_lexer.specs.declared.mode.Line.TheVariants.{Begin, Start, Ahead, Inside, BodyStart, BodyLine, Over}
 use Rattle.just_lexer.specs.Classes.{first, second, is_letter, is_word, is_blank, is_quote, line_end_len, at_line_end, continued_len, at_continuation, at_closing_braces, at_byte_order_mark, line_len, text_len, blank_len, is_blank_line, is_indented, is_mixed, breaks_off}
@@ -220,13 +220,13 @@ module _ (m : Mode) (text : List ℕ) (utf8 : IsUtf8 text) where
         cond_both (at_closing_braces text) (Ok (InterpolationEnd, 2)) (Err (faults.Unexpected closer)) Q
         (λ _. tt)
         (λ alone. unexpected (Some Interpolation) e closer closes refl alone)
-    closing_faults (Some (Hole q around)) e closer closes =
+    closing_faults (Some (FormatInterpolation q around)) e closer closes =
         cond_both (at_closing_braces text) (part_token (ended_len true q 2 text) text) (Err (faults.Unexpected closer)) Q
         (λ two. sized_faults _ faults.UnclosedString (ended_len true q 2 text) (λ none.
         let open_end : has_end true q (drop 2 text) ≡ false = ended_zero true text 2 (omega arith) q none in
-        let on : goes_on_unclosed (Some (Hole q around)) text ≡ true = rw (two, open_end) refl in
+        let on : goes_on_unclosed (Some (FormatInterpolation q around)) text ≡ true = rw (two, open_end) refl in
         record { in_code = in_code; unclosed = or_true (opens_unclosed text) (goes_on_unclosed (innermost m.opened) text) (ap (λ o. goes_on_unclosed o text) e ∙ on) }))
-        (λ alone. unexpected (Some (Hole q around)) e closer closes refl alone)
+        (λ alone. unexpected (Some (FormatInterpolation q around)) e closer closes refl alone)
 
     closer_faults : Passed text → NoSingle (first text) → (o : Option Delimiter) → closer_of (first text) ≡ o → IfSome o (λ closer. first text ≡ closing closer) → Q (closer_token o inner text)
     closer_faults p s None e is = other_faults p s (no_closer (first text) e)

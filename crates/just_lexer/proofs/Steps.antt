@@ -23,10 +23,10 @@ use Rattle.just_lexer.specs.declared.quotes.Quotes.{Quotes}
 use Rattle.just_lexer.specs.declared.mode.Indentation.{Indentation}
 use Rattle.just_lexer.specs.declared.mode.Indentation.TheVariants.{Spaces, Tabs}
 use Rattle.just_lexer.specs.declared.mode.Open.{Open}
-use Rattle.just_lexer.specs.declared.mode.Open.TheVariants.{Bracket, Interpolation, Hole}
+use Rattle.just_lexer.specs.declared.mode.Open.TheVariants.{Bracket, Interpolation, FormatInterpolation}
 use Rattle.just_lexer.specs.declared.mode.Line.{Line}
 use Rattle.just_lexer.specs.declared.mode.Line.TheVariants.{Begin, Start, Ahead, Inside, BodyStart, BodyLine, Over}
-use Rattle.just_lexer.specs.Classes.{first, second, at_two, is_letter, is_word, is_blank, is_quote, line_end_len, at_line_end, continued_len, at_continuation, at_closing_braces, at_byte_order_mark, opens_hole, ends_text, brace_takes, line_len, text_len, blank_len, is_blank_line, is_mixed, breaks_off}
+use Rattle.just_lexer.specs.Classes.{first, second, at_two, is_letter, is_word, is_blank, is_quote, line_end_len, at_line_end, continued_len, at_continuation, at_closing_braces, at_byte_order_mark, opens_format_interpolation, ends_text, brace_takes, line_len, text_len, blank_len, is_blank_line, is_mixed, breaks_off}
 use Rattle.just_lexer.specs.Strings.{quote_byte, quotes_len, quotes_at, at_quotes, ends_part, part_takes, part_len, has_end, end_len, ended_len, opened_len, opens_string}
 use Rattle.just_lexer.specs.Modes.{indent_byte, indent_width, has_indentation, in_brackets, start_after, line_after, is_over, is_byte_order_mark, advance, moved}
 use Rattle.just_lexer.specs.Lexing.{Found, sized, mark_of, twice, single_kind, closer_of, closer_kind, close_token, part_token, closing_token, other_token, closer_token, single_or_closer, single_token, mark_token, blank_token, word_token, line_token, start_token, begin_token, body_start_token, body_line_token, interpolation_token, token_at}
@@ -177,8 +177,8 @@ continued_boundary text utf8 =
 -- in front of no text two braces stand
 pub braces_stand : (text : List ℕ) → 0 < length text → at_line_end text ≡ false → text_len text ≡ 0 → at_two 123 123 text ≡ true
 braces_stand text some no_end none =
-    elim (cases_Bool (opens_hole text)) [
-      | inl hole ↦ (and_parts (at_two 123 123 text) (not (get_or text 2 0 == 123 && get_or text 3 0 == 123)) hole).0
+    elim (cases_Bool (opens_format_interpolation text)) [
+      | inl format_interpolation ↦ (and_parts (at_two 123 123 text) (not (get_or text 2 0 == 123 && get_or text 3 0 == 123)) format_interpolation).0
       | inr plain ↦ absurd (let more : 0 < text_len text = over_some ends_text brace_takes text some (rw (no_end, plain) refl) in omega arith)
     ]
 
@@ -227,7 +227,7 @@ quotes_end q bs e =
       | inr t ↦ record { last = 0; size = rw t refl; some = omega (arith, ascii.0); ascii = omega (arith, ascii.1) }
     ]
 
-braces_end : (bs : List ℕ) → opens_hole bs ≡ true → EndsAscii bs 2
+braces_end : (bs : List ℕ) → opens_format_interpolation bs ≡ true → EndsAscii bs 2
 braces_end bs e =
     let brace : second bs ≡ 123 = grind (arith, nat_tests) in
     record { last = 1; size = refl; some = omega arith; ascii = omega arith }
@@ -237,9 +237,9 @@ part_ends format q bs e =
     elim (cases_Bool (at_quotes q bs)) [
       | inl quotes ↦ (let size : end_len q bs ≡ quotes_len q = rw quotes refl in subst (EndsAscii bs) (sym size) (quotes_end q bs quotes))
       | inr none ↦ (
-          let hole : (format && opens_hole bs) ≡ true = rw none at e in
+          let format_interpolation : (format && opens_format_interpolation bs) ≡ true = rw none at e in
           let size : end_len q bs ≡ 2 = rw none refl in
-          subst (EndsAscii bs) (sym size) (braces_end bs (and_parts format (opens_hole bs) hole).1))
+          subst (EndsAscii bs) (sym size) (braces_end bs (and_parts format (opens_format_interpolation bs) format_interpolation).1))
     ]
 
 behind_end : (text : List ℕ) (n l e : ℕ) → IsUtf8 text → EndsAscii (drop l (drop n text)) e → IsCharBoundary text (n + l + e)
@@ -325,7 +325,7 @@ module _ (line : Line) (inner : Option Open) (text : List ℕ) (utf8 : IsUtf8 te
   unfolding P
   close_takes None closer e = tt
   close_takes (Some Interpolation) closer e = tt
-  close_takes (Some (Hole q around)) closer e = tt
+  close_takes (Some (FormatInterpolation q around)) closer e = tt
   close_takes (Some (Bracket opener)) closer e =
       let ascii = closing_ascii closer in
       cond_both (closing opener == closing closer) (Ok (closer_kind closer, 1)) (Err (faults.Mismatched opener closer)) P
@@ -340,10 +340,10 @@ module _ (line : Line) (inner : Option Open) (text : List ℕ) (utf8 : IsUtf8 te
       cond_both (at_closing_braces text) (Ok (InterpolationEnd, 2)) (close_token (Some Interpolation) closer) P
       (λ two. consumes InterpolationEnd 2 (at_two_boundary text 125 125 utf8 two (omega arith) (omega arith)) (omega arith))
       (λ _. close_takes (Some Interpolation) closer e)
-  closing_takes (Some (Hole q around)) closer e =
-      cond_both (at_closing_braces text) (part_token (ended_len true q 2 text) text) (close_token (Some (Hole q around)) closer) P
+  closing_takes (Some (FormatInterpolation q around)) closer e =
+      cond_both (at_closing_braces text) (part_token (ended_len true q 2 text) text) (close_token (Some (FormatInterpolation q around)) closer) P
       (λ _. sized_takes _ faults.UnclosedString (ended_len true q 2 text) (ended_boundary true q 2 text utf8))
-      (λ _. close_takes (Some (Hole q around)) closer e)
+      (λ _. close_takes (Some (FormatInterpolation q around)) closer e)
 
   closer_takes : (o : Option Delimiter) → IfSome o (λ closer. first text ≡ closing closer) → P (closer_token o inner text)
   closer_takes None h = other_takes

@@ -13,9 +13,9 @@ use Rattle.just_lexer.specs.declared.fault.Fault.{Fault}
 use Rattle.just_lexer.specs.declared.fault.Fault.TheVariants as faults
 use Rattle.just_lexer.specs.declared.quotes.Quotes.{Quotes}
 use Rattle.just_lexer.specs.declared.mode.Open.{Open}
-use Rattle.just_lexer.specs.declared.mode.Open.TheVariants.{Bracket, Interpolation, Hole}
+use Rattle.just_lexer.specs.declared.mode.Open.TheVariants.{Bracket, Interpolation, FormatInterpolation}
 use Rattle.just_lexer.specs.Classes.{first, second, is_letter, is_word, is_blank, is_quote, line_end_len, at_line_end, continued_len, at_continuation, at_closing_braces, line_len, blank_len}
-use Rattle.just_lexer.specs.Strings.{ended_len, opened_len, opens_string, ends_in_hole}
+use Rattle.just_lexer.specs.Strings.{ended_len, opened_len, opens_string, ends_in_format_interpolation}
 use Rattle.just_lexer.specs.Modes.{in_brackets}
 use Rattle.just_lexer.specs.Longest.{reach, is_line_kind}
 use Rattle.just_lexer.specs.Lexing.{Found, sized, mark_of, twice, single_kind, closer_of, closer_kind, close_token, part_token, closing_token, other_token, closer_token, single_or_closer, single_token, mark_token, blank_token, word_token}
@@ -63,18 +63,18 @@ module _ (text : List ℕ) where
   close_is : (inner : Option Open) (closer : Delimiter) → first text ≡ closing closer → IsIn inner (close_token inner closer)
   close_is None closer e = tt
   close_is (Some Interpolation) closer e = tt
-  close_is (Some (Hole q around)) closer e = tt
+  close_is (Some (FormatInterpolation q around)) closer e = tt
   close_is (Some (Bracket opener)) closer e =
       cond_both (closing opener == closing closer) (Ok (closer_kind closer, 1)) (Err (faults.Mismatched opener closer)) (IsIn (Some (Bracket opener)))
       (λ own. record { in_line = closes_own opener closer own; reaches = closer_reaches (Some (Bracket opener)) text closer e; some = omega arith })
       (λ _. tt)
 
-  part_is : (q : Quotes) (around : Bool) → at_closing_braces text ≡ true → IsIn (Some (Hole q around)) (part_token (ended_len true q 2 text) text)
+  part_is : (q : Quotes) (around : Bool) → at_closing_braces text ≡ true → IsIn (Some (FormatInterpolation q around)) (part_token (ended_len true q 2 text) text)
   part_is q around braces =
       let n : ℕ = ended_len true q 2 text in
-      cond_both (ends_in_hole n text) FormatStringContinue FormatStringEnd (λ k. IsIn (Some (Hole q around)) (sized k faults.UnclosedString n))
-      (λ hole. sized_is (Some (Hole q around)) FormatStringContinue faults.UnclosedString n refl (rw (braces, hole) refl))
-      (λ hole. sized_is (Some (Hole q around)) FormatStringEnd faults.UnclosedString n refl (rw (braces, hole) refl))
+      cond_both (ends_in_format_interpolation n text) FormatStringContinue FormatStringEnd (λ k. IsIn (Some (FormatInterpolation q around)) (sized k faults.UnclosedString n))
+      (λ format_interpolation. sized_is (Some (FormatInterpolation q around)) FormatStringContinue faults.UnclosedString n refl (rw (braces, format_interpolation) refl))
+      (λ format_interpolation. sized_is (Some (FormatInterpolation q around)) FormatStringEnd faults.UnclosedString n refl (rw (braces, format_interpolation) refl))
 
   closing_is : (inner : Option Open) (closer : Delimiter) → first text ≡ closing closer → IsIn inner (closing_token inner closer text)
   unfolding closing_token
@@ -84,10 +84,10 @@ module _ (text : List ℕ) where
       cond_both (at_closing_braces text) (Ok (InterpolationEnd, 2)) (close_token (Some Interpolation) closer) (IsIn (Some Interpolation))
       (λ braces. record { in_line = refl; reaches = rw braces refl; some = omega arith })
       (λ _. close_is (Some Interpolation) closer e)
-  closing_is (Some (Hole q around)) closer e =
-      cond_both (at_closing_braces text) (part_token (ended_len true q 2 text) text) (close_token (Some (Hole q around)) closer) (IsIn (Some (Hole q around)))
+  closing_is (Some (FormatInterpolation q around)) closer e =
+      cond_both (at_closing_braces text) (part_token (ended_len true q 2 text) text) (close_token (Some (FormatInterpolation q around)) closer) (IsIn (Some (FormatInterpolation q around)))
       (λ braces. part_is q around braces)
-      (λ _. close_is (Some (Hole q around)) closer e)
+      (λ _. close_is (Some (FormatInterpolation q around)) closer e)
 
   module _ (inner : Option Open) where
     P : Found → Type 0

@@ -56,8 +56,8 @@ abbrev pub at_closing_braces : List ℕ → Bool
 at_closing_braces text = at_two 125 125 text
 
 -- two opening braces stand at the front, and not four: an expression begins behind them
-abbrev pub opens_hole : List ℕ → Bool
-opens_hole text = at_braces text && not (slice_index text 2 == 123 && slice_index text 3 == 123)
+abbrev pub opens_format_interpolation : List ℕ → Bool
+opens_format_interpolation text = at_braces text && not (slice_index text 2 == 123 && slice_index text 3 == 123)
 
 -- the byte order mark stands at the front
 abbrev pub at_byte_order_mark : List ℕ → Bool
@@ -80,7 +80,7 @@ line_len text = until at_line_end text
 
 -- the text of a body line goes up to the line end or an expression
 abbrev pub ends_text : List ℕ → Bool
-ends_text text = at_line_end text || opens_hole text
+ends_text text = at_line_end text || opens_format_interpolation text
 
 -- four braces stay together
 abbrev pub brace_takes : List ℕ → ℕ

@@ -13,7 +13,7 @@ use Rattle.just_text.specs.declared.compile_error.CompileErrorKind.{CompileError
 use Rattle.just_text.specs.declared.compile_error.CompileErrorKind.TheVariants.{OutOfMemory, UnknownStartOfToken, UnexpectedCharacter, UnterminatedString, UnterminatedBacktick, UnterminatedInterpolation, InvalidEscapeSequence, MismatchedClosingDelimiter, UnexpectedClosingDelimiter, UnpairedCarriageReturn, MixedLeadingWhitespace, InconsistentLeadingWhitespace}
 use Rattle.just_lexer.specs.declared.mode.Indentation.{Indentation}
 use Rattle.just_lexer.specs.declared.mode.Open.{Open}
-use Rattle.just_lexer.specs.declared.mode.Open.TheVariants.{Bracket, Hole}
+use Rattle.just_lexer.specs.declared.mode.Open.TheVariants.{Bracket, FormatInterpolation}
 use Rattle.just_lexer.specs.declared.mode.Line.TheVariants.{Start, BodyStart}
 use Rattle.just_lexer.specs.Classes.{first, second, is_letter, is_blank, is_quote, at_line_end, at_closing_braces, is_indented, is_mixed, breaks_off}
 use Rattle.just_lexer.specs.Strings.{opens_string, is_unclosed, has_end}
@@ -71,7 +71,7 @@ opens_unclosed rest = (is_quote (first rest) && is_unclosed false 0 rest) || ((o
 
 -- behind an expression of a format string a part begins here, and nothing ends it
 abbrev pub goes_on_unclosed : Option Open → List ℕ → Bool
-goes_on_unclosed (Some (Hole q _)) rest = at_closing_braces rest && not (has_end true q (drop 2 rest))
+goes_on_unclosed (Some (FormatInterpolation q _)) rest = at_closing_braces rest && not (has_end true q (drop 2 rest))
 goes_on_unclosed _ rest = false
 
 -- There a string begins or goes on, and nothing behind ends it.

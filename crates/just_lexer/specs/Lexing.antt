@@ -3,7 +3,7 @@ use Rattle.std.specs.Prelude.{ℕ, ◌+◌, Bool, true, false, not, ◌&&◌, �
 use Rattle.std.specs.List.{prefix_len, flat_map}
 use Rattle.std.specs.Str.{chars}
 use Rattle.just_lexer.specs.Classes.{first, second, is_letter, is_word, is_blank, is_quote, at_line_end, at_continuation, continued_len, at_closing_braces, at_byte_order_mark, line_end_len, line_len, text_len, blank_len, is_blank_line, is_mixed, breaks_off}
-use Rattle.just_lexer.specs.Strings.{opened_len, ended_len, opens_string, ends_in_hole}
+use Rattle.just_lexer.specs.Strings.{opened_len, ended_len, opens_string, ends_in_format_interpolation}
 use Rattle.just_lexer.specs.Modes.{in_brackets, has_indentation, indent_width}
 use Rattle.just_text.specs.Texts.{closing}
 use Rattle.just_text.specs.declared.delimiter.Delimiter.{Delimiter}
@@ -14,7 +14,7 @@ use Rattle.just_text.specs.declared.compile_error.CompileErrorKind.{CompileError
 use Rattle.just_text.specs.declared.compile_error.CompileErrorKind.TheVariants as kinds
 use Rattle.just_lexer.specs.declared.mode.Indentation.{Indentation}
 use Rattle.just_lexer.specs.declared.mode.Open.{Open}
-use Rattle.just_lexer.specs.declared.mode.Open.TheVariants.{Bracket, Interpolation, Hole}
+use Rattle.just_lexer.specs.declared.mode.Open.TheVariants.{Bracket, Interpolation, FormatInterpolation}
 use Rattle.just_lexer.specs.declared.mode.Line.{Line}
 use Rattle.just_lexer.specs.declared.mode.Line.TheVariants.{Begin, Start, Ahead, Inside, BodyStart, BodyLine, Over}
 use Rattle.just_lexer.specs.declared.fault.Fault.{Fault}
@@ -71,12 +71,12 @@ close_token _ closer = Err (faults.Unexpected closer)
 
 -- the part of a format string behind an expression in it
 abbrev pub part_token : ℕ → List ℕ → Found
-part_token n text = sized (if ends_in_hole n text then FormatStringContinue else FormatStringEnd) faults.UnclosedString n
+part_token n text = sized (if ends_in_format_interpolation n text then FormatStringContinue else FormatStringEnd) faults.UnclosedString n
 
 -- a closing mark: two braces may end an expression
 unfoldable pub closing_token : Option Open → Delimiter → List ℕ → Found
 closing_token (Some Interpolation) closer text = if at_closing_braces text then Ok (InterpolationEnd, 2) else close_token (Some Interpolation) closer
-closing_token (Some (Hole q around)) closer text = if at_closing_braces text then part_token (ended_len true q 2 text) text else close_token (Some (Hole q around)) closer
+closing_token (Some (FormatInterpolation q around)) closer text = if at_closing_braces text then part_token (ended_len true q 2 text) text else close_token (Some (FormatInterpolation q around)) closer
 closing_token inner closer text = close_token inner closer
 
 -- a backslash, a carriage return, or what no token begins with

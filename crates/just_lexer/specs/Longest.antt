@@ -2,14 +2,14 @@
 use Rattle.std.specs.Prelude.{◌≡◌, ℕ, ◌+◌, ◌<◌, Bool, true, false, not, ◌&&◌, ◌||◌, ◌==◌, ◌⊎◌, if◌then◌else◌, List, length, Option, Some, is_some}
 use Rattle.std.specs.List.{prefix_len}
 use Rattle.just_lexer.specs.Classes.{first, is_letter, is_word, is_blank, is_quote, at_two, at_line_end, at_continuation, continued_len, at_closing_braces, at_byte_order_mark, line_end_len, line_len, text_len, blank_len, is_indented, is_mixed, breaks_off}
-use Rattle.just_lexer.specs.Strings.{opened_len, ended_len, opens_string, ends_in_hole}
+use Rattle.just_lexer.specs.Strings.{opened_len, ended_len, opens_string, ends_in_format_interpolation}
 use Rattle.just_lexer.specs.Modes.{Mode, innermost, in_brackets, indent_width, has_indentation, is_byte_order_mark}
 use Rattle.just_text.specs.declared.delimiter.Delimiter.{Delimiter}
 use Rattle.just_text.specs.declared.delimiter.Delimiter.TheVariants as delimiters
 use Rattle.just_text.specs.declared.token_kind.TokenKind.{TokenKind}
 use Rattle.just_text.specs.declared.token_kind.TokenKind.TheVariants.{AmpersandAmpersand, Asterisk, At, Backtick, Bang, BangEquals, BangTilde, BarBar, BraceL, BraceR, BracketL, BracketR, ByteOrderMark, Colon, ColonColon, ColonEquals, Comma, Comment, Dedent, Dollar, Eof, Eol, Equals, EqualsEquals, EqualsTilde, FormatStringContinue, FormatStringEnd, FormatStringStart, Identifier, Indent, InterpolationEnd, InterpolationStart, ParenL, ParenR, Plus, PlusPlus, QuestionMark, Slash, StringToken, Text, Whitespace}
 use Rattle.just_lexer.specs.declared.mode.Open.{Open}
-use Rattle.just_lexer.specs.declared.mode.Open.TheVariants.{Bracket, Interpolation, Hole}
+use Rattle.just_lexer.specs.declared.mode.Open.TheVariants.{Bracket, Interpolation, FormatInterpolation}
 use Rattle.just_lexer.specs.declared.mode.Line.{Line}
 use Rattle.just_lexer.specs.declared.mode.Line.TheVariants.{Begin, Start, Ahead, Inside, BodyStart, BodyLine, Over}
 
@@ -30,7 +30,7 @@ string_len text = if is_quote (first text) then opened_len false 0 text else if 
 
 -- the part of a format string behind an expression in it, with the braces and what ends the part
 abbrev pub part_behind : Option Open → List ℕ → ℕ
-part_behind (Some (Hole q _)) text = if at_closing_braces text then ended_len true q 2 text else 0
+part_behind (Some (FormatInterpolation q _)) text = if at_closing_braces text then ended_len true q 2 text else 0
 part_behind _ text = 0
 
 -- white space: spaces and tabs; a backslash and a line end; a line end while a bracket is open
@@ -68,8 +68,8 @@ reach inner Eol text = line_end_len text
 reach inner Equals text = one 61 text
 reach inner EqualsEquals text = two 61 61 text
 reach inner EqualsTilde text = two 61 126 text
-reach inner FormatStringContinue text = if ends_in_hole (part_behind inner text) text then part_behind inner text else 0
-reach inner FormatStringEnd text = if ends_in_hole (part_behind inner text) text then 0 else part_behind inner text
+reach inner FormatStringContinue text = if ends_in_format_interpolation (part_behind inner text) text then part_behind inner text else 0
+reach inner FormatStringEnd text = if ends_in_format_interpolation (part_behind inner text) text then 0 else part_behind inner text
 reach inner FormatStringStart text = if opens_string 102 text then opened_len true 1 text else 0
 reach inner Identifier text = name_len text
 reach inner Indent text = blank_len text
@@ -128,9 +128,9 @@ abbrev pub is_interpolation : Option Open → Bool
 is_interpolation (Some Interpolation) = true
 is_interpolation _ = false
 
-abbrev pub is_hole : Option Open → Bool
-is_hole (Some (Hole _ _)) = true
-is_hole _ = false
+abbrev pub is_format_interpolation : Option Open → Bool
+is_format_interpolation (Some (FormatInterpolation _ _)) = true
+is_format_interpolation _ = false
 
 -- what a line outside bodies or an expression is made of: a closing mark closes the innermost that is open
 abbrev pub is_line_kind : Option Open → TokenKind → Bool
@@ -140,8 +140,8 @@ is_line_kind inner ByteOrderMark = false
 is_line_kind inner Dedent = false
 is_line_kind inner Eof = false
 is_line_kind inner Eol = not (in_brackets inner)
-is_line_kind inner FormatStringContinue = is_hole inner
-is_line_kind inner FormatStringEnd = is_hole inner
+is_line_kind inner FormatStringContinue = is_format_interpolation inner
+is_line_kind inner FormatStringEnd = is_format_interpolation inner
 is_line_kind inner Indent = false
 is_line_kind inner InterpolationEnd = is_interpolation inner
 is_line_kind inner InterpolationStart = false

@@ -2,14 +2,14 @@
 use Rattle.std.specs.Prelude.{ℕ, ◌+◌, ◌-◌, Bool, true, false, not, ◌&&◌, ◌||◌, ◌==◌, nat_le, if◌then◌else◌, List, [], ◌∷◌, ◌++◌, length, take, drop, slice_get, Option, Some, is_some}
 use Rattle.std.specs.List.{prefix_len, fold}
 use Rattle.just_lexer.specs.Classes.{first, is_indented, at_byte_order_mark, breaks_off}
-use Rattle.just_lexer.specs.Strings.{quotes_at, ends_in_hole}
+use Rattle.just_lexer.specs.Strings.{quotes_at, ends_in_format_interpolation}
 use Rattle.just_text.specs.declared.delimiter.Delimiter.TheVariants as delimiters
 use Rattle.just_text.specs.declared.token_kind.TokenKind.{TokenKind}
 use Rattle.just_text.specs.declared.token_kind.TokenKind.TheVariants.{BraceL, BraceR, BracketL, BracketR, ByteOrderMark, Colon, Comment, Dedent, Eof, Eol, FormatStringEnd, FormatStringStart, Indent, InterpolationEnd, InterpolationStart, ParenL, ParenR, Whitespace}
 use Rattle.just_lexer.specs.declared.mode.Indentation.{Indentation}
 use Rattle.just_lexer.specs.declared.mode.Indentation.TheVariants.{Spaces, Tabs}
 use Rattle.just_lexer.specs.declared.mode.Open.{Open}
-use Rattle.just_lexer.specs.declared.mode.Open.TheVariants.{Bracket, Interpolation, Hole}
+use Rattle.just_lexer.specs.declared.mode.Open.TheVariants.{Bracket, Interpolation, FormatInterpolation}
 use Rattle.just_lexer.specs.declared.mode.Line.{Line}
 use Rattle.just_lexer.specs.declared.mode.Line.TheVariants.{Begin, Start, Ahead, Inside, BodyStart, BodyLine, Over}
 use Rattle.just_lexer.specs.declared.position.Position.{Position}
@@ -44,12 +44,12 @@ innermost opened = slice_get opened (length opened - 1)
 -- a bracket is open, be it around a format string's expression
 abbrev pub in_brackets : Option Open → Bool
 in_brackets (Some (Bracket _)) = true
-in_brackets (Some (Hole _ around)) = around
+in_brackets (Some (FormatInterpolation _ around)) = around
 in_brackets _ = false
 
 -- what opens at a format string's start: an expression between parts, unless the whole string is read
-abbrev pub holes_of : Option Open → List ℕ → List Open
-holes_of inner lexeme = if ends_in_hole (length lexeme) lexeme then Hole (quotes_at (drop 1 lexeme)) (in_brackets inner) ∷ [] else []
+abbrev pub format_interpolations_of : Option Open → List ℕ → List Open
+format_interpolations_of inner lexeme = if ends_in_format_interpolation (length lexeme) lexeme then FormatInterpolation (quotes_at (drop 1 lexeme)) (in_brackets inner) ∷ [] else []
 
 -- what is open without the innermost
 abbrev pub closed : List Open → List Open
@@ -61,7 +61,7 @@ open_after opened ParenL lexeme = opened ++ Bracket delimiters.Paren ∷ []
 open_after opened BracketL lexeme = opened ++ Bracket delimiters.Bracket ∷ []
 open_after opened BraceL lexeme = opened ++ Bracket delimiters.Brace ∷ []
 open_after opened InterpolationStart lexeme = opened ++ Interpolation ∷ []
-open_after opened FormatStringStart lexeme = opened ++ holes_of (innermost opened) lexeme
+open_after opened FormatStringStart lexeme = opened ++ format_interpolations_of (innermost opened) lexeme
 open_after opened ParenR lexeme = closed opened
 open_after opened BracketR lexeme = closed opened
 open_after opened BraceR lexeme = closed opened

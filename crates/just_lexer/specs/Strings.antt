@@ -3,7 +3,7 @@ use Rattle.std.specs.Prelude.{ℕ, ◌+◌, ◌-◌, Bool, not, ◌&&◌, ◌||�
 use Rattle.just_lexer.specs.declared.quotes.Quote.{Quote}
 use Rattle.just_lexer.specs.declared.quotes.Quote.TheVariants.{Single, Double, Backtick}
 use Rattle.just_lexer.specs.declared.quotes.Quotes.{Quotes}
-use Rattle.just_lexer.specs.Classes.{first, second, is_quote, at_braces, opens_hole, until_over}
+use Rattle.just_lexer.specs.Classes.{first, second, is_quote, at_braces, opens_format_interpolation, until_over}
 
 -- the byte of a quote
 abbrev pub quote_byte : Quote → ℕ
@@ -37,7 +37,7 @@ at_quotes q text = first text == quote_byte q.quote && (not q.tripled || at_thre
 
 -- a part of a string ends here: at its quotes or, in a format string, where an expression begins
 abbrev pub ends_part : Bool → Quotes → List ℕ → Bool
-ends_part format q text = at_quotes q text || (format && opens_hole text)
+ends_part format q text = at_quotes q text || (format && opens_format_interpolation text)
 
 -- a backslash takes the byte behind it along, where there are escapes; four braces of a format string stay together
 abbrev pub part_takes : Bool → Quotes → List ℕ → ℕ
@@ -74,5 +74,5 @@ abbrev pub is_unclosed : Bool → ℕ → List ℕ → Bool
 is_unclosed format letters text = not (has_end format (quotes_at (drop letters text)) (drop (letters + quotes_len (quotes_at (drop letters text))) text))
 
 -- the last of the first n bytes is a brace: a part of a format string ends where an expression begins
-abbrev pub ends_in_hole : ℕ → List ℕ → Bool
-ends_in_hole n text = slice_index text (n - 1) == 123
+abbrev pub ends_in_format_interpolation : ℕ → List ℕ → Bool
+ends_in_format_interpolation n text = slice_index text (n - 1) == 123

@@ -5,7 +5,7 @@ ghost use Rattle.just_lexer.specs.Modes as spec;
 
 use crate::quotes::Quotes;
 use crate::scan::bytes::first;
-use crate::scan::strings::{ends_in_hole, quotes_at};
+use crate::scan::strings::{ends_in_format_interpolation, quotes_at};
 use just_text::{Delimiter, TokenKind};
 use std::alloc::AllocFailed;
 
@@ -23,7 +23,7 @@ pub enum Open {
     /// An expression of a body line.
     Interpolation,
     /// An expression of a format string with these quotes, and whether a bracket is open around it.
-    Hole(Quotes, bool),
+    FormatInterpolation(Quotes, bool),
 }
 
 /// Where in a line, and in or outside a body, a place is.
@@ -68,21 +68,21 @@ pub fn in_brackets(inner: Option<Open>) -> bool
 {
     match inner {
         Some(Open::Bracket(_)) => true,
-        Some(Open::Hole(_, around)) => around,
+        Some(Open::FormatInterpolation(_, around)) => around,
         _ => false,
     }
 }
 
 /// Opens an expression behind a format string's start, unless the whole string is read.
-fn open_hole(opened: &mut Vec<Open>, lexeme: &str) -> Result<(), AllocFailed<Open>>
-    ensures { OnOk result (opened.new.items ≡ opened.old.items ++ spec.holes_of (spec.innermost opened.old.items) lexeme.now) }
+fn open_format_interpolation(opened: &mut Vec<Open>, lexeme: &str) -> Result<(), AllocFailed<Open>>
+    ensures { OnOk result (opened.new.items ≡ opened.old.items ++ spec.format_interpolations_of (spec.innermost opened.old.items) lexeme.now) }
 {
     let bytes = lexeme.as_bytes();
-    if !ends_in_hole(bytes.len(), bytes) {
+    if !ends_in_format_interpolation(bytes.len(), bytes) {
         return Ok(());
     }
     let around = in_brackets(innermost(opened));
-    opened.push(Open::Hole(quotes_at(&bytes[1..]), around))
+    opened.push(Open::FormatInterpolation(quotes_at(&bytes[1..]), around))
 }
 
 /// Opens and closes what a token does.
@@ -99,7 +99,7 @@ pub fn step_open(
         TokenKind::BracketL => opened.push(Open::Bracket(Delimiter::Bracket)),
         TokenKind::BraceL => opened.push(Open::Bracket(Delimiter::Brace)),
         TokenKind::InterpolationStart => opened.push(Open::Interpolation),
-        TokenKind::FormatStringStart => open_hole(opened, lexeme),
+        TokenKind::FormatStringStart => open_format_interpolation(opened, lexeme),
         TokenKind::ParenR
         | TokenKind::BracketR
         | TokenKind::BraceR

@@ -18,7 +18,7 @@ pub struct Compiler;
 /// The names that are not to be exported.
 fn unexported<'src>(
     alloc: Global,
-    definitions: &[Definition<'src>],
+    definitions: &[Definition<'src, '_>],
 ) -> Result<BTreeSet<&'src str>, AllocError> {
     let mut names = BTreeSet::new(alloc);
     for definition in definitions {
@@ -47,7 +47,7 @@ fn exports_at(files: &[File<'_>], place: Place) -> bool {
 }
 
 /// Whether this defines a variable that is exported by a word of its own.
-fn exports(files: &[File<'_>], definition: &Definition<'_>) -> bool {
+fn exports(files: &[File<'_>], definition: &Definition<'_, '_>) -> bool {
     definition.kind == Kind::Variable && exports_at(files, definition.place)
 }
 
@@ -55,12 +55,12 @@ fn exports(files: &[File<'_>], definition: &Definition<'_>) -> bool {
 fn check_exports<'src>(
     alloc: Global,
     files: &[File<'src>],
-    definitions: &[Definition<'src>],
+    definitions: &[Definition<'src, '_>],
 ) -> Result<(), Error<'src>> {
     let unexported = unexported(alloc, definitions)?;
     for definition in definitions {
         if exports(files, definition) && unexported.contains(definition.text) {
-            return Err(Error::ExportUnexported(definition.name));
+            return Err(Error::ExportUnexported(*definition.name));
         }
     }
     Ok(())
@@ -83,13 +83,13 @@ fn check_files<'src>(
 
 /// What the module keeps of its definitions, where they and its files, which are those of the range,
 /// break no rule.
-fn kept_of<'src>(
+fn kept_of<'src, 'a>(
     alloc: Global,
     files: &[File<'src>],
     range: FileRange,
-    definitions: &[Definition<'src>],
+    definitions: &[Definition<'src, 'a>],
     config: &Config,
-) -> Result<Vec<Definition<'src>>, Error<'src>> {
+) -> Result<Vec<Definition<'src, 'a>>, Error<'src>> {
     let truths = Truths::new(files, definitions, config.unstable);
     check_files(files, range, &truths, config.os)?;
     check_exports(alloc, files, definitions)?;
@@ -97,13 +97,13 @@ fn kept_of<'src>(
 }
 
 /// What the module at the place keeps; nothing where there is no module.
-fn kept_at<'src>(
+fn kept_at<'src, 'a>(
     alloc: Global,
-    files: &[File<'src>],
+    files: &'a [File<'src>],
     modules: &[ModuleNode<'src>],
     place: usize,
     config: &Config,
-) -> Result<Vec<Definition<'src>>, Error<'src>> {
+) -> Result<Vec<Definition<'src, 'a>>, Error<'src>> {
     if place >= modules.len() {
         return Ok(Vec::new(alloc));
     }

@@ -1,7 +1,7 @@
 //! What the files of a module define.
 
 use crate::files::FileRange;
-use just_compilation::{File, ModuleNode, Place};
+use just_compilation::{File, ModuleNode, Place, front};
 use just_sources::items_of;
 use justfile_syntax::{Item, Name, Os};
 use std::alloc::{AllocError, Global};
@@ -35,12 +35,14 @@ pub enum Kind {
 
 /// A definition in its order among all of a module: by space, by name, and in reading order.
 #[derive(Clone, Copy, PartialEq, Eq, PartialOrd, Ord)]
-pub struct Definition<'src> {
+pub struct Definition<'src, 'a> {
     pub space: Space,
+    /// The front of the name, which tells most names apart.
+    pub front: u64,
     pub text: &'src str,
     pub place: Place,
     pub kind: Kind,
-    pub name: Name<'src>,
+    pub name: &'a Name<'src>,
 }
 
 /// The space that names of a kind belong to.
@@ -55,11 +57,13 @@ fn space_of(kind: Kind) -> Space {
     }
 }
 
-impl<'src> Definition<'src> {
-    fn new(kind: Kind, name: Name<'src>, place: Place) -> Definition<'src> {
+impl<'src, 'a> Definition<'src, 'a> {
+    fn new(kind: Kind, name: &'a Name<'src>, place: Place) -> Definition<'src, 'a> {
+        let text = name.lexeme();
         Definition {
             space: space_of(kind),
-            text: name.lexeme(),
+            front: front(text),
+            text,
             place,
             kind,
             name,
@@ -67,39 +71,39 @@ impl<'src> Definition<'src> {
     }
 
     /// Whether both are of one name and one space.
-    pub fn is_of(&self, other: &Definition<'src>) -> bool {
-        self.space == other.space && self.text == other.text
+    pub fn is_of(&self, other: &Definition<'src, '_>) -> bool {
+        self.front == other.front && self.space == other.space && self.text == other.text
     }
 }
 
 /// A name and what it stands for.
 #[derive(Clone, Copy)]
-struct Named<'src> {
+struct Named<'src, 'a> {
     kind: Kind,
-    name: Name<'src>,
+    name: &'a Name<'src>,
 }
 
 /// What an item defines under this operating system, but for submodules.
-fn name_of<'src>(item: &Item<'src>, os: Os) -> Option<Named<'src>> {
+fn name_of<'src, 'a>(item: &'a Item<'src>, os: Os) -> Option<Named<'src, 'a>> {
     let (kind, name) = match item {
-        Item::Alias(alias) => (Kind::Alias, alias.name),
+        Item::Alias(alias) => (Kind::Alias, &alias.name),
         Item::Assignment(assignment) if assignment.attributes.is_enabled(os) => {
-            (Kind::Variable, assignment.name)
+            (Kind::Variable, &assignment.name)
         }
-        Item::Function(function) => (Kind::Function, function.name),
-        Item::Recipe(recipe) if recipe.attributes.is_enabled(os) => (Kind::Recipe, recipe.name),
-        Item::Recipe(recipe) => (Kind::Disabled, recipe.name),
-        Item::Set(set) if set.attributes.is_enabled(os) => (Kind::Set, set.name),
-        Item::Unexport(unexport) => (Kind::Unexport, unexport.name),
+        Item::Function(function) => (Kind::Function, &function.name),
+        Item::Recipe(recipe) if recipe.attributes.is_enabled(os) => (Kind::Recipe, &recipe.name),
+        Item::Recipe(recipe) => (Kind::Disabled, &recipe.name),
+        Item::Set(set) if set.attributes.is_enabled(os) => (Kind::Set, &set.name),
+        Item::Unexport(unexport) => (Kind::Unexport, &unexport.name),
         _ => return None,
     };
     Some(Named { kind, name })
 }
 
 /// Puts what the item at the place defines behind what was found.
-fn add_item<'src>(
-    found: &mut Vec<Definition<'src>>,
-    item: &Item<'src>,
+fn add_item<'src, 'a>(
+    found: &mut Vec<Definition<'src, 'a>>,
+    item: &'a Item<'src>,
     place: Place,
     os: Os,
 ) -> Result<(), AllocError> {
@@ -110,9 +114,9 @@ fn add_item<'src>(
 }
 
 /// Puts what the items of the file at the place define behind what was found.
-fn add_items<'src>(
-    found: &mut Vec<Definition<'src>>,
-    items: &[Item<'src>],
+fn add_items<'src, 'a>(
+    found: &mut Vec<Definition<'src, 'a>>,
+    items: &'a [Item<'src>],
     file: usize,
     os: Os,
 ) -> Result<(), AllocError> {
@@ -123,9 +127,9 @@ fn add_items<'src>(
 }
 
 /// Puts what the files of the range define behind what was found.
-fn add_files<'src>(
-    found: &mut Vec<Definition<'src>>,
-    files: &[File<'src>],
+fn add_files<'src, 'a>(
+    found: &mut Vec<Definition<'src, 'a>>,
+    files: &'a [File<'src>],
     range: FileRange,
     os: Os,
 ) -> Result<(), AllocError> {
@@ -137,25 +141,66 @@ fn add_files<'src>(
     Ok(())
 }
 
-/// The submodule at the place of all modules, if there is one.
-fn submodule<'src>(modules: &[ModuleNode<'src>], module: usize) -> Option<Definition<'src>> {
-    if module >= modules.len() {
-        return None;
-    }
-    match (modules[module].name, modules[module].item) {
-        (Some(name), Some(place)) => Some(Definition::new(Kind::Module(module), name, place)),
+/// The submodule at the place of all modules, if the item is its `mod` item.
+fn module_of<'src, 'a>(
+    item: &'a Item<'src>,
+    module: usize,
+    place: Place,
+) -> Option<Definition<'src, 'a>> {
+    match item {
+        Item::Module(item) => Some(Definition::new(Kind::Module(module), &item.name, place)),
         _ => None,
     }
 }
 
+/// The submodule at the place of all modules, if its `mod` item stands there among these.
+fn module_among<'src, 'a>(
+    items: &'a [Item<'src>],
+    module: usize,
+    place: Place,
+) -> Option<Definition<'src, 'a>> {
+    if place.item >= items.len() {
+        return None;
+    }
+    module_of(&items[place.item], module, place)
+}
+
+/// The submodule at the place of all modules, whose `mod` item stands there.
+fn module_in<'src, 'a>(
+    files: &'a [File<'src>],
+    module: usize,
+    place: Place,
+) -> Option<Definition<'src, 'a>> {
+    if place.file >= files.len() {
+        return None;
+    }
+    module_among(items_of(&files[place.file]), module, place)
+}
+
+/// The submodule at the place of all modules, if there is one.
+fn submodule<'src, 'a>(
+    files: &'a [File<'src>],
+    modules: &[ModuleNode<'src>],
+    module: usize,
+) -> Option<Definition<'src, 'a>> {
+    if module >= modules.len() {
+        return None;
+    }
+    match modules[module].item {
+        Some(place) => module_in(files, module, place),
+        None => None,
+    }
+}
+
 /// Puts the submodules at the places of all modules behind what was found.
-fn add_submodules<'src>(
-    found: &mut Vec<Definition<'src>>,
+fn add_submodules<'src, 'a>(
+    found: &mut Vec<Definition<'src, 'a>>,
+    files: &'a [File<'src>],
     modules: &[ModuleNode<'src>],
     submodules: &[usize],
 ) -> Result<(), AllocError> {
     for module in submodules {
-        if let Some(definition) = submodule(modules, *module) {
+        if let Some(definition) = submodule(files, modules, *module) {
             found.push(definition)?;
         }
     }
@@ -164,17 +209,17 @@ fn add_submodules<'src>(
 
 /// What the files of a module, which are those of the range, and its submodules, which stand at these places of all modules, define, in
 /// order. Refused only where memory is.
-pub fn definitions<'src>(
+pub fn definitions<'src, 'a>(
     alloc: Global,
-    files: &[File<'src>],
+    files: &'a [File<'src>],
     range: FileRange,
     modules: &[ModuleNode<'src>],
     submodules: &[usize],
     os: Os,
-) -> Result<Vec<Definition<'src>>, AllocError> {
+) -> Result<Vec<Definition<'src, 'a>>, AllocError> {
     let mut found = Vec::new(alloc);
     add_files(&mut found, files, range, os)?;
-    add_submodules(&mut found, modules, submodules)?;
+    add_submodules(&mut found, files, modules, submodules)?;
     found.sort()?;
     Ok(found)
 }

@@ -2,17 +2,18 @@
 
 use crate::definition::{Definition, Kind};
 use crate::truths::Truths;
-use just_compilation::{Error, ModuleNode, Place};
+use just_compilation::{Error, ModuleNode, Place, RecipeName};
 use justfile_syntax::Name;
 use std::alloc::{AllocError, Global};
 
 /// The refusal of a second definition of a name.
-fn duplicate<'src>(second: &Definition<'src>) -> Error<'src> {
+fn duplicate<'src>(second: &Definition<'src, '_>) -> Error<'src> {
+    let name = *second.name;
     match second.kind {
-        Kind::Set => Error::DuplicateSet(second.name),
-        Kind::Unexport => Error::DuplicateUnexport(second.name),
-        Kind::Variable => Error::DuplicateVariable(second.name),
-        _ => Error::Redefinition(second.name),
+        Kind::Set => Error::DuplicateSet(name),
+        Kind::Unexport => Error::DuplicateUnexport(name),
+        Kind::Variable => Error::DuplicateVariable(name),
+        _ => Error::Redefinition(name),
     }
 }
 
@@ -29,11 +30,11 @@ fn may_stand_beside(first: Kind, second: Kind, truths: &Truths) -> bool {
 /// order: that of the earlier file, and within a file the later one.
 ///
 /// Refused where there may be one alone.
-fn kept_of<'src>(
-    first: Definition<'src>,
-    second: Definition<'src>,
+fn kept_of<'src, 'a>(
+    first: Definition<'src, 'a>,
+    second: Definition<'src, 'a>,
     truths: &Truths,
-) -> Result<Definition<'src>, Error<'src>> {
+) -> Result<Definition<'src, 'a>, Error<'src>> {
     if !may_stand_beside(first.kind, second.kind, truths) {
         return Err(duplicate(&second));
     }
@@ -46,11 +47,11 @@ fn kept_of<'src>(
 
 /// What is kept in place of the last definition and the next one, where the next one is of the same
 /// name; none where both are kept, as disabled recipes are.
-fn merged<'src>(
-    last: Option<&Definition<'src>>,
-    next: &Definition<'src>,
+fn merged<'src, 'a>(
+    last: Option<&Definition<'src, 'a>>,
+    next: &Definition<'src, 'a>,
     truths: &Truths,
-) -> Result<Option<Definition<'src>>, Error<'src>> {
+) -> Result<Option<Definition<'src, 'a>>, Error<'src>> {
     match last {
         Some(last) if last.is_of(next) && next.kind != Kind::Disabled => {
             Ok(Some(kept_of(*last, *next, truths)?))
@@ -63,12 +64,12 @@ fn merged<'src>(
 ///
 /// Refused as `DuplicateSet`, `DuplicateUnexport`, `DuplicateVariable` or `Redefinition` where a
 /// name has two definitions and the settings don't allow it, and where memory is.
-pub fn kept<'src>(
+pub fn kept<'src, 'a>(
     alloc: Global,
-    definitions: &[Definition<'src>],
+    definitions: &[Definition<'src, 'a>],
     truths: &Truths,
-) -> Result<Vec<Definition<'src>>, Error<'src>> {
-    let mut kept: Vec<Definition<'src>> = Vec::with_capacity(alloc, definitions.len())?;
+) -> Result<Vec<Definition<'src, 'a>>, Error<'src>> {
+    let mut kept: Vec<Definition<'src, 'a>> = Vec::with_capacity(alloc, definitions.len())?;
     for next in definitions {
         let mut kept_one = *next;
         if let Some(one) = merged(kept.last(), next, truths)? {
@@ -98,16 +99,26 @@ fn add_name<'src>(list: &mut Vec<Name<'src>>, name: Name<'src>) -> Result<(), Al
     Ok(())
 }
 
+/// Notes the recipe behind the others.
+fn add_recipe(node: &mut ModuleNode, front: u64, place: Place) -> Result<(), AllocError> {
+    node.recipes.push(place)?;
+    node.recipe_names.push(RecipeName { front, place })?;
+    Ok(())
+}
+
 /// Puts the definition into the module's list for its kind.
-fn put<'src>(node: &mut ModuleNode<'src>, definition: &Definition<'src>) -> Result<(), AllocError> {
+fn put<'src>(
+    node: &mut ModuleNode<'src>,
+    definition: &Definition<'src, '_>,
+) -> Result<(), AllocError> {
     match definition.kind {
         Kind::Alias => add(&mut node.aliases, definition.place),
         Kind::Disabled => add(&mut node.disabled, definition.place),
         Kind::Function => add(&mut node.functions, definition.place),
         Kind::Module(module) => add_module(&mut node.submodules, module),
-        Kind::Recipe => add(&mut node.recipes, definition.place),
+        Kind::Recipe => add_recipe(node, definition.front, definition.place),
         Kind::Set => add(&mut node.sets, definition.place),
-        Kind::Unexport => add_name(&mut node.unexports, definition.name),
+        Kind::Unexport => add_name(&mut node.unexports, *definition.name),
         Kind::Variable => add(&mut node.assignments, definition.place),
     }
 }
@@ -115,7 +126,7 @@ fn put<'src>(node: &mut ModuleNode<'src>, definition: &Definition<'src>) -> Resu
 /// Puts the definitions that are kept into the module's lists.
 pub fn put_all<'src>(
     node: &mut ModuleNode<'src>,
-    kept: &[Definition<'src>],
+    kept: &[Definition<'src, '_>],
 ) -> Result<(), AllocError> {
     node.submodules.clear();
     for definition in kept {

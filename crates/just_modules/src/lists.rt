@@ -59,7 +59,7 @@ pub fn in_expression<'src>(expression: &Expression<'src>) -> Option<ListUse<'src
         Expression::Join { lhs, rhs, .. } => either(in_optional(lhs), in_expression(rhs)),
         Expression::Group { contents } => in_expression(contents),
         Expression::Call { arguments, .. } => in_row(arguments),
-        Expression::FormatString { expressions, .. } => in_holes(expressions),
+        Expression::FormatString { expressions, .. } => in_interpolations(expressions),
         Expression::Backtick { .. }
         | Expression::StringLiteral { .. }
         | Expression::Variable { .. } => None,
@@ -101,9 +101,9 @@ fn in_row<'src>(expressions: &[Expression<'src>]) -> Option<ListUse<'src>> {
     None
 }
 
-/// The first use in the holes of a format string.
+/// The first use in the interpolations of a format string.
 #[cycle(list_use)]
-fn in_holes<'src>(
+fn in_interpolations<'src>(
     expressions: &[(Expression<'src>, StringLiteral<'src>)],
 ) -> Option<ListUse<'src>> {
     for (expression, _) in expressions {

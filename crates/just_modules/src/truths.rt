@@ -61,7 +61,7 @@ impl Truths {
     /// What the settings among the definitions say; `unstable` holds also without a setting.
     pub fn new<'src>(
         files: &[File<'src>],
-        definitions: &[Definition<'src>],
+        definitions: &[Definition<'src, '_>],
         unstable: bool,
     ) -> Truths {
         let mut truths = Truths {

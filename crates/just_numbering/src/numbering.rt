@@ -2,10 +2,9 @@
 use just_attribute_tree::{Interpreter, Setting};
 use just_expression_tree::Expression;
 use just_tree::{
-    Fragment, FunctionDefinition, FunctionParameter, Item, Line, Parameter, Recipe, Set,
-    UnresolvedDependency,
+    ExpressionContext, Fragment, FunctionDefinition, FunctionParameter, Item, Line, Parameter,
+    Recipe, Set, UnresolvedDependency, resolve_attributes, resolve_variables,
 };
-use just_variables::{ExpressionContext, resolve_attributes, resolve_variables};
 use std::alloc::{AllocError, Global};
 
 /// What an expression sees: the names of its parameters, and those of its module.

@@ -2,8 +2,8 @@
 use Rattle.std.proofs.Common.{◌≡◌, ℕ, ◌+◌, ◌<◌, ◌≤◌, ◌∷◌, false, length, map, drop, get_or, List, Option, Some, None, Err, sym, ◌∙◌, ap, subst}
 use Rattle.std.proofs.lemmas.List.{drop_more}
 use Rattle.std.proofs.Math.ListN.{drop_of_length-le}
-use Rattle.just_plain.specs.declared.ast.Line.{Line}
-use Rattle.just_plain.specs.Shape.{line_text}
+use Rattle.justfile_syntax.specs.declared.plain_files.ast.Line.{Line}
+use Rattle.justfile_syntax.specs.PlainShapes.{line_text}
 use Rattle.just_plain_run.specs.Setup.{Setup}
 use Rattle.just_host.specs.Record.{Record}
 use Rattle.just_plain_run.specs.Goes.{Failure, LineGoes, Lines, all_went, went, failed}

@@ -5,7 +5,7 @@ use Rattle.std.specs.List.{list_any}
 use Rattle.just_text.specs.declared.compile_error.CompileError.{CompileError}
 use Rattle.just_text.specs.declared.compile_error.CompileErrorKind.{CompileErrorKind}
 use Rattle.just_text.specs.declared.compile_error.CompileErrorKind.TheVariants.{OutOfMemory, NumbersUsed, UnknownStartOfToken, UnpairedCarriageReturn, MixedLeadingWhitespace, InconsistentLeadingWhitespace, ExtraLeadingWhitespace, UnexpectedToken, UnexpectedCharacter, UnterminatedString, UnterminatedBacktick, UnterminatedInterpolation, InvalidEscapeSequence, MismatchedClosingDelimiter, UnexpectedClosingDelimiter, ShellExpansion, ParsingRecursionDepthExceeded, BacktickShebang, UnknownSetting, UnknownAttribute, AttributeArgumentCount, InvalidAttribute, DuplicateAttribute, DuplicateParameter, ParameterFollowsVariadic, RequiredParameterFollowsDefault, MinimumVersion, GuardAndInfallible, TwoStars, InvalidSetting}
-use Rattle.just_plain.specs.Shape.{RecipeShape}
+use Rattle.justfile_syntax.specs.PlainShapes.{RecipeShape}
 use Rattle.just_plain_run.specs.Recipes.{IsRedefined, IsUnknownDependency, IsCircle}
 use Rattle.just_plain_run.specs.Inputs.{Inputs}
 use Rattle.just_plain_run.specs.Rules.{Rule, no_root_for_word, missing_root, syntax, not_yet, redefinition, unknown_dependency, circular_recipe, unknown_override, unknown_recipe, unknown_module, no_recipes, has_extra, IsRefusedFor, Broken, is_of_words}

@@ -3,8 +3,8 @@ use Rattle.std.proofs.Common.{inr, None, ◌≡◌, ℕ, true, false, List, Opti
 use Rattle.just_text.specs.declared.compile_error.CompileError.{CompileError}
 use Rattle.just_text.specs.declared.compile_error.CompileErrorKind.{CompileErrorKind}
 use Rattle.just_text.specs.declared.compile_error.CompileErrorKind.TheVariants as kinds
-use Rattle.just_plain.specs.Shape.{RecipeShape}
-use Rattle.just_plain.specs.Plain.{plain_of}
+use Rattle.justfile_syntax.specs.PlainShapes.{RecipeShape}
+use Rattle.justfile_syntax.specs.Plain.{plain_of}
 use Rattle.just_tree.specs.Files.{ItemShape}
 use Rattle.just_grammar.specs.Laws.{FaultsSayNothing, SaysAtMostOne}
 use Rattle.just_grammar.specs.Reads.{Reads, IsSyntaxFault, IsRefusal}

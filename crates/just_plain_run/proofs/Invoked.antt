@@ -7,8 +7,8 @@ use Rattle.std.proofs.lemmas.List.{take_more}
 use Rattle.std.proofs.lemmas.Option.{slice_get_within}
 use Rattle.std.proofs.lemmas.Slice.Eq.{bytes_eq-Decides}
 use Rattle.std.specs.Str.{bytes_eq}
-use Rattle.just_plain.specs.declared.ast.Recipe.{Recipe}
-use Rattle.just_plain.specs.Shape.{RecipeShape, recipe_shape, name_text}
+use Rattle.justfile_syntax.specs.declared.plain_files.ast.Recipe.{Recipe}
+use Rattle.justfile_syntax.specs.PlainShapes.{RecipeShape, recipe_shape, name_text}
 use Rattle.just_plain_run.specs.Recipes.{recipe_named}
 use Rattle.just_plain_run.specs.Order.{PlannedShape, name_at, name_or_empty, IsOrder}
 use Rattle.just_plain_run.specs.Inputs.{Inputs, Says, invoked}

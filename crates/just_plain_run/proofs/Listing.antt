@@ -4,11 +4,12 @@ use Rattle.std.specs.Prelude.{slice_get, Contains}
 use Rattle.std.proofs.lemmas.Bool.{cases_lt}
 use Rattle.std.proofs.lemmas.Option.{none-some, same_Some, slice_get_within, get_or_from_slice_get}
 use Rattle.std.proofs.lemmas.List.{length-map, length-take, get_or-map, get_or-take}
-use Rattle.just_plain.specs.Shape.{RecipeShape}
+use Rattle.justfile_syntax.specs.PlainShapes.{RecipeShape}
 use Rattle.just_plain_run.specs.Recipes.{recipe_named, IsRedefined, IsUnknownDependency}
 use Rattle.just_plain_run.specs.Names.{IsSet, AreListed, AreNamed, AreUnique}
 use Rattle.just_plain_run.proofs.Naming.{set_cases}
-use Rattle.just_plain_run.proofs.Places.{option_cases, split_at, contains_at, named}
+use Rattle.just_plain_run.proofs.Places.{split_at, named}
+use Rattle.just_order.proofs.Places.{option_cases, contains_at}
 
 pub listed_none : (rs : List RecipeShape) (places : List ℕ → Option ℕ) → ((name : List ℕ) → places name ≡ None) → AreListed rs 0 places
 listed_none rs places h = record {

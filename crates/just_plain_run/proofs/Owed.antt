@@ -1,6 +1,6 @@
 -- What a stack still owes, and one turn of the loop for each way that it goes.
 use Rattle.std.proofs.Common.{◌≡◌, ℕ, ◌++◌, ◌∷◌, [], true, false, List, Option, Some, None}
-use Rattle.just_plain.specs.Shape.{RecipeShape}
+use Rattle.justfile_syntax.specs.PlainShapes.{RecipeShape}
 use Rattle.just_plain_run.specs.Recipes.{recipe_named}
 use Rattle.just_plain_run.specs.Setup.{Setup}
 use Rattle.just_plain_run.specs.Goes.{Failure, Lines, Goes, over, again, entered, prior_failed, body_failed, is_done, priors_of}

@@ -5,13 +5,10 @@ use Rattle.std.specs.Str.{bytes_eq}
 use Rattle.std.proofs.lemmas.Option.{none-some, same_Some, slice_get-map, slice_get_within, slice_get-get_or, slice_get_read, get_or_from_slice_get}
 use Rattle.std.proofs.lemmas.List.{take-append-drop, drop_more}
 use Rattle.std.proofs.lemmas.Slice.Eq.{bytes_eq-Decides}
-use Rattle.just_plain.specs.Shape.{RecipeShape}
+use Rattle.justfile_syntax.specs.PlainShapes.{RecipeShape}
 use Rattle.just_plain_run.specs.Recipes.{recipe_named, IsRedefined}
 use Rattle.just_plain_run.specs.Names.{AreUnique}
-
-pub option_cases : {X : Type 0} (o : Option X) → (o ≡ None) ⊎ ((x : X) × (o ≡ Some x))
-option_cases None = inl refl
-option_cases (Some x) = inr (x, refl)
+use Rattle.just_order.proofs.Places.{option_cases, push_left, push_here, place_of}
 
 pub none_from_test : {X : Type 0} (o : Option X) → is_some o ≡ false → o ≡ None
 none_from_test None e = refl
@@ -31,36 +28,12 @@ bool_cases false = inr refl
 pub get_viewed : {X Y : Type 0} (f : X → Y) (xs : List X) (i : ℕ) (x : X) → i < length xs → x ≡ get_or xs i x → slice_get (map f xs) i ≡ Some (f x)
 get_viewed f xs i x h is = slice_get-map f xs i ∙ ap (option_map f) (slice_get_read xs (length xs) i x refl h is)
 
-pub push_cases : {X : Type 0} (xs : List X) (x : X) (k : ℕ) (y : X) → slice_get (xs ++ x ∷ []) k ≡ Some y → ((k < length xs) × (slice_get xs k ≡ Some y)) ⊎ ((k ≡ length xs) × (x ≡ y))
-push_cases [] x zero y e = inr (refl, same_Some x y e)
-push_cases [] x (suc k) y e = absurd (none-some y e)
-push_cases (z ∷ zs) x zero y e = inl (omega arith, e)
-push_cases (z ∷ zs) x (suc k) y e = elim (push_cases zs x k y e) [
-  | inl p ↦ let h = p.0 in inl (omega arith, p.1)
-  | inr p ↦ inr (ap suc p.0, p.1)
-]
-
-pub push_left : {X : Type 0} (xs ys : List X) (k : ℕ) (y : X) → slice_get xs k ≡ Some y → slice_get (xs ++ ys) k ≡ Some y
-push_left [] ys k y e = absurd (none-some y e)
-push_left (z ∷ zs) ys zero y e = e
-push_left (z ∷ zs) ys (suc k) y e = push_left zs ys k y e
-
-pub push_here : {X : Type 0} (xs : List X) (x : X) (ys : List X) → slice_get (xs ++ x ∷ ys) (length xs) ≡ Some x
-push_here [] x ys = refl
-push_here (z ∷ zs) x ys = push_here zs x ys
-
 pub some_at : {X : Type 0} (xs : List X) (k : ℕ) → k < length xs → (x : X) × (slice_get xs k ≡ Some x)
 some_at [] k lt = absurd (omega arith)
 some_at (x ∷ xs) zero lt = (x, refl)
 some_at (x ∷ xs) (suc k) lt = some_at xs k (omega arith)
 
 -- ---- what is contained stands at some place
-
-pub contains_at : {X : Type 0} (xs : List X) (k : ℕ) (x : X) → slice_get xs k ≡ Some x → Contains xs x
-contains_at xs k x e = (k, slice_get_within xs k x e, get_or_from_slice_get xs k x x e)
-
-pub place_of : {X : Type 0} (xs : List X) (x : X) → Contains xs x → (k : ℕ) × (slice_get xs k ≡ Some x)
-place_of xs x h = (h.0, slice_get-get_or xs h.0 x h.1 ∙ ap (λ y. Some y) h.2)
 
 option_map_some : {X Y : Type 0} (f : X → Y) (o : Option X) (y : Y) → option_map f o ≡ Some y → (x : X) × (o ≡ Some x) × (f x ≡ y)
 option_map_some f None y e = absurd (none-some y e)

@@ -6,8 +6,8 @@ use Rattle.std.specs.Global.{Vec}
 use Rattle.std.proofs.lemmas.Option.{none-some, same_Some, slice_get-map, slice_get_within}
 use Rattle.std.proofs.lemmas.List.{length-map, length_push, map_push}
 use Rattle.std.proofs.lemmas.List.Elements.{All-from_recursion, recursion_from_All, All-push, All-contains}
-use Rattle.just_plain.specs.Shape.{RecipeShape, recipe_shape}
-use Rattle.just_plain.specs.declared.ast.Recipe.{Recipe}
+use Rattle.justfile_syntax.specs.PlainShapes.{RecipeShape, recipe_shape}
+use Rattle.justfile_syntax.specs.declared.plain_files.ast.Recipe.{Recipe}
 use Rattle.just_order.specs.Needs as places
 use Rattle.just_order.specs.Needs.{Needs}
 use Rattle.just_order.specs.Order as order_of
@@ -16,7 +16,8 @@ use Rattle.just_plain_run.specs.Recipes.{recipe_named, DependsOn, Walks, IsCircl
 use Rattle.just_plain_run.specs.Order.{PlannedShape, IsOrder, name_at, name_or_empty}
 use Rattle.just_plain_run.specs.Names.{AreNamed, AreUnique}
 use Rattle.just_plain_run.specs.Plan.{name_in, named_or_empty, AreAt, AreNeeds, AreRanks, IsPlanned, ArePlanned, IsPlan, rank_at, ArePlaced}
-use Rattle.just_plain_run.proofs.Places.{option_cases, some_at, get_viewed, push_cases, contains_at, place_of, named, named_at}
+use Rattle.just_plain_run.proofs.Places.{some_at, get_viewed, named, named_at}
+use Rattle.just_order.proofs.Places.{option_cases, push_cases, contains_at, place_of}
 
 -- ---- what recipes depend on, by places
 

@@ -3,11 +3,12 @@ use Rattle.std.proofs.Common.{◌≡◌, sym, ◌∙◌, ap, subst, List, [], �
 use Rattle.std.specs.Prelude.{slice_get, Contains}
 use Rattle.std.proofs.lemmas.Option.{none-some, same_Some, slice_get_within, slice_get-get_or}
 use Rattle.std.proofs.lemmas.List.Elements.{All-contains}
-use Rattle.just_plain.specs.Shape.{RecipeShape}
+use Rattle.justfile_syntax.specs.PlainShapes.{RecipeShape}
 use Rattle.just_plain_run.specs.Recipes.{recipe_named, Walks, IsUnknownDependency, IsCircle}
 use Rattle.just_plain_run.specs.Order.{PlannedShape, IsOrder, name_at, name_or_empty}
 use Rattle.just_plain_run.specs.Names.{AreUnique}
-use Rattle.just_plain_run.proofs.Places.{contains_at, place_of, place_of_image, named, named_at}
+use Rattle.just_plain_run.proofs.Places.{place_of_image, named, named_at}
+use Rattle.just_order.proofs.Places.{contains_at, place_of}
 
 -- ---- a dependency stands earlier
 

@@ -8,7 +8,7 @@ use Rattle.std.proofs.lemmas.Grind.{get_or-set_at}
 use Rattle.std.proofs.lemmas.List.Folds.{list_any-append}
 use Rattle.std.proofs.lemmas.Option.{slice_get_cases}
 use Rattle.std.proofs.lemmas.Slice.Eq.{bytes_eq-Decides}
-use Rattle.just_plain.specs.Shape.{RecipeShape}
+use Rattle.justfile_syntax.specs.PlainShapes.{RecipeShape}
 use Rattle.just_plain_run.specs.Recipes.{recipe_named}
 use Rattle.just_plain_run.specs.Setup.{Setup}
 use Rattle.just_plain_run.specs.Order.{PlannedShape, name_at, name_or_empty, IsOrder}

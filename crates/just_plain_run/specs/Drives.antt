@@ -1,6 +1,6 @@
 -- What a call answers.
 use Rattle.std.specs.Prelude.{◌≡◌, List, true, false, Option, Some, None, Result, Ok, Err, map}
-use Rattle.just_plain.specs.Shape.{RecipeShape, name_text}
+use Rattle.justfile_syntax.specs.PlainShapes.{RecipeShape, name_text}
 use Rattle.just_text.specs.declared.compile_error.CompileErrorKind.{CompileErrorKind}
 use Rattle.just_text.specs.declared.compile_error.CompileErrorKind.TheVariants.{NumbersUsed}
 use Rattle.just_host.specs.Record.{Record}

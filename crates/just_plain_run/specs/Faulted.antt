@@ -9,7 +9,7 @@ use Rattle.just_text.specs.declared.name.Name.{Name}
 use Rattle.just_text.specs.declared.compile_error.CompileErrorKind.{CompileErrorKind}
 use Rattle.just_text.specs.declared.compile_error.CompileErrorKind.TheVariants as kinds
 use Rattle.just_text.specs.declared.compile_error.CompileError.{CompileError}
-use Rattle.just_plain.specs.Shape.{name_text}
+use Rattle.justfile_syntax.specs.PlainShapes.{name_text}
 use Rattle.just_plain_run.specs.declared.fault.Fault.{Fault}
 use Rattle.just_plain_run.specs.declared.fault.Fault.TheVariants.{OutOfMemory, NoRootForWord, MissingRoot, Syntax, NotYet, Redefinition, UnknownDependency, CircularRecipe, UnknownOverride, UnknownRecipe, UnknownModule, NoRecipes, Code, Signal, CouldNotStart}
 use Rattle.just_plain_run.specs.declared.order.OrderFault.{OrderFault}

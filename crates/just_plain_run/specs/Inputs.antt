@@ -6,8 +6,8 @@ use Rattle.std.specs.String.{string_bytes}
 use Rattle.std.specs.Ordering.{nat_cmp}
 use Rattle.std.specs.Cmp.Lexicographic.{slice_cmp}
 use Rattle.std.specs.BTreeMap.{BTreeMap, get_by, get_by_text}
-use Rattle.just_plain.specs.Shape.{RecipeShape}
-use Rattle.just_plain.specs.Plain.{plain_of}
+use Rattle.justfile_syntax.specs.PlainShapes.{RecipeShape}
+use Rattle.justfile_syntax.specs.Plain.{plain_of}
 use Rattle.just_tree.specs.Files.{ItemShape}
 use Rattle.just_expressions.specs.Literals.{Expansion}
 use Rattle.just_grammar.specs.Reads.{Reads}

@@ -1,6 +1,6 @@
 -- What a word names.
 use Rattle.std.specs.Prelude.{◌≡◌, ◌<◌, ℕ, List, [], ◌∷◌, length, slice_get, Some, Contains}
-use Rattle.just_plain.specs.Shape.{RecipeShape}
+use Rattle.justfile_syntax.specs.PlainShapes.{RecipeShape}
 use Rattle.just_plain_run.specs.Order.{PlannedShape, name_at}
 use Rattle.just_plain_run.specs.Rules.{unknown_recipe, unknown_module, HasPath}
 use Rattle.just_plain_run.specs.Drives.{Verdict, ran_out, breaks}

@@ -3,7 +3,7 @@ use Rattle.std.specs.Prelude.{◌≡◌, ◌<◌, ℕ, List, Option, Some, lengt
 use Rattle.std.specs.Ordering.{nat_cmp}
 use Rattle.std.specs.Cmp.Lexicographic.{slice_cmp}
 use Rattle.std.specs.BTreeMap.{get_by}
-use Rattle.just_plain.specs.Shape.{RecipeShape}
+use Rattle.justfile_syntax.specs.PlainShapes.{RecipeShape}
 use Rattle.just_plain_run.specs.declared.names.Names.{Names}
 
 -- the place of a name

@@ -1,7 +1,7 @@
 -- Orders of recipes in which each dependency comes earlier.
 use Rattle.std.specs.Prelude.{◌≡◌, ◌<◌, ℕ, List, [], Option, Some, None, map, slice_get}
 use Rattle.std.specs.List.{All}
-use Rattle.just_plain.specs.Shape.{RecipeShape, recipe_shape, name_text}
+use Rattle.justfile_syntax.specs.PlainShapes.{RecipeShape, recipe_shape, name_text}
 use Rattle.just_plain_run.specs.Recipes.{recipe_named, IsRedefined, IsUnknownDependency, IsCircle}
 use Rattle.just_plain_run.specs.declared.order.Planned.{Planned}
 use Rattle.just_plain_run.specs.declared.order.OrderFault.{OrderFault}

@@ -1,7 +1,7 @@
 -- Recipes by their places in the file, and their ranks: their places in an order.
 use Rattle.std.specs.Prelude.{◌≡◌, ◌<◌, ℕ, List, [], Option, Some, None, map, slice_get, length}
 use Rattle.std.specs.List.{All}
-use Rattle.just_plain.specs.Shape.{RecipeShape}
+use Rattle.justfile_syntax.specs.PlainShapes.{RecipeShape}
 use Rattle.just_plain_run.specs.Order.{PlannedShape, IsOrder}
 
 abbrev pub named_or_empty : Option RecipeShape → List ℕ

@@ -1,6 +1,6 @@
 -- How a run ended.
 use Rattle.std.specs.Prelude.{◌≡◌, false, Option, Some, None, Result, Ok, Err}
-use Rattle.just_plain.specs.Shape.{name_text}
+use Rattle.justfile_syntax.specs.PlainShapes.{name_text}
 use Rattle.just_host.specs.Record.{Record}
 use Rattle.just_plain_run.specs.Goes.{Failure, by_code, by_signal, not_started}
 use Rattle.just_plain_run.specs.declared.run.RunFault.{RunFault}

@@ -1,7 +1,7 @@
 -- Recipes by name, and what one depends on.
 use Rattle.std.specs.Prelude.{◌≡◌, ◌<◌, ◌-◌, ℕ, List, [], ◌∷◌, ◌++◌, Option, Some, None, find, map, length, slice_get, Contains}
 use Rattle.std.specs.Str.{bytes_eq}
-use Rattle.just_plain.specs.Shape.{RecipeShape}
+use Rattle.justfile_syntax.specs.PlainShapes.{RecipeShape}
 
 -- the recipe of a name
 abbrev pub recipe_named : List RecipeShape → List ℕ → Option RecipeShape

@@ -1,6 +1,6 @@
 -- Where there is no root file.
 use Rattle.std.specs.Prelude.{◌≡◌, ℕ, List, [], Option, None, unwrap_or}
-use Rattle.just_plain.specs.Shape.{RecipeShape}
+use Rattle.justfile_syntax.specs.PlainShapes.{RecipeShape}
 use Rattle.just_plain_run.specs.Rules as rules
 use Rattle.just_plain_run.specs.Drives.{Verdict, ran_out, breaks}
 

@@ -1,7 +1,7 @@
 -- What is known behind each stage of a call.
 use Rattle.std.specs.Prelude.{◌≡◌, ℕ, List, true, false, Option, Some, None}
 use Rattle.just_text.specs.declared.compile_error.CompileErrorKind.{CompileErrorKind}
-use Rattle.just_plain.specs.Shape.{RecipeShape}
+use Rattle.justfile_syntax.specs.PlainShapes.{RecipeShape}
 use Rattle.just_grammar.specs.Reads.{IsSyntaxFault}
 use Rattle.just_plain_run.specs.Inputs.{Inputs, IsNotPlain, Says}
 use Rattle.just_plain_run.specs.Rules.{Rule, Broken, not_yet, is_of_words}

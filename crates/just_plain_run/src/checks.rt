@@ -2,7 +2,7 @@
 ghost use Rattle.std.specs.Prelude.{◌≡◌, true, false, List, [], IfErr, IfOk, OnOk, map, take};
 ghost use Rattle.std.specs.List.{list_any};
 ghost use Rattle.just_text.specs.declared.compile_error.CompileErrorKind.TheVariants.{ExtraLeadingWhitespace};
-ghost use Rattle.just_plain.specs.Shape.{RecipeShape, recipe_shape, line_text};
+ghost use Rattle.justfile_syntax.specs.PlainShapes.{RecipeShape, recipe_shape, line_text};
 ghost use Rattle.just_plain_run.specs.Order.{IsOrder};
 ghost use Rattle.just_plain_run.specs.Inputs.{Inputs};
 ghost use Rattle.just_plain_run.specs.Rules.{is_extra, has_extra};
@@ -12,8 +12,8 @@ ghost use Rattle.just_plain_run.specs.Checks.{IsUnwanted};
 
 use crate::fault::Fault;
 use crate::order::Order;
-use just_plain::{Line, Recipe};
 use just_value::{Override, Positional};
+use justfile_syntax::plain_files::{Line, Recipe};
 use justfile_syntax::{CompileError, CompileErrorKind};
 use std::alloc::Global;
 

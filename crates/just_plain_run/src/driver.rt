@@ -1,6 +1,6 @@
 //! The whole: from words to a run.
 ghost use Rattle.std.specs.Prelude.{◌≡◌, ◌++◌, List, ℕ, IfErr, IfOk, OnOk, OnErr, map, IfSome};
-ghost use Rattle.just_plain.specs.Shape.{RecipeShape, shape_of};
+ghost use Rattle.justfile_syntax.specs.PlainShapes.{RecipeShape, shape_of};
 ghost use Rattle.just_plain_run.specs.Inputs.{Inputs, inputs_of, reader_of};
 ghost use Rattle.just_plain_run.specs.Rules.{Rule, Broken};
 ghost use Rattle.just_plain_run.specs.Drives.{verdict, NamesBroken, IsRefusal, RunsOf, IfRun};
@@ -17,9 +17,9 @@ use crate::output::Out;
 use crate::root::read_plain;
 use crate::run::run;
 use just_host::{Config, Recorded, RunHost};
-use just_plain::Ast;
 use just_value::Positional;
 use justfile_syntax::Expander;
+use justfile_syntax::plain_files::Ast;
 use std::alloc::Global;
 use std::collections::BTreeMap;
 

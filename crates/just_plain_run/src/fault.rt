@@ -82,7 +82,7 @@ struct TickedNames<'a, 'src>(&'a [Name<'src>]);
 
 impl fmt::Display for TickedNames<'_, '_> {
     ghost use Rattle.std.specs.Prelude.{map};
-    ghost use Rattle.just_plain.specs.Shape.{name_text};
+    ghost use Rattle.justfile_syntax.specs.PlainShapes.{name_text};
     ghost use Rattle.just_text.specs.Fields.{ticked_list};
 
     ghost output = { λ t. Some (ticked_list (map name_text t.0.now)) };

@@ -1,7 +1,7 @@
 //! Which recipes the words name.
 ghost use Rattle.std.specs.Prelude.{◌≡◌, ◌<◌, ℕ, List, [], IfErr, IfOk, OnOk, map, length};
 ghost use Rattle.std.specs.List.{All};
-ghost use Rattle.just_plain.specs.Shape.{RecipeShape, recipe_shape};
+ghost use Rattle.justfile_syntax.specs.PlainShapes.{RecipeShape, recipe_shape};
 ghost use Rattle.just_plain_run.specs.Order.{IsOrder, name_at};
 ghost use Rattle.just_plain_run.specs.Inputs.{Inputs, invoked};
 ghost use Rattle.just_plain_run.specs.Drives.{verdict, breaks};
@@ -11,8 +11,8 @@ ghost use Rattle.just_plain_run.specs.Invocations.{IsPlaceOf, IsBadWord, IsFirst
 
 use crate::fault::Fault;
 use crate::order::Order;
-use just_plain::Recipe;
 use justfile_syntax::Text;
+use justfile_syntax::plain_files::Recipe;
 use std::alloc::Global;
 
 /// The place of the recipe that a word names.

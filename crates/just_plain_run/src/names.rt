@@ -1,11 +1,11 @@
 //! Places of recipes in their file, by name.
 ghost use Rattle.std.specs.Prelude.{◌≡◌, IfErr, IfOk, List, None, OnOk, map, ℕ};
-ghost use Rattle.just_plain.specs.Shape.{recipe_shape};
+ghost use Rattle.justfile_syntax.specs.PlainShapes.{recipe_shape};
 ghost use Rattle.just_plain_run.specs.Order.{IsBrokenOrder};
 ghost use Rattle.just_plain_run.specs.Names.{AreNamed, IsSet, place_named};
 
 use crate::order::OrderFault;
-use just_plain::Recipe;
+use justfile_syntax::plain_files::Recipe;
 use std::alloc::{AllocError, Global};
 use std::collections::BTreeMap;
 

@@ -1,6 +1,6 @@
 //! What recipes depend on, by places in their file.
 ghost use Rattle.std.specs.Prelude.{◌≡◌, ◌<◌, IfErr, IfOk, Some, length, map, slice_get};
-ghost use Rattle.just_plain.specs.Shape.{RecipeShape, recipe_shape};
+ghost use Rattle.justfile_syntax.specs.PlainShapes.{RecipeShape, recipe_shape};
 ghost use Rattle.just_order.specs.Needs.{rows};
 ghost use Rattle.just_plain_run.specs.Order.{IsBrokenOrder};
 ghost use Rattle.just_plain_run.specs.Names.{AreNamed, place_named};
@@ -8,7 +8,7 @@ ghost use Rattle.just_plain_run.specs.Plan.{AreAt, AreNeeds};
 
 use crate::names::Names;
 use crate::order::OrderFault;
-use just_plain::Recipe;
+use justfile_syntax::plain_files::Recipe;
 use std::alloc::Global;
 
 /// The places of what the recipe at this place depends on. Refused where a dependency names no

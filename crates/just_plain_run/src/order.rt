@@ -4,7 +4,7 @@ ghost use Rattle.std.specs.Prelude.{◌≡◌, map, List, ℕ, slice_get, MatchO
 use crate::names::{Names, named};
 use crate::needs::needed;
 use crate::plan::{Plan, put_in_order};
-use just_plain::Recipe;
+use justfile_syntax::plain_files::Recipe;
 use justfile_syntax::{Name, Sequence};
 use std::alloc::{AllocError, AllocFailed, Global};
 use std::marker::Model;
@@ -84,7 +84,7 @@ impl<'a, 'src> Model for Order<'a, 'src> {
 impl<'a, 'src> Order<'a, 'src> {
     ghost use Rattle.just_plain_run.specs.Order.{PlannedShape, planned_shape, IsOrder, IsBrokenOrder};
     ghost use Rattle.just_plain_run.specs.Recipes.{IsRedefined, IsUnknownDependency, IsCircle};
-    ghost use Rattle.just_plain.specs.Shape.{recipe_shape};
+    ghost use Rattle.justfile_syntax.specs.PlainShapes.{recipe_shape};
 
     /// Puts recipes that are given in the order of their file into an order in which each dependency
     /// comes earlier. The turns are at most in proportion to the recipes and their dependencies, with

@@ -1,7 +1,7 @@
 //! Recipes in order, with the places in the order of what they depend on.
 ghost use Rattle.std.specs.Prelude.{◌≡◌, ◌<◌, IfErr, IfOk, Some, length, map, slice_get};
 ghost use Rattle.std.specs.List.{All};
-ghost use Rattle.just_plain.specs.Shape.{name_text, recipe_shape};
+ghost use Rattle.justfile_syntax.specs.PlainShapes.{name_text, recipe_shape};
 ghost use Rattle.just_order.specs.Needs.{rows};
 ghost use Rattle.just_order.specs.Order.{IsOrder};
 ghost use Rattle.just_plain_run.specs.Order.{IsBrokenOrder, planned_shape};
@@ -10,7 +10,7 @@ ghost use Rattle.just_plain_run.specs.Plan.{AreNeeds, ArePlanned, AreRanks, IsPl
 
 use crate::order::{OrderFault, Planned};
 use just_order::{OrderFault as PlacesFault, order};
-use just_plain::Recipe;
+use justfile_syntax::plain_files::Recipe;
 use justfile_syntax::{Name, Sequence};
 use std::alloc::{AllocError, Global};
 

@@ -1,8 +1,8 @@
 //! The root file: where it is, and what it says.
 ghost use Rattle.std.specs.Prelude.{◌≡◌, IfErr, IfOk, Ok, Some, None, unwrap_or, []};
-ghost use Rattle.just_plain.specs.Shape.{shape_of};
+ghost use Rattle.justfile_syntax.specs.PlainShapes.{shape_of};
 ghost use Rattle.just_tree.specs.Files.{item_shapes};
-ghost use Rattle.just_plain.specs.Plain.{plain_of};
+ghost use Rattle.justfile_syntax.specs.Plain.{plain_of};
 ghost use Rattle.just_plain_run.specs.Inputs.{root_at, text_at, given, reader_of};
 ghost use Rattle.just_plain_run.specs.Drives.{verdict};
 ghost use Rattle.just_plain_run.specs.Stages.{IsTold, IsRead, IsRoot};
@@ -12,8 +12,8 @@ ghost use Rattle.std.specs.String.{string_bytes};
 
 use crate::fault::Fault;
 use just_grammar::law::law;
-use just_plain::{Ast, plain};
 use just_value::{CONSTANT_COUNT, Positional};
+use justfile_syntax::plain_files::{Ast, plain};
 use justfile_syntax::{Ast as File, Expander, Numerator, Parser, Text};
 use semver::Version;
 use std::alloc::{AllocError, Global};

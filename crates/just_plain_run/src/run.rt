@@ -2,7 +2,7 @@
 ghost use Rattle.std.specs.Prelude.{◌≡◌, ◌<◌, ◌∷◌, [], ◌||◌, not, true, false, IfOk, OnOk, List, map, length, codes, ◌++◌, if◌then◌else◌};
 ghost use Rattle.std.specs.List.{All};
 ghost use Rattle.std.specs.String.{string_bytes};
-ghost use Rattle.just_plain.specs.Shape.{RecipeShape, name_text, line_text, recipe_shape};
+ghost use Rattle.justfile_syntax.specs.PlainShapes.{RecipeShape, name_text, line_text, recipe_shape};
 ghost use Rattle.just_plain_run.specs.Setup.{setup_of, shell_words, shows, job_of};
 ghost use Rattle.just_plain_run.specs.Goes.{Hands, LineGoes, Lines, Goes, Runs};
 ghost use Rattle.just_plain_run.specs.Order.{IsRanked, IsOrder, planned_shape, name_at};
@@ -15,7 +15,7 @@ use crate::frame::Frame;
 use crate::order::Planned;
 use crate::stack::Stack;
 use just_host::{CommandJob, Config, Recorded, RunHost, Status};
-use just_plain::Line;
+use justfile_syntax::plain_files::Line;
 use justfile_syntax::{Name, Sequence, Text};
 use std::alloc::{AllocError, AllocFailed, Global};
 

@@ -2,8 +2,8 @@
 use just_compilation::{Compilation, File, ModuleNode};
 use just_numbering::number_item;
 use just_text::Numerator;
+use just_tree::ExpressionContext;
 use just_value::{CONSTANT_COUNT, constants};
-use just_variables::ExpressionContext;
 use std::alloc::{AllocError, Global};
 
 /// The names of the constants.

@@ -4,12 +4,10 @@ use Rattle.just_text.specs.Tokens.{Word}
 use Rattle.just_text.specs.declared.token_kind.TokenKind.TheVariants.{Comment, Eol}
 use Rattle.just_expressions.specs.Reading.{accept}
 use Rattle.just_expressions.specs.Words.{is_kind}
-use Rattle.just_expressions.proofs.Shorter.{inspect, test, accept_shorter}
+use Rattle.just_expressions.proofs.Shorter.{accept_shorter}
 use Rattle.just_recipes.specs.Bodies.{behind_blank, behind_comment}
-use Rattle.just_recipes.specs.RecipeSeen.{blank_line_at}
-
-some_is : {A : Type 0} (x y : A) → Some x ≡ Some y → x ≡ y
-some_is x y e = cc
+use Rattle.just_recipes.specs.Seen.{blank_line_at}
+use Rattle.just_expressions.proofs.Taken.{inspect, test, some_is}
 
 module _ {T : Type 0} (word : T → Word) where
   pub blank_line_shorter : (ts rest : List T) → blank_line_at word ts ≡ Some rest → length rest < length ts

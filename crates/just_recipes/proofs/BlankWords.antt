@@ -4,7 +4,7 @@ use Rattle.just_text.specs.Tokens.{Word}
 use Rattle.just_text.specs.declared.token_kind.TokenKind.TheVariants.{Comment, Eol}
 use Rattle.just_expressions.specs.Words.{is_kind}
 use Rattle.just_recipes.specs.Bodies.{behind_blank, behind_comment}
-use Rattle.just_recipes.proofs.RecipeTaken.{test}
+use Rattle.just_expressions.proofs.Taken.{test}
 
 module _ {T : Type 0} (word : T → Word) where
   mutual

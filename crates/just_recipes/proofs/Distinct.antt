@@ -4,19 +4,13 @@ use Rattle.std.specs.List.{IsAmong}
 use Rattle.std.specs.Str.{bytes_eq}
 use Rattle.std.proofs.lemmas.Slice.Eq.{bytes_eq-Decides}
 use Rattle.just_recipes.specs.Headers.{AreDistinct}
-use Rattle.just_recipes.specs.RecipeReading.{is_named}
-use Rattle.just_recipes.proofs.RecipeTaken.{test}
+use Rattle.just_recipes.specs.Reading.{is_named}
+use Rattle.just_expressions.proofs.Taken.{test, text_same, text_itself}
 
 -- none of the names is one of those before
 abbrev pub AreNew : List (List ℕ) → List (List ℕ) → Type 0
 AreNew before [] = Unit {0}
 AreNew before (name ∷ names) = (is_named before name ≡ false) × AreNew before names
-
-text_same : (x y : List ℕ) → bytes_eq x y ≡ true → x ≡ y
-text_same x y h = grind (arith, bytes_eq-Decides x y)
-
-text_itself : (x : List ℕ) → bytes_eq x x ≡ true
-text_itself x = grind (arith, bytes_eq-Decides x x)
 
 either : (a b : Bool) → (a || b) ≡ false → (a ≡ false) × (b ≡ false)
 either true b h = absurd cc

@@ -4,11 +4,11 @@ use Rattle.just_text.specs.Tokens.{Word}
 use Rattle.just_text.specs.declared.token_kind.TokenKind.{TokenKind}
 use Rattle.just_text.specs.declared.token_kind.TokenKind.TheVariants.{Backtick, Bang, BraceL, BraceR, BracketL, BracketR, Comma, FormatStringStart, Identifier, ParenL, ParenR, Slash, StringToken}
 use Rattle.just_strings.specs.declared.string_kind.StringKind.{StringKind}
-use Rattle.just_expression_tree.specs.Shape.{Shape, Shapes, Holes, literal, command, format, variable, call, assertion, assertion_alone, group, listing, choice, choice_alone, negation, rooted, binary, end, more, closed, hole}
+use Rattle.just_expression_tree.specs.Shape.{Shape, Shapes, Interpolations, literal, command, format, variable, call, assertion, assertion_alone, group, listing, choice, choice_alone, negation, rooted, binary, end, more, closed, interpolation}
 use Rattle.just_expressions.specs.Words.{is_kind, Lacks, if_keyword, else_keyword, assert_keyword}
 use Rattle.just_expressions.specs.Literals.{Expansion}
 use Rattle.just_expressions.specs.Operators.{sign}
-use Rattle.just_expressions.specs.Grammar.{Closes, Is, AreAll, AreHoles, part_kind}
+use Rattle.just_expressions.specs.Grammar.{Closes, Is, AreAll, AreInterpolations, part_kind}
 use Rattle.just_recipes.proofs.RecipeTaken.{front_shorter, mark_shorter, lacks}
 
 -- kinds with which no expression begins
@@ -33,7 +33,7 @@ module _ (expansion : Expansion) where
   never_first k n (rooted e) ws rest i = lacks Slash k ws i.0 i.1 n.7
   never_first k n (binary operator l r) ws rest i = never_first k n l ws i.0 i.2
 
-  closes_shorter : (ws rest : List Word) → Closes ws rest → length rest < length ws
+  closes_shorter : (ws rest : List Word) → Closes ParenR ws rest → length rest < length ws
   closes_shorter ws rest (inl m) = let p = mark_shorter ParenR ws rest m in omega arith
   closes_shorter ws rest (inr (a, c, m)) = let p = mark_shorter Comma ws a c in let q = mark_shorter ParenR a rest m in omega arith
 
@@ -41,7 +41,7 @@ module _ (expansion : Expansion) where
     pub shorter : (e : Shape) (ws rest : List Word) → Is expansion e ws rest → length rest < length ws
     shorter (literal s) ws rest i = let p = front_shorter StringToken s ws rest i.0 in omega arith
     shorter (command s) ws rest i = let p = front_shorter Backtick s ws rest i.0 in omega arith
-    shorter (format s hs) ws rest i = let p = front_shorter FormatStringStart s ws i.0 i.1 in let q = holes_shorter _ hs i.0 rest i.4 in omega arith
+    shorter (format s hs) ws rest i = let p = front_shorter FormatStringStart s ws i.0 i.1 in let q = interpolations_shorter _ hs i.0 rest i.4 in omega arith
     shorter (variable x) ws rest i = let p = front_shorter Identifier x ws rest i.0 in omega arith
     shorter (call f es) ws rest i = let p = front_shorter Identifier f ws i.0 i.2 in let q = mark_shorter ParenL i.0 i.1 i.5 in let r = all_shorter es ParenR i.1 rest i.6 in omega arith
     shorter (assertion c m) ws rest (a, b, d, f, g, w, p, ic, mc, o, im, mm, cl) =
@@ -100,9 +100,9 @@ module _ (expansion : Expansion) where
         let s3 = all_shorter es close b rest j in omega arith
     all_shorter (more e es) close ws rest (a, i, m, inr j) = let s1 = shorter e ws a i in let s2 = mark_shorter close a rest j.1 in omega arith
 
-    holes_shorter : (kind : StringKind) (hs : Holes) (ws rest : List Word) → AreHoles expansion kind hs ws rest → length rest ≤ length ws
-    holes_shorter kind closed ws rest i = rw i (omega arith)
-    holes_shorter kind (hole e part hs) ws rest (a, b, i, m, p, c, j) =
+    interpolations_shorter : (kind : StringKind) (hs : Interpolations) (ws rest : List Word) → AreInterpolations expansion kind hs ws rest → length rest ≤ length ws
+    interpolations_shorter kind closed ws rest i = rw i (omega arith)
+    interpolations_shorter kind (interpolation e part hs) ws rest (a, b, i, m, p, c, j) =
         let s1 = shorter e ws a i in
         let s2 = front_shorter (part_kind hs) part a b p in
-        let s3 = holes_shorter kind hs b rest j in omega arith
+        let s3 = interpolations_shorter kind hs b rest j in omega arith

@@ -7,8 +7,8 @@ use Rattle.just_tree.specs.Recipes.{is_variadic}
 use Rattle.just_tree.specs.declared.recipe.ParameterKind.{ParameterKind}
 use Rattle.just_expressions.specs.Literals.{Expansion}
 use Rattle.just_expressions.specs.Reading.{accept, is_next}
-use Rattle.just_expressions.proofs.Shorter.{inspect}
-use Rattle.just_recipes.specs.RecipeReading.{kind_at, marked_at, parameter_at}
+use Rattle.just_recipes.specs.Reading.{kind_at, marked_at, parameter_at}
+use Rattle.just_expressions.proofs.Taken.{inspect}
 
 module _ {T : Type 0} (word : T → Word) where
   no_kind : (ts : List T) → is_variadic (kind_at word ts).0 ≡ false → (kind_at word ts).1 ≡ ts

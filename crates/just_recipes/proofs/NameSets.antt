@@ -12,7 +12,7 @@ use Rattle.std.specs.declared.cmp.Ordering.TheVariants.{Equal, Greater, Less}
 use Rattle.std.specs.Str.{bytes_eq}
 use Rattle.std.proofs.lemmas.Map.Text.{is_eq-slice_cmp}
 use Rattle.std.proofs.lemmas.Slice.Eq.{bytes_eq-Decides}
-use Rattle.just_recipes.specs.RecipeSeen.{HasNames}
+use Rattle.just_recipes.specs.Seen.{HasNames}
 
 -- how two names stand to each other
 abbrev pub name_cmp : Bor (List ℕ) → Bor (List ℕ) → Ordering

@@ -12,13 +12,13 @@ use Rattle.just_expressions.specs.Literals.{Expansion}
 use Rattle.just_expressions.specs.declared.fault.Fault.{Fault}
 use Rattle.just_expressions.specs.declared.fault.Fault.TheVariants as faults
 use Rattle.just_expressions.specs.Reading.{Read, Stop, Fails}
-use Rattle.just_expressions.proofs.Shorter.{test}
 use Rattle.just_recipes.specs.Numbering.{FailsUnless, count_from, behind_bindings, IsNumbered, AreNumbered}
 use Rattle.just_recipes.specs.Plain.{IsPlain, ArePlain}
 use Rattle.just_recipes.specs.Cooked.{AreParametersCooked, IsParameterCooked}
-use Rattle.just_recipes.specs.RecipeReading.{is_named, last_at, parameter_at, parameters_at}
-use Rattle.just_recipes.specs.RecipeSeen.{HasNames, named_shape, with_name}
+use Rattle.just_recipes.specs.Reading.{is_named, last_at, parameter_at, parameters_at}
+use Rattle.just_recipes.specs.Seen.{HasNames, named_shape, with_name}
 use Rattle.just_recipes.proofs.Turns.{all_none, before, nothing_before, regroup}
+use Rattle.just_expressions.proofs.Taken.{test}
 
 -- a name that no parameter before has
 new_name : (names : List (List ℕ)) (t : Token) → with_name names t ≡ Ok (lexeme t ∷ names) → is_named names (lexeme t) ≡ false

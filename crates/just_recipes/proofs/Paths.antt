@@ -8,10 +8,10 @@ use Rattle.just_text.specs.declared.token_kind.TokenKind.TheVariants.{ColonColon
 use Rattle.just_expressions.specs.declared.fault.Fault.{Fault}
 use Rattle.just_expressions.specs.declared.fault.Fault.TheVariants as faults
 use Rattle.just_expressions.specs.Reading.{◌>>=◌, on, Read, Fails, accept, expect}
-use Rattle.just_expressions.proofs.Shorter.{inspect}
 use Rattle.just_tree.specs.Paths.{path_names}
-use Rattle.just_recipes.specs.RecipeReading.{names_at, path_at}
+use Rattle.just_recipes.specs.Reading.{names_at, path_at}
 use Rattle.just_recipes.proofs.Turns.{before, regroup}
+use Rattle.just_expressions.proofs.Taken.{inspect}
 
 abbrev pub name_text : Name → List ℕ
 name_text name = lexeme name.token

@@ -8,9 +8,9 @@ use Rattle.just_expressions.specs.Literals.{Expansion}
 use Rattle.just_expressions.specs.Laws.{Exactly}
 use Rattle.just_recipes.specs.Bodies.{IsEol}
 use Rattle.just_recipes.specs.Headers.{AreDistinct, parameter_name, AreParameters, AreDependencies, AreSubsequents, IsRecipe}
-use Rattle.just_recipes.specs.RecipeReading.{Header, marked_at, header_at, recipe_from, recipe_at}
-use Rattle.just_recipes.specs.RecipeLaws.{RecipesExactly, PathsExactly, EolsExactly, AtMostOneRecipe}
-use Rattle.just_recipes.proofs.RecipeTaken.{bind_ok, turned, ok_is, lacks, expect_begins, expect_mark, taken, same_words, Reads}
+use Rattle.just_recipes.specs.Reading.{Header, marked_at, header_at, recipe_from, recipe_at}
+use Rattle.just_recipes.specs.Laws.{RecipesExactly, PathsExactly, EolsExactly, AtMostOneRecipe}
+use Rattle.just_recipes.proofs.RecipeTaken.{lacks, expect_begins, expect_mark, taken, same_words, Reads}
 use Rattle.just_recipes.proofs.RecipeMarks.{quiet, quiet-mark, marked_found, marked_again}
 use Rattle.just_recipes.proofs.RecipeEnds.{eol_lacks, eol_found, eol_again}
 use Rattle.just_recipes.proofs.RecipePaths.{path_found, path_again}
@@ -18,6 +18,7 @@ use Rattle.just_recipes.proofs.Distinct.{nothing_before}
 use Rattle.just_recipes.proofs.RecipeBodies.{body_found, body_again}
 use Rattle.just_recipes.proofs.RecipeParameters.{parameters_found, parameters_again}
 use Rattle.just_recipes.proofs.RecipeDependencies.{NoDependency, dependencies_found, subsequents_found, dependencies_again, subsequents_again}
+use Rattle.just_expressions.proofs.Taken.{bind_ok, turned, ok_is}
 
 -- what stands between a recipe's name and the end of its first line
 record IsHeader (expansion : Expansion) (h : Header) (ws rest : List Word) : Type 0 where

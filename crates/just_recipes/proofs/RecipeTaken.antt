@@ -6,58 +6,9 @@ use Rattle.just_text.specs.contracts.token_kind.TokenKind.{the_type}
 use denote.Enum.Bare.{same_true, true_same}
 use Rattle.just_expressions.specs.Words.{is_kind, Begins, Mark, Lacks}
 use Rattle.just_expressions.specs.Reading.{◌>>=◌, Read, accept, expect, is_next}
-
--- ---- kinds
-
-pub is_kind-same : (a b : TokenKind) → is_kind a b ≡ true → a ≡ b
-is_kind-same a b h = same_true the_type tt a b h
-
-pub is_kind-itself : (k : TokenKind) → is_kind k k ≡ true
-is_kind-itself k = true_same the_type k k refl
-
--- ---- steps
-
-pub bind_ok : {A B E : Type 0} (r : Result A E) (f : A → Result B E) (y : B) → (r >>= f) ≡ Ok y → (x : A) × (r ≡ Ok x) × (f x ≡ Ok y)
-bind_ok (Ok x) f y e = (x, refl, e)
-bind_ok (Err d) f y e = absurd cc
-
--- which way an option and a test went
-pub inspect : {A : Type 0} (o : Option A) → (o ≡ None) ⊎ ((x : A) × (o ≡ Some x))
-inspect None = inl refl
-inspect (Some x) = inr (x, refl)
-
-pub test : (b : Bool) → (b ≡ true) ⊎ (b ≡ false)
-test true = inl refl
-test false = inr refl
-
-abbrev pub done : {A E : Type 0} → A → Result A E
-done x = Ok x
-
-pub ok_is : {A E : Type 0} (x y : A) → done {A = A} {E = E} x ≡ Ok y → x ≡ y
-ok_is x y e = cc
-
-pub turned : {A E : Type 0} (P : A → Type 0) (x y : A) → done {A = A} {E = E} x ≡ Ok y → P x → P y
-turned {A = A} {E = E} P x y e p = subst P (ok_is {A = A} {E = E} x y e) p
-
-pub some_is : {A : Type 0} (x y : A) → Some x ≡ Some y → x ≡ y
-some_is x y e = cc
+use Rattle.just_expressions.proofs.Taken.{is_kind-same, is_kind-itself, inspect, test, ok_is, some_is, same_front, clash}
 
 -- ---- words
-
-pub same_front : (k j : TokenKind) (x y : List ℕ) (ws a b : List Word) → Begins k x ws a → Begins j y ws b → (k ≡ j) × (x ≡ y) × (a ≡ b)
-same_front k j x y ws a b h i =
-    let p : record { kind = k; text = x } ∷ a ≡ record { kind = j; text = y } ∷ b = sym h ∙ i in
-    let v : Word = record { kind = k; text = x } in
-    let z : Word = record { kind = j; text = y } in
-    let w : v ≡ z = cc in
-    (ap (λ (v : Word). v.kind) w, ap (λ (v : Word). v.text) w, cc)
-
--- two kinds can't both come first
-pub clash : (k j : TokenKind) (ws a b : List Word) → Mark k ws a → Mark j ws b → is_kind k j ≡ false → ⊥
-clash k j ws a b h i differ =
-    let same = same_front k j h.0 i.0 ws a b h.1 i.1 in
-    let p : is_kind j j ≡ false = rw same.0 at differ in
-    let q = is_kind-itself j in absurd cc
 
 pub lacks : (k j : TokenKind) (ws a : List Word) → Mark k ws a → is_kind k j ≡ false → Lacks j ws
 lacks k j ws a m differ = λ rest n. clash k j ws a rest m n differ

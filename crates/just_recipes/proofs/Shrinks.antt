@@ -10,25 +10,12 @@ use Rattle.just_tree.specs.Recipes.{is_variadic, ParameterShape, ArgumentShape, 
 use Rattle.just_expression_tree.specs.Shape.{Shape}
 use Rattle.just_expressions.specs.Literals.{Expansion}
 use Rattle.just_expressions.specs.Reading.{◌>>=◌, Stop, Read, accept, expect, is_next}
-use Rattle.just_expressions.proofs.Shorter.{inspect, test, accept_shorter, expect_shorter, expression_shorter}
+use Rattle.just_expressions.proofs.Shorter.{accept_shorter, expect_shorter, expression_shorter, ended}
 use Rattle.just_recipes.specs.Headers.{stars}
-use Rattle.just_recipes.specs.RecipeReading.{is_some_line, unless_none, until, while_some, names_at, path_at, kind_at, marked_at, piece_at, pieces_at, line_at, default_at, named_at, parameter_at, argument_at, arguments_at, dependency_at}
+use Rattle.just_recipes.specs.Reading.{is_some_line, unless_none, until, while_some, names_at, path_at, kind_at, marked_at, piece_at, pieces_at, line_at, default_at, named_at, parameter_at, argument_at, arguments_at, dependency_at}
+use Rattle.just_expressions.proofs.Taken.{inspect, test, bind_ok, done, ok_is}
 
 -- ---- steps
-
-bind_ok : {A B E : Type 0} (r : Result A E) (f : A → Result B E) (y : B) → (r >>= f) ≡ Ok y → (x : A) × (r ≡ Ok x) × (f x ≡ Ok y)
-bind_ok (Ok x) f y e = (x, refl, e)
-bind_ok (Err d) f y e = absurd cc
-
-abbrev done : {A E : Type 0} → A → Result A E
-done x = Ok x
-
-ok_is : {A E : Type 0} (x y : A) → done {A = A} {E = E} x ≡ Ok y → x ≡ y
-ok_is x y e = cc
-
--- what ends with fewer tokens than that
-ended : {A T : Type 0} (a : A) (rest : List T) (p : A × List T) (n : ℕ) → done {A = A × List T} {E = Stop T} (a, rest) ≡ Ok p → length rest < n → length p.1 < n
-ended {A = A} {T = T} a rest p n h less = let q = ap (λ (z : A × List T). z.1) (ok_is {A = A × List T} {E = Stop T} (a, rest) p h) in rw (← q) less
 
 -- an item takes tokens, and none takes none back
 abbrev pub Shrinks : {A : Type 0} → Option A → ℕ → ℕ → Type 0

@@ -10,7 +10,7 @@ use Rattle.just_text.specs.declared.token_kind.TokenKind.{TokenKind}
 use Rattle.just_expressions.specs.declared.fault.Fault.{Fault}
 use Rattle.just_expressions.specs.declared.fault.Fault.TheVariants as faults
 use Rattle.just_expressions.specs.Reading.{◌>>=◌, Read, Fails, accept}
-use Rattle.just_recipes.specs.RecipeReading.{until, while_some}
+use Rattle.just_recipes.specs.Reading.{until, while_some}
 
 module _ {X A : Type 0} (view : X → A) where
   -- the items that were read, and then others
@@ -76,8 +76,3 @@ all_none P fs none = rw none (λ k d h. absurd (omega arith))
 
 pub all_more : {X : Type 0} (P : X → Type 0) (fs : List X) (x : X) → All P fs → P x → All P (fs ++ x ∷ [])
 all_more P fs x these this = All-append P fs (x ∷ []) these (all_one P x this)
-
--- what an option that is not none took
-pub taken : (kind : TokenKind) (ts : List Token) (o : Option Token) (rest : List Token) → accept word_of kind ts ≡ option_map (λ t. (t, rest)) o → IsSome o → (t : Token) × (accept word_of kind ts ≡ Some (t, rest))
-taken kind ts None rest h some = absurd cc
-taken kind ts (Some t) rest h some = (t, h)

@@ -7,18 +7,11 @@ use Rattle.just_expression_tree.specs.Shape.{Shape}
 use Rattle.just_expressions.specs.Words.{is_kind, Begins, Mark, Lacks}
 use Rattle.just_expressions.specs.Literals.{Expansion}
 use Rattle.just_expressions.specs.Grammar.{Derives}
-
--- the words up to rest spell a whole expression
-abbrev pub IsExpression : Expansion → Shape → List Word → List Word → Type 0
-IsExpression expansion e words rest = Derives expansion 256 6 words e rest
+use Rattle.just_expressions.specs.Strings.{IsExpression, IsAside}
 
 -- the same without operators outside of brackets
 abbrev pub IsPrimary : Expansion → Shape → List Word → List Word → Type 0
 IsPrimary expansion e words rest = Derives expansion 256 0 words e rest
-
--- up to rest there is a comment, or nothing
-abbrev pub IsAside : List Word → List Word → Type 0
-IsAside words rest = Mark Comment words rest ⊎ ((words ≡ rest) × Lacks Comment words)
 
 -- Up to rest a line ends, perhaps behind a comment. The end of the file serves too, and is not taken.
 abbrev pub IsEol : List Word → List Word → Type 0

@@ -1,8 +1,8 @@
 pub mod Bodies
 pub mod Headers
-pub mod RecipeReading
+pub mod Reading
 pub mod Numbering
 pub mod Plain
 pub mod Cooked
-pub mod RecipeSeen
-pub mod RecipeLaws
+pub mod Seen
+pub mod Laws

@@ -5,8 +5,8 @@ ghost use Rattle.just_tree.specs.Lines.{piece_of, pieces_of};
 ghost use Rattle.just_recipes.specs.Bodies.{behind_blank, blank_end, without_blank_end};
 ghost use Rattle.just_expressions.specs.Reading.{Gives, ahead};
 ghost use Rattle.just_recipes.specs.Cooked.{AreFragmentsCooked, IsBodyCooked, IsFragmentCooked, IsLineCooked};
-ghost use Rattle.just_recipes.specs.RecipeSeen.{blank_line_at, if_taken};
-ghost use Rattle.just_recipes.specs.RecipeReading.{body_at, eol_at, line_at, lines_at, piece_at, pieces_at};
+ghost use Rattle.just_recipes.specs.Seen.{blank_line_at, if_taken};
+ghost use Rattle.just_recipes.specs.Reading.{body_at, eol_at, line_at, lines_at, piece_at, pieces_at};
 
 use crate::shrinking::{push_compact, shrunk};
 use just_expressions::{Cursor, Fault};
@@ -25,7 +25,7 @@ pub struct BodyRead<'src> {
 /// taken.
 ///
 /// `Unexpected` where neither comes. After a refusal it is not said where the cursor stands.
-#[tactic(auto, unfolding(crate::specs::RecipeReading::eol_at, just_expressions::specs::Reading::is_next))]
+#[tactic(auto, unfolding(crate::specs::Reading::eol_at, just_expressions::specs::Reading::is_next))]
 pub fn end_of_line<'src>(cursor: &mut Cursor<'_, 'src>) -> Result<(), Fault<'src>>
     ensures { Gives (λ _. ahead cursor.new) result (eol_at word_of (ahead cursor.old)) }
 {
@@ -49,7 +49,7 @@ pub fn ended<'src, T: Drop>(cursor: &mut Cursor<'_, 'src>, read: T) -> Result<T,
 }
 
 /// Takes a line on which nothing stands but a comment, if it comes here.
-#[tactic(auto, unfolding(crate::specs::RecipeSeen::blank_line_at))]
+#[tactic(auto, unfolding(crate::specs::Seen::blank_line_at))]
 fn blank_line(cursor: &mut Cursor) -> bool
     ensures taken { blank_line_at word_of (ahead cursor.old) ≡ if_taken result (ahead cursor.new) }
     ensures stays { result ≡ false → ahead cursor.new ≡ ahead cursor.old }
@@ -73,7 +73,7 @@ fn blank_lines(cursor: &mut Cursor)
 }
 
 /// A text or an interpolation, if one comes here.
-#[tactic(auto, unfolding(crate::specs::RecipeReading::piece_at))]
+#[tactic(auto, unfolding(crate::specs::Reading::piece_at))]
 fn fragment<'src, E: Expander>(
     cursor: &mut Cursor<'_, 'src>,
     expander: &E,
@@ -109,7 +109,7 @@ fn fragments<'src, E: Expander>(
 }
 
 /// A line and its end, which the last line may lack if it isn't blank.
-#[tactic(auto, unfolding(crate::specs::RecipeReading::line_at))]
+#[tactic(auto, unfolding(crate::specs::Reading::line_at))]
 fn line<'src, E: Expander>(
     alloc: Global,
     cursor: &mut Cursor<'_, 'src>,
@@ -171,7 +171,7 @@ fn count_blank_end(lines: &mut Vec<Line>) -> usize
 ///
 /// Refused where an expression is, where an interpolation or a line doesn't end, and where memory
 /// runs out. After a refusal it is not said where the cursor stands.
-#[tactic(auto, unfolding(crate::specs::RecipeReading::body_at))]
+#[tactic(auto, unfolding(crate::specs::Reading::body_at))]
 pub fn body<'src, E: Expander>(
     alloc: Global,
     cursor: &mut Cursor<'_, 'src>,

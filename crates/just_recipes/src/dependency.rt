@@ -5,7 +5,7 @@ ghost use Rattle.just_text.specs.declared.token_kind.TokenKind.TheVariants.{Pare
 ghost use Rattle.just_recipes.specs.Cooked.{AreArgumentsCooked, AreDependenciesCooked, IsArgumentCooked, IsDependencyCooked};
 ghost use Rattle.just_tree.specs.Recipes.{argument_shape, argument_shapes, dependency_shape, dependency_shapes};
 ghost use Rattle.just_expressions.specs.Reading.{Gives, ahead};
-ghost use Rattle.just_recipes.specs.RecipeReading.{argument_at, arguments_at, dependency_at, dependencies_at, subsequents_at, until};
+ghost use Rattle.just_recipes.specs.Reading.{argument_at, arguments_at, dependency_at, dependencies_at, subsequents_at, until};
 
 use crate::parameter::marked;
 use crate::path::namepath;
@@ -16,7 +16,7 @@ use just_tree::{DependencyArgument, UnresolvedDependency};
 use std::alloc::Global;
 
 /// An argument, perhaps behind a star.
-#[tactic(auto, unfolding(crate::specs::RecipeReading::argument_at))]
+#[tactic(auto, unfolding(crate::specs::Reading::argument_at))]
 fn argument<'src, E: Expander>(
     cursor: &mut Cursor<'_, 'src>,
     expander: &E,
@@ -57,7 +57,7 @@ fn stars(arguments: &[DependencyArgument]) -> usize
 
 /// The arguments up to the closing parenthesis, of which at most one has a star. The token is where
 /// the dependency begins.
-#[tactic(auto, unfolding(crate::specs::RecipeReading::arguments_at))]
+#[tactic(auto, unfolding(crate::specs::Reading::arguments_at))]
 fn arguments<'src, E: Expander>(
     alloc: Global,
     cursor: &mut Cursor<'_, 'src>,
@@ -75,7 +75,7 @@ fn arguments<'src, E: Expander>(
 }
 
 /// A dependency, if one comes here: a path, or a path and arguments in parentheses.
-#[tactic(auto, unfolding(crate::specs::RecipeReading::dependency_at))]
+#[tactic(auto, unfolding(crate::specs::Reading::dependency_at))]
 fn dependency<'src, E: Expander>(
     alloc: Global,
     cursor: &mut Cursor<'_, 'src>,
@@ -124,7 +124,7 @@ pub fn dependencies<'src, E: Expander>(
 ///
 /// `Unexpected` where `&&` stands here and no dependency behind it. Refused also as `dependencies`
 /// refuses. After a refusal it is not said where the cursor stands.
-#[tactic(auto, unfolding(crate::specs::RecipeReading::subsequents_at))]
+#[tactic(auto, unfolding(crate::specs::Reading::subsequents_at))]
 pub fn subsequents<'src, E: Expander>(
     alloc: Global,
     cursor: &mut Cursor<'_, 'src>,

@@ -7,9 +7,9 @@ ghost use Rattle.just_recipes.specs.Numbering.{AreBindingsUsed, AreNumbered, Giv
 ghost use Rattle.just_expressions.specs.Literals.{IsCooked};
 ghost use Rattle.just_recipes.specs.Cooked.{AreParametersCooked, IsParameterCooked};
 ghost use Rattle.just_recipes.specs.Plain.{ArePlain, IsPlain};
-ghost use Rattle.just_recipes.specs.RecipeSeen.{HasNames, named_shape, with_name};
+ghost use Rattle.just_recipes.specs.Seen.{HasNames, named_shape, with_name};
 ghost use Rattle.just_expressions.specs.Reading.{Gives, ahead};
-ghost use Rattle.just_recipes.specs.RecipeReading.{default_at, kind_at, last_at, marked_at, named_at, parameter_ahead, parameter_at, parameters_at};
+ghost use Rattle.just_recipes.specs.Reading.{default_at, kind_at, last_at, marked_at, named_at, parameter_ahead, parameter_at, parameters_at};
 
 use crate::numbering::next_binding;
 use crate::shrinking::push_compact;
@@ -21,7 +21,7 @@ use std::alloc::Global;
 use std::collections::BTreeSet;
 
 /// The kind of a parameter by its mark, which is taken.
-#[tactic(auto, unfolding(crate::specs::RecipeReading::kind_at))]
+#[tactic(auto, unfolding(crate::specs::Reading::kind_at))]
 fn kind(cursor: &mut Cursor) -> ParameterKind
     ensures { kind_at word_of (ahead cursor.old) ≡ (result, ahead cursor.new) }
 {
@@ -35,7 +35,7 @@ fn kind(cursor: &mut Cursor) -> ParameterKind
 }
 
 /// Whether a token of that kind comes first, which is taken.
-#[tactic(auto, unfolding(crate::specs::RecipeReading::marked_at))]
+#[tactic(auto, unfolding(crate::specs::Reading::marked_at))]
 pub(crate) fn marked(cursor: &mut Cursor, kind: TokenKind) -> bool
     ensures { marked_at word_of kind (ahead cursor.old) ≡ (result, ahead cursor.new) }
 {
@@ -43,7 +43,7 @@ pub(crate) fn marked(cursor: &mut Cursor, kind: TokenKind) -> bool
 }
 
 /// A default behind `=`, if there is one.
-#[tactic(auto, unfolding(crate::specs::RecipeReading::default_at))]
+#[tactic(auto, unfolding(crate::specs::Reading::default_at))]
 fn default<'src, E: Expander>(
     cursor: &mut Cursor<'_, 'src>,
     expander: &E,
@@ -58,7 +58,7 @@ fn default<'src, E: Expander>(
 }
 
 /// What stands behind the marks of a parameter.
-#[tactic(auto, unfolding(crate::specs::RecipeReading::named_at))]
+#[tactic(auto, unfolding(crate::specs::Reading::named_at))]
 fn named<'src, E: Expander>(
     cursor: &mut Cursor<'_, 'src>,
     expander: &E,
@@ -92,7 +92,7 @@ fn named<'src, E: Expander>(
 }
 
 /// A parameter, if one comes here: a mark or a name.
-#[tactic(auto, unfolding(crate::specs::RecipeReading::parameter_at))]
+#[tactic(auto, unfolding(crate::specs::Reading::parameter_at))]
 fn parameter<'src, E: Expander>(
     cursor: &mut Cursor<'_, 'src>,
     expander: &E,
@@ -112,7 +112,7 @@ fn parameter<'src, E: Expander>(
 }
 
 /// The name of a parameter that comes here.
-#[tactic(auto, unfolding(crate::specs::RecipeReading::parameter_ahead))]
+#[tactic(auto, unfolding(crate::specs::Reading::parameter_ahead))]
 fn parameter_ahead<'src>(mut cursor: Cursor<'_, 'src>) -> Option<Token<'src>>
     ensures { result ≡ parameter_ahead word_of (ahead cursor.entry) }
 {
@@ -122,7 +122,7 @@ fn parameter_ahead<'src>(mut cursor: Cursor<'_, 'src>) -> Option<Token<'src>>
 }
 
 /// Refuses a parameter that comes here.
-#[tactic(auto, unfolding(crate::specs::RecipeReading::last_at))]
+#[tactic(auto, unfolding(crate::specs::Reading::last_at))]
 fn check_last<'src>(alloc: Global, cursor: &Cursor<'_, 'src>) -> Result<(), Fault<'src>>
     ensures { Gives (λ _. ahead cursor.now) result (last_at word_of (ahead cursor.now)) }
 {

@@ -3,7 +3,7 @@ ghost use Rattle.std.specs.Prelude.{◌≡◌};
 ghost use Rattle.just_text.specs.Tokens.{word_of};
 ghost use Rattle.just_expressions.specs.Reading.{Gives, ahead};
 ghost use Rattle.just_tree.specs.Paths.{path_names};
-ghost use Rattle.just_recipes.specs.RecipeReading.{path_at};
+ghost use Rattle.just_recipes.specs.Reading.{path_at};
 
 use just_expressions::{Cursor, Fault};
 use just_text::{Name, Namepath, TokenKind};

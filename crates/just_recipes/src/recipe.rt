@@ -5,9 +5,9 @@ ghost use Rattle.just_tree.specs.Recipes.{recipe_shape};
 ghost use Rattle.just_recipes.specs.Numbering.{AreBindingsUsed, AreNumbered, AreUsed, GivesUnless, IsRecipeNumbered};
 ghost use Rattle.just_recipes.specs.Cooked.{AreDependenciesCooked, AreParametersCooked, IsRecipeCooked};
 ghost use Rattle.just_recipes.specs.Plain.{ArePlain, IsPlainRecipe};
-ghost use Rattle.just_recipes.specs.RecipeSeen.{header_shape};
+ghost use Rattle.just_recipes.specs.Seen.{header_shape};
 ghost use Rattle.just_expressions.specs.Reading.{ahead};
-ghost use Rattle.just_recipes.specs.RecipeReading.{header_at, recipe_at};
+ghost use Rattle.just_recipes.specs.Reading.{header_at, recipe_at};
 
 use crate::body::{body, end_of_line};
 use crate::dependency::{dependencies, subsequents};
@@ -36,7 +36,7 @@ pub struct RecipeRead<'src> {
 }
 
 /// What stands between a recipe's name and the end of its first line.
-#[tactic(auto, unfolding(crate::specs::RecipeReading::header_at))]
+#[tactic(auto, unfolding(crate::specs::Reading::header_at))]
 fn header<'src, E: Expander>(
     alloc: Global,
     cursor: &mut Cursor<'_, 'src>,
@@ -69,7 +69,7 @@ fn header<'src, E: Expander>(
 /// that takes all values that remain, where two arguments of a dependency have a star, where an
 /// expression is refused, and where numbers or memory run out. After a refusal it is not said where
 /// the cursor stands.
-#[tactic(auto, unfolding(crate::specs::RecipeReading::recipe_at))]
+#[tactic(auto, unfolding(crate::specs::Reading::recipe_at))]
 pub fn recipe<'src, E: Expander>(
     alloc: Global,
     cursor: &mut Cursor<'_, 'src>,

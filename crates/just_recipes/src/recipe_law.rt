@@ -1,6 +1,6 @@
 //! What reading recipes and deriving them have to do with each other.
 ghost use Rattle.just_expressions.specs.Literals.{Expansion};
-ghost use Rattle.just_recipes.specs.RecipeLaws.{AtMostOneRecipe, EolsHold, PathsHold, RecipesHold};
+ghost use Rattle.just_recipes.specs.Laws.{AtMostOneRecipe, EolsHold, PathsHold, RecipesHold};
 
 use just_expressions::law::law;
 

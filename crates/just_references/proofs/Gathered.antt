@@ -10,7 +10,7 @@ use Rattle.just_text.specs.declared.token.Token.{Token}
 use Rattle.just_expression_tree.specs.declared.expression.Expression.{Expression, Call as CallOf, Conditional, FormatString, Join, List as ListOf, the_lemmas}
 use Rattle.just_references.specs.declared.references.Reference.{Reference}
 use Rattle.just_references.specs.declared.references.Reference.TheVariants.{Call}
-use Rattle.just_references.specs.References.{references_of, references_if_there, references_in_hole}
+use Rattle.just_references.specs.References.{references_of, references_if_there, references_in_interpolation}
 
 pub call_has : (name : Name) (es : Vec Expression) → references_of (CallOf name es) ≡ Call name (length es.items) ∷ flat_map references_of es.items
 call_has name es =
@@ -23,10 +23,10 @@ listing_has es token =
     held ∙ flat_map-map (λ e. e) references_of es.items
 
 abbrev beside : {A : Type 0} → (Expression → A) → (Expression × StringLiteral) → A × StringLiteral
-beside f hole = (f hole.0, hole.1)
+beside f interpolation = (f interpolation.0, interpolation.1)
 
-pub holes_have : (start : StringLiteral) (es : Vec (Expression × StringLiteral)) → references_of (FormatString start es) ≡ flat_map references_in_hole es.items
-holes_have start es =
+pub interpolations_have : (start : StringLiteral) (es : Vec (Expression × StringLiteral)) → references_of (FormatString start es) ≡ flat_map references_in_interpolation es.items
+interpolations_have start es =
     let held : references_of (FormatString start es) ≡ flat_map (λ e. e.0) (map (beside references_of) es.items) = search (rules, the_lemmas) in
     held ∙ flat_map-map (λ e. e.0) (beside references_of) es.items
 

@@ -2,7 +2,7 @@
 ghost use Rattle.std.specs.Prelude.{◌≡◌, ◌++◌, ◌∷◌, [], length, OnOk, IfOk};
 ghost use Rattle.std.specs.List.{flat_map};
 ghost use Rattle.just_references.specs.declared.references.Reference.TheVariants.{Call, Variable};
-ghost use Rattle.just_references.specs.References.{references_of, references_if_there, references_in_hole};
+ghost use Rattle.just_references.specs.References.{references_of, references_if_there, references_in_interpolation};
 
 use just_expression_tree::Expression;
 use just_strings::StringLiteral;
@@ -124,7 +124,7 @@ fn push<'src>(
             push_both(found, condition, then)?;
             push_if_there(found, otherwise)
         }
-        Expression::FormatString { expressions, .. } => push_holes(found, expressions),
+        Expression::FormatString { expressions, .. } => push_interpolations(found, expressions),
         Expression::Group { contents } => push(found, contents),
         Expression::Join { lhs, rhs, .. } => {
             push_if_there(found, lhs)?;
@@ -215,13 +215,13 @@ fn push_row<'src>(
 }
 
 #[cycle(references)]
-fn push_holes<'src>(
+fn push_interpolations<'src>(
     found: &mut Vec<Reference<'src>>,
-    holes: &[(Expression<'src>, StringLiteral<'src>)],
+    interpolations: &[(Expression<'src>, StringLiteral<'src>)],
 ) -> Result<(), AllocError>
-    ensures { OnOk result (found.new.items ≡ found.old.items ++ flat_map references_in_hole holes.now) }
+    ensures { OnOk result (found.new.items ≡ found.old.items ++ flat_map references_in_interpolation interpolations.now) }
 {
-    for (expression, _) in holes {
+    for (expression, _) in interpolations {
         push(found, expression)?;
     }
     Ok(())

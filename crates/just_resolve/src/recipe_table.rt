@@ -84,7 +84,7 @@ fn recipes_in_order<'src>(
     order: &[usize],
     ranks: &[usize],
 ) -> Result<Vec<ResolvedRecipe<'src>>, ReadFault<'src>> {
-    let mut recipes = Vec::new(alloc);
+    let mut recipes = Vec::with_capacity(alloc, order.len())?;
     for place in order {
         let place = *place;
         if place < nodes.len() && place < needs.len() {

@@ -15,22 +15,7 @@ use Rattle.just_plain_run.specs.declared.fault.Fault.TheVariants as plain_faults
 use Rattle.just_plain_run.specs.declared.outcome.Outcome as plain_outcome
 use Rattle.just_run.specs.Plain.{AnswersPlain, fault_of, answer_of}
 use Rattle.just_run.specs.declared.fault.Fault.TheVariants.{OutOfMemory}
-
--- what is told is no rule of words
-told_refuses : {H : Type 0} (i : Inputs) (v : Verdict) (host : Record H) → IsTold i v → NamesBroken i v host host
-told_refuses i ran_out host h = tt
-told_refuses i (breaks broken) host h = record { holds = h.0; last = λ e. absurd (let f : true ≡ false = sym e ∙ h.1 in cc); nothing = refl }
-told_refuses i (fails f) host h = tt
-
-told_answers : (i : Inputs) (v : Verdict) → IsTold i v → IsRefused v
-told_answers i ran_out h = tt
-told_answers i (breaks broken) h = tt
-told_answers i (fails f) h = h
-
-told_ends : {H : Type 0} (i : Inputs) (v : Verdict) (log : Record H) (P : Option Failure → Type 0) → IsTold i v → Ended log v P
-told_ends i ran_out log P h = tt
-told_ends i (breaks broken) log P h = tt
-told_ends i (fails f) log P h = absurd h
+use Rattle.just_plain_run.proofs.Driven.{told_refuses, told_answers, told_ends}
 
 -- want of memory answers anything
 pub ran_out_answers : {H : Type 0} (goes : H → List Entry → H → Type 0) → Nothing goes → (i : Inputs) (s : Setup) (host : Record H) → AnswersPlain goes i s (Err OutOfMemory) host host

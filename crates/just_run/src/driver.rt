@@ -1,6 +1,6 @@
 //! The whole: from texts and words to what is done.
 ghost use Rattle.std.specs.Prelude.{◌≡◌, IfErr, option_map};
-ghost use Rattle.just_plain.specs.Shape.{shape_of};
+ghost use Rattle.justfile_syntax.specs.PlainShapes.{shape_of};
 ghost use Rattle.just_plain_run.specs.Inputs.{Inputs, inputs_of, reader_of};
 ghost use Rattle.just_plain_run.specs.Setup.{setup_of};
 ghost use Rattle.just_plain_run.specs.Stages.{IsRead, IsRoot};
@@ -16,12 +16,12 @@ use crate::request::{Request, request_of};
 use crate::texts::{tell, write_performed};
 use just_host::{Config, Recorded, RunHost};
 use just_modules::{Compilation, Compiler, Parsed};
-use just_plain::Ast as PlainAst;
 use just_plain_run::{Out, Root, read_root, run_file};
 use just_resolve::{Analysis, Analyzer, number_variables};
 use just_tasks::Task;
 use just_value::Positional;
 use justfile_syntax::Expander;
+use justfile_syntax::plain_files::Ast as PlainAst;
 use std::alloc::Global;
 use std::collections::BTreeMap;
 

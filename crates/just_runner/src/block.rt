@@ -79,14 +79,26 @@ fn groups(
     Ok(groups)
 }
 
+/// The groups of all parameters: the values themselves where there is one for each.
+fn grouped(
+    alloc: Global,
+    parameters: &[Parameter],
+    mut values: Vec<Value>,
+) -> Result<Vec<Value>, AllocError> {
+    if values.len() == parameters.len() {
+        return Ok(values);
+    }
+    groups(alloc, parameters, values.as_mut_slice())
+}
+
 /// Puts the call with these arguments behind the others.
 fn push_call(
     alloc: Global,
     calls: &mut Vec<Call>,
     callee: Callee,
-    mut values: Vec<Value>,
+    values: Vec<Value>,
 ) -> Result<(), AllocError> {
-    let groups = groups(alloc, callee.parameters, values.as_mut_slice())?;
+    let groups = grouped(alloc, callee.parameters, values)?;
     let recipe = callee.place;
     Ok(calls.push(Call { recipe, groups })?)
 }

@@ -44,6 +44,7 @@ fn new_node<'src>(
         disabled: Vec::new(alloc),
         functions: Vec::new(alloc),
         recipes: Vec::new(alloc),
+        recipe_names: Vec::new(alloc),
         sets: Vec::new(alloc),
         unexports: Vec::new(alloc),
         submodules: Vec::new(alloc),

@@ -1,5 +1,5 @@
 mod Braces
-mod Cuts
+pub mod Cuts
 mod Lines
 mod Longest
 mod Meanings

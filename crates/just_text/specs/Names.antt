@@ -4,7 +4,12 @@ use Rattle.std.specs.List.{flat_map}
 use Rattle.just_text.specs.declared.name.Name.{Name}
 use Rattle.just_text.specs.Tokens.{lexeme}
 
--- the names behind the first one
+-- names with `::` between two
+abbrev pub joined_names : List (List ℕ) → List ℕ
+joined_names [] = []
+joined_names (name ∷ names) = name ++ flat_map (λ n. codes "::" ++ n) names
+
+-- the same of the names of tokens: those behind the first one
 abbrev pub more_names : List Name → List ℕ
 more_names names = flat_map (λ name. codes "::" ++ lexeme name.token) names
 

@@ -37,7 +37,7 @@ abbrev pub name_eq : Name → Name → Bool
 name_eq = eq_of_both (on (λ n. lexeme n.token) numbers_eq) (on (λ n. n.token) token_eq)
 
 -- two equalities hold where two orders, one after the other, tell nothing apart
-both_tie : (o p : Ordering) (a b : Bool) → a ≡ is_eq o → b ≡ is_eq p → (a && b) ≡ is_eq (ordering_then o p)
+pub both_tie : (o p : Ordering) (a b : Bool) → a ≡ is_eq o → b ≡ is_eq p → (a && b) ≡ is_eq (ordering_then o p)
 both_tie Less p a b first second = ap (λ v. v && b) first
 both_tie Equal p a b first second = ap (λ v. v && b) first ∙ second
 both_tie Greater p a b first second = ap (λ v. v && b) first

@@ -1,10 +1,10 @@
 -- A path is printed as its names with `::` between two.
 use Rattle.std.proofs.Common.{◌≡◌, List, [], ◌∷◌, ◌++◌, codes, refl, ap}
 use Rattle.std.specs.List.{flat_map}
-use Rattle.just_text.specs.Names.{more_names, path_text}
+use Rattle.just_text.specs.Names.{more_names, path_text, joined_names}
 use Rattle.just_text.specs.Tokens.{lexeme}
 use Rattle.just_text.specs.declared.name.Name.{Name}
-use Rattle.just_tree.specs.Paths.{path_names, joined_names}
+use Rattle.just_tree.specs.Paths.{path_names}
 
 behind : (names : List Name) → flat_map (λ n. codes "::" ++ n) (path_names names) ≡ more_names names
 behind [] = refl

@@ -15,7 +15,8 @@ use Rattle.just_expression_tree.specs.Shape.{Shape, shape_of, written}
 use Rattle.just_expression_tree.specs.Printing.{text_of}
 use Rattle.just_attribute_tree.specs.Settings.{SetShape, value_shape}
 use Rattle.just_tree.specs.declared.set.Set.{Set}
-use Rattle.just_tree.specs.Paths.{path_names, joined_names}
+use Rattle.just_tree.specs.Paths.{path_names}
+use Rattle.just_text.specs.Names.{joined_names}
 
 -- an alias: its name and the names of its target's path
 pub record AliasShape : Type 0 where

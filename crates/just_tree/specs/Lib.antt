@@ -4,3 +4,5 @@ pub mod Items
 pub mod Files
 pub mod FileIndentation
 pub mod Paths
+pub mod Contexts
+pub mod Resolving

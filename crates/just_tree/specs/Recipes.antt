@@ -13,7 +13,8 @@ use Rattle.just_tree.specs.declared.recipe.Recipe.{Recipe}
 use Rattle.just_expression_tree.specs.Shape.{Shape, shape_of}
 use Rattle.just_expression_tree.specs.Printing.{text_of}
 use Rattle.just_tree.specs.Lines.{Piece, pieces_of, line_text}
-use Rattle.just_tree.specs.Paths.{path_names, joined_names}
+use Rattle.just_tree.specs.Paths.{path_names}
+use Rattle.just_text.specs.Names.{joined_names}
 
 -- a parameter takes all values that remain
 abbrev pub is_variadic : ParameterKind → Bool

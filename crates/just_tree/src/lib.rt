@@ -1,4 +1,5 @@
-//! Lines, recipes, items and whole files as trees, and their printed texts; names and indentation.
+//! Lines, recipes, items and whole files as trees, and their printed texts; names and indentation;
+//! names and numbers of variables.
 #![tactic(auto)]
 
 mod ast;
@@ -9,6 +10,7 @@ mod line;
 mod recipe;
 mod rows;
 mod set;
+mod variables;
 
 pub use ast::{Ast, Item, ListFeature, UnstableFeature};
 pub use item::{
@@ -21,3 +23,4 @@ pub use recipe::{
     DependencyArgument, Parameter, ParameterKind, Recipe, RecipeSignature, UnresolvedDependency,
 };
 pub use set::Set;
+pub use variables::{ExpressionContext, resolve_attributes, resolve_variables};

@@ -14,7 +14,8 @@ use std::fmt;
 pub struct Path<'a, 'src>(pub &'a Namepath<'src>);
 
 impl fmt::Display for Path<'_, '_> {
-    ghost use Rattle.just_tree.specs.Paths.{joined_names, path_names};
+    ghost use Rattle.just_text.specs.Names.{joined_names};
+    ghost use Rattle.just_tree.specs.Paths.{path_names};
 
     ghost output = { λ path. Some (joined_names (path_names path.0.now)) };
 

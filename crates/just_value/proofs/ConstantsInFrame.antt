@@ -23,7 +23,7 @@ slice_get_push [] x (suc n) = rw (ne_eqb (suc n) 0 (λ z. omega (arith, z))) ref
 slice_get_push (y ∷ ys) x zero = rw (ne_eqb 0 (length (y ∷ ys)) (λ z. omega (arith, z))) refl
 slice_get_push (y ∷ ys) x (suc n) = slice_get_push ys x n ∙ ap (λ t. cond t (Some x) (slice_get ys n)) (sym (eqb_more n (length ys)))
 
-get_or_mapped : {X Y : Type 0} (f : X → Y) (xs : List X) (i : ℕ) (d : X) → get_or (map f xs) i (f d) ≡ f (get_or xs i d)
+pub get_or_mapped : {X Y : Type 0} (f : X → Y) (xs : List X) (i : ℕ) (d : X) → get_or (map f xs) i (f d) ≡ f (get_or xs i d)
 get_or_mapped f [] i d = refl
 get_or_mapped f (x ∷ xs) zero d = refl
 get_or_mapped f (x ∷ xs) (suc i) d = get_or_mapped f xs i d

@@ -1,2 +1,1 @@
-mod Comments
 mod Kept

@@ -1,5 +1,5 @@
 //! What words may name of a justfile.
-use just_analysis::{ItemPlaces, RecipeTable, ResolvedAlias, ResolvedRecipe, default_recipe};
+use just_analysis::{RecipeTable, ResolvedAlias, ResolvedRecipe, default_recipe};
 use just_builtins::Settings;
 use just_compilation::{Compilation, ModuleNode, Place};
 use just_invocations::{Callable, Meaning, Menu, Menus, Slot};
@@ -106,35 +106,32 @@ fn add_names<'w>(names: &mut BTreeSet<&'w str>, path: &'w str) -> Result<(), All
     Ok(())
 }
 
-/// Puts the recipe at the place on the menu, if its name is wanted.
+/// Puts the recipe on the menu that stands at this place of its file.
 fn put_recipe<'a>(
-    recipes: &[ResolvedRecipe<'a>],
-    wanted: &BTreeSet<&str>,
+    table: &RecipeTable<'a>,
     menu: &mut Menu<'a>,
-    place: usize,
+    place: Place,
 ) -> Result<(), AllocError> {
-    if place >= recipes.len() {
-        return Ok(());
+    let recipes = table.recipes.as_slice();
+    match table.places.get(place) {
+        Some(rank) if rank < recipes.len() => {
+            menu.put(recipes[rank].name.lexeme(), Meaning::Recipe(rank))
+        }
+        _ => Ok(()),
     }
-    let name = recipes[place].name.lexeme();
-    if !wanted.contains(name) {
-        return Ok(());
-    }
-    menu.put(name, Meaning::Recipe(place))
 }
 
-/// Puts the recipes that stand at these places of their files on the menu, as far as they are kept
-/// and their names are wanted.
-fn put_recipes<'a>(
-    recipes: &[ResolvedRecipe<'a>],
-    ranks: &ItemPlaces,
+/// Puts the recipes on the menu that the module keeps under the names that are wanted.
+fn put_recipes<'a, 'src>(
+    compilation: &Compilation<'src>,
+    table: &RecipeTable<'a>,
     wanted: &BTreeSet<&str>,
     menu: &mut Menu<'a>,
-    places: &[Place],
+    node: &ModuleNode<'src>,
 ) -> Result<(), AllocError> {
-    for place in places {
-        if let Some(rank) = ranks.get(*place) {
-            put_recipe(recipes, wanted, menu, rank)?;
+    for name in wanted {
+        if let Some(place) = compilation.find_recipe(node, name) {
+            put_recipe(table, menu, place)?;
         }
     }
     Ok(())
@@ -182,16 +179,16 @@ fn put_submodules<'a, 'src>(
 }
 
 /// Puts the recipes and the aliases of the module on the menu whose names are wanted.
-fn put_called<'a>(
+fn put_called<'a, 'src>(
+    compilation: &Compilation<'src>,
     table: &RecipeTable<'a>,
     wanted: &BTreeSet<&str>,
     menu: &mut Menu<'a>,
     module: usize,
-    places: &[Place],
+    node: &ModuleNode<'src>,
 ) -> Result<(), AllocError> {
-    let recipes = table.recipes.as_slice();
+    put_recipes(compilation, table, wanted, menu, node)?;
     let aliases = table.aliases.as_slice();
-    put_recipes(recipes, &table.places, wanted, menu, places)?;
     if module >= aliases.len() {
         return Ok(());
     }
@@ -210,7 +207,7 @@ fn menu<'a, 'src>(
     let mut menu: Menu<'a> = Menu::new(alloc);
     if module < modules.len() {
         let node = &modules[module];
-        put_called(table, wanted, &mut menu, module, node.recipes.as_slice())?;
+        put_called(compilation, table, wanted, &mut menu, module, node)?;
         put_submodules(modules, &mut menu, node.submodules.as_slice())?;
         menu.default = default_recipe(compilation, &table.places, node);
     }

@@ -1,7 +1,10 @@
 //! Justfiles by one name: their tokens and refusals, their trees with their printed texts, names of
-//! variables and attributes, and the parser.
+//! variables and attributes, and the parser; words, and when they are the tokens of their joined text; and files of
+//! plain recipes.
 #![tactic(auto)]
 
+pub mod law;
+pub mod plain_files;
 mod printer;
 
 pub use just_attribute_tree::{
@@ -24,10 +27,9 @@ pub use just_text::{
     Namepath, Number, Numerator, Os, Sequence, Text, Ticked, Token, TokenKind,
 };
 pub use just_tree::{
-    Alias, Assignment, Ast, Binding, DependencyArgument, Fragment, FunctionDefinition,
-    FunctionParameter, Import, Item, Keyed, Line, ListFeature, Module, Parameter, ParameterKind,
-    Recipe, RecipeAlias, RecipeSignature, Set, Sigils, Unexport, UnresolvedDependency,
-    UnstableFeature,
+    Alias, Assignment, Ast, Binding, DependencyArgument, ExpressionContext, Fragment,
+    FunctionDefinition, FunctionParameter, Import, Item, Keyed, Line, ListFeature, Module,
+    Parameter, ParameterKind, Recipe, RecipeAlias, RecipeSignature, Set, Sigils, Unexport,
+    UnresolvedDependency, UnstableFeature, resolve_attributes, resolve_variables,
 };
-pub use just_variables::{ExpressionContext, resolve_attributes, resolve_variables};
 pub use printer::print;

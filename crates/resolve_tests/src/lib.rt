@@ -12,4 +12,6 @@ mod recipes;
 #[cfg(test)]
 mod said;
 #[cfg(test)]
+mod told;
+#[cfg(test)]
 mod variables;

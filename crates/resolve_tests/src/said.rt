@@ -1,5 +1,5 @@
 //! What is told of a justfile.
-use file_resolution::{Given, resolved};
+use crate::told::{Given, resolved};
 use std::alloc::{AllocError, Global};
 
 /// These files, and these texts for variables.

@@ -1,7 +1,7 @@
 //! Orders of recipes, and the rules that they break.
 
-use just_plain::Recipe;
 use just_plain_run::{Order, OrderFault};
+use justfile_syntax::plain_files::Recipe;
 use justfile_syntax::{Name, Token, TokenKind};
 use std::alloc::{AllocError, Global};
 use std::process::Abort;

@@ -118,8 +118,8 @@ pub fn at_closing_braces(text: &[u8]) -> bool
     at_two(text, b'}', b'}')
 }
 
-pub fn opens_hole(text: &[u8]) -> bool
-    ensures { result ≡ spec.opens_hole text.now }
+pub fn opens_format_interpolation(text: &[u8]) -> bool
+    ensures { result ≡ spec.opens_format_interpolation text.now }
 {
     at_braces(text) && !(byte_at(text, 2) == b'{' && byte_at(text, 3) == b'{')
 }
@@ -144,7 +144,7 @@ pub fn line_len(text: &[u8]) -> usize
 fn ends_text(text: &[u8]) -> bool
     ensures { result ≡ spec.ends_text text.now }
 {
-    at_line_end(text) || opens_hole(text)
+    at_line_end(text) || opens_format_interpolation(text)
 }
 
 fn brace_takes(text: &[u8]) -> usize

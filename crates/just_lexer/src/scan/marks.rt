@@ -106,7 +106,10 @@ fn closing_token(
     }
     match inner {
         Some(Open::Interpolation) => Ok((TokenKind::InterpolationEnd, 2)),
-        Some(Open::Hole(quotes, _)) => part_token(ended_len(true, quotes, 2, text), text),
+        Some(Open::FormatInterpolation(quotes, _)) => part_token(
+            ended_len(true, quotes, 2, text),
+            text,
+        ),
         _ => close_token(inner, closer),
     }
 }

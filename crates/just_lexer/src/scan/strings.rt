@@ -8,7 +8,7 @@ ghost use Rattle.just_text.specs.declared.token_kind.TokenKind.TheVariants.{Back
 
 use crate::fault::Fault;
 use crate::quotes::{Quote, Quotes};
-use crate::scan::bytes::{at_braces, byte_at, first, is_quote, opens_hole, second};
+use crate::scan::bytes::{at_braces, byte_at, first, is_quote, opens_format_interpolation, second};
 use just_text::TokenKind;
 
 fn at_three(text: &[u8]) -> bool
@@ -36,7 +36,7 @@ fn at_quotes(quotes: Quotes, text: &[u8]) -> bool
 fn ends_part(is_format: bool, quotes: Quotes, text: &[u8]) -> bool
     ensures { result ≡ spec.ends_part is_format quotes text.now }
 {
-    at_quotes(quotes, text) || is_format && opens_hole(text)
+    at_quotes(quotes, text) || is_format && opens_format_interpolation(text)
 }
 
 fn part_takes(is_format: bool, quotes: Quotes, text: &[u8]) -> usize
@@ -110,8 +110,8 @@ pub fn opens_string(letter: u8, text: &[u8]) -> bool
     first(text) == letter && is_quote(second(text))
 }
 
-pub fn ends_in_hole(length: usize, text: &[u8]) -> bool
-    ensures { result ≡ spec.ends_in_hole length text.now }
+pub fn ends_in_format_interpolation(length: usize, text: &[u8]) -> bool
+    ensures { result ≡ spec.ends_in_format_interpolation length text.now }
 {
     byte_at(text, length.saturating_sub(1)) == b'{'
 }
@@ -154,7 +154,7 @@ pub fn command_token(text: &[u8]) -> Result<(TokenKind, usize), Fault>
 pub fn part_token(length: usize, text: &[u8]) -> Result<(TokenKind, usize), Fault>
     ensures { result ≡ part_token length text.now }
 {
-    let kind = if ends_in_hole(length, text) {
+    let kind = if ends_in_format_interpolation(length, text) {
         TokenKind::FormatStringContinue
     } else {
         TokenKind::FormatStringEnd

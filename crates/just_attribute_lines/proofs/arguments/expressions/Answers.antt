@@ -8,8 +8,8 @@ use Rattle.just_expressions.specs.Reading.{ahead}
 use Rattle.just_attribute_lines.specs.Reading.{whole_at, more_at}
 use Rattle.just_attribute_lines.proofs.Fewer.{more_shorter, whole_shorter}
 use Rattle.just_attribute_lines.proofs.Follow.{at_end, goes_on, no_item, untold}
-use Rattle.just_attribute_lines.proofs.Rows.{one_more_cooked}
 use Rattle.just_attribute_lines.proofs.arguments.expressions.Goals as goal
+use Rattle.just_expressions.proofs.Elements.{one_more_cooked}
 
 pub returns-in_err-is_more-clause-gives : goal.returns-in_err-is_more-clause-gives
 returns-in_err-is_more-clause-gives g c =

@@ -8,8 +8,9 @@ use Rattle.just_expressions.specs.Reading.{ahead}
 use Rattle.just_attribute_lines.specs.Reading.{attribute_at, another_at, attributes_at}
 use Rattle.just_attribute_lines.proofs.Fewer.{another_shorter, attribute_shorter}
 use Rattle.just_attribute_lines.proofs.Follow.{all_more, all_one, at_end, goes_on, no_item, untold}
-use Rattle.just_attribute_lines.proofs.Rows.{first_read, no_first, taken}
+use Rattle.just_attribute_lines.proofs.Rows.{first_read, no_first}
 use Rattle.just_attribute_lines.proofs.attribute.attributes.Goals as goal
+use Rattle.just_expressions.proofs.Elements.{taken}
 
 pub returns-then-is_none-clause-gives : goal.returns-then-is_none-clause-gives
 unfolding attributes_at

@@ -1,7 +1,7 @@
 -- What is read is derived, so the names of the parameters differ.
 use Rattle.just_tree.specs.Recipes.{parameter_shapes}
 use Rattle.just_expressions.specs.Reading.{ahead}
-use Rattle.just_parameter_options.specs.Rules.{names_of}
+use Rattle.just_attributed_items.specs.Rules.{names_of}
 use Rattle.just_attributed_items.proofs.Differ.{distinct_so}
 use Rattle.just_attributed_items.proofs.bare.bare_recipe.Goals as goal
 

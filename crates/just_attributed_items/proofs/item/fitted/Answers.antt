@@ -4,7 +4,7 @@ use Rattle.std.proofs.lemmas.Result.{err_from_is_err_and}
 use Rattle.just_tree.specs.Files.{item_shape, kind_of}
 use Rattle.just_expressions.proofs.Together.{both_given, second_refused}
 use Rattle.just_attribute_lines.specs.Seen.{read_shapes}
-use Rattle.just_parameter_options.specs.Options.{GivesOrRefuses}
+use Rattle.just_attributed_items.specs.Options.{GivesOrRefuses}
 use Rattle.just_attributed_items.specs.Fitting.{known, name_of}
 use Rattle.just_attributed_items.specs.declared.bare.ItemRead.{ItemRead}
 use Rattle.just_attributed_items.specs.declared.item.PartsRead.{PartsRead}

@@ -1,6 +1,6 @@
 -- A recipe is the same but for the options of its parameters.
 use Rattle.std.proofs.Common.{refl}
-use Rattle.just_attributed_items.proofs.Options.{same_cooked, same_length, same_numbers, same_shapes}
+use Rattle.just_attributed_items.proofs.GivenOptions.{same_cooked, same_length, same_numbers, same_shapes}
 use Rattle.just_attributed_items.proofs.Reordered.{distinct_if_fits, options_alike}
 use Rattle.just_attributed_items.proofs.trees.recipe_with.Goals as goal
 

@@ -1,8 +1,8 @@
 -- What the loops have written so far, and what falls from call to call.
 use Rattle.std.proofs.Common.{◌≡◌, ℕ, ◌+◌, ◌*◌, max, List, ◌++◌, drop}
 use Rattle.std.specs.Fmt.{HasWritten, IsPlainFormatter}
-use Rattle.just_expression_tree.specs.Printing.{text_of_others, text_of_holes}
-use Rattle.just_expression_tree.specs.Shape.{shapes_of, holes_of}
+use Rattle.just_expression_tree.specs.Printing.{text_of_others, text_of_interpolations}
+use Rattle.just_expression_tree.specs.Shape.{shapes_of, interpolations_of}
 use Rattle.just_expression_tree.specs.declared.expression.Expression.{size-Expression}
 use Rattle.just_expression_tree.proofs.printing.+print.Given as goal
 
@@ -11,10 +11,10 @@ invariant-print_all-loop-other g l =
     IsPlainFormatter l.initial.f → (done : List ℕ) × HasWritten g.W.Write.write_str_gives l.initial.f done l.f
     × (done ++ text_of_others (shapes_of (drop l.other-index l.others)) ≡ text_of_others (shapes_of l.others))
 
-abbrev pub invariant-print_holes-loop-expression : goal.invariant-print_holes-loop-expression
-invariant-print_holes-loop-expression g l =
+abbrev pub invariant-print_interpolations-loop-expression : goal.invariant-print_interpolations-loop-expression
+invariant-print_interpolations-loop-expression g l =
     IsPlainFormatter l.initial.f → (done : List ℕ) × HasWritten g.W.Write.write_str_gives l.initial.f done l.f
-    × (done ++ text_of_holes (holes_of (drop l.expression-index l.holes)) ≡ text_of_holes (holes_of l.holes))
+    × (done ++ text_of_interpolations (interpolations_of (drop l.expression-index l.interpolations)) ≡ text_of_interpolations (interpolations_of l.interpolations))
 
 abbrev pub decreases-print : goal.decreases-print
 decreases-print g l = 6 * goal.size-print g l
@@ -40,5 +40,5 @@ decreases-print_row g l = 6 * goal.size-print_row g l + 3
 abbrev pub decreases-print_all : goal.decreases-print_all
 decreases-print_all g l = 6 * goal.size-print_all g l + 2
 
-abbrev pub decreases-print_holes : goal.decreases-print_holes
-decreases-print_holes g l = 6 * goal.size-print_holes g l + 2
+abbrev pub decreases-print_interpolations : goal.decreases-print_interpolations
+decreases-print_interpolations g l = 6 * goal.size-print_interpolations g l + 2

@@ -2,7 +2,7 @@
 use Rattle.std.proofs.Common.{◌≡◌, ℕ, suc, ◌<◌, List, [], length}
 use Rattle.just_text.specs.Tokens.{word_of}
 use Rattle.just_expressions.specs.Reading.{ahead}
-use Rattle.just_recipes.specs.RecipeSeen.{HasNames}
+use Rattle.just_recipes.specs.Seen.{HasNames}
 use Rattle.just_items.specs.Numbered.{AreNext, parameter_numbers}
 use Rattle.just_items.specs.Reading.{names_at}
 use Rattle.just_items.proofs.Parameters.{behind}

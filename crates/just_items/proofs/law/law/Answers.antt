@@ -2,7 +2,7 @@
 use Rattle.just_text.specs.Tokens.{Word, word_of}
 use Rattle.just_expressions.specs.Literals.{Expansion}
 use Rattle.just_expressions.specs.Laws.{Exactly}
-use Rattle.just_recipes.specs.RecipeLaws.{EolsExactly, PathsExactly}
+use Rattle.just_recipes.specs.Laws.{EolsExactly, PathsExactly}
 use Rattle.just_items.specs.Laws.{ItemsExactly}
 use Rattle.just_items.proofs.Found.{found}
 use Rattle.just_items.proofs.Again.{again}

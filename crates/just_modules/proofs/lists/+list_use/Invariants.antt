@@ -18,5 +18,5 @@ decreases-in_optional l = 4 * goal.size-in_optional l + 1
 abbrev pub decreases-in_row : goal.decreases-in_row
 decreases-in_row l = 4 * goal.size-in_row l + 1
 
-abbrev pub decreases-in_holes : goal.decreases-in_holes
-decreases-in_holes l = 4 * goal.size-in_holes l + 1
+abbrev pub decreases-in_interpolations : goal.decreases-in_interpolations
+decreases-in_interpolations l = 4 * goal.size-in_interpolations l + 1

@@ -1,6 +1,6 @@
 use Rattle.std.proofs.Common.{sym, ap, ◌∙◌, map}
 use Rattle.std.proofs.lemmas.Result.{err_from_is_err_and}
-use Rattle.just_plain.specs.Shape.{recipe_shape}
+use Rattle.justfile_syntax.specs.PlainShapes.{recipe_shape}
 use Rattle.just_plain_run.proofs.Checked.{told_extra, stands}
 use Rattle.just_plain_run.proofs.checks.check.Goals as goal
 

@@ -1,8 +1,8 @@
 use Rattle.std.proofs.Common.{sym, ap, ◌∙◌, map}
 use Rattle.std.specs.List.{list_any}
 use Rattle.std.proofs.lemmas.Result.{err_from_is_err_and}
-use Rattle.just_plain.specs.declared.ast.Recipe.{Recipe}
-use Rattle.just_plain.specs.Shape.{recipe_shape, line_text, RecipeShape}
+use Rattle.justfile_syntax.specs.declared.plain_files.ast.Recipe.{Recipe}
+use Rattle.justfile_syntax.specs.PlainShapes.{recipe_shape, line_text, RecipeShape}
 use Rattle.just_plain_run.specs.Rules.{is_extra}
 use Rattle.just_plain_run.proofs.Checked.{any_mapped}
 use Rattle.just_plain_run.proofs.checks.check_bodies.Goals as goal

@@ -1,5 +1,5 @@
 use Rattle.std.proofs.Common.{◌≡◌, false, map, take}
-use Rattle.just_plain.specs.Shape.{recipe_shape}
+use Rattle.justfile_syntax.specs.PlainShapes.{recipe_shape}
 use Rattle.just_plain_run.specs.Rules.{has_extra}
 use Rattle.just_plain_run.proofs.checks.check_bodies.Given as goal
 

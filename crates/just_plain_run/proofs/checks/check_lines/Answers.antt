@@ -1,5 +1,5 @@
 use Rattle.std.proofs.Common.{sym, ap, ◌∙◌}
-use Rattle.just_plain.specs.Shape.{line_text, text_or_empty}
+use Rattle.justfile_syntax.specs.PlainShapes.{line_text, text_or_empty}
 use Rattle.just_plain_run.specs.Rules.{is_extra}
 use Rattle.just_plain_run.proofs.Checked.{any_mapped}
 use Rattle.just_plain_run.proofs.checks.check_lines.Goals as goal

@@ -1,6 +1,6 @@
 use Rattle.std.proofs.Common.{◌≡◌, false, map, take}
 use Rattle.std.specs.List.{list_any}
-use Rattle.just_plain.specs.Shape.{line_text}
+use Rattle.justfile_syntax.specs.PlainShapes.{line_text}
 use Rattle.just_plain_run.specs.Rules.{is_extra}
 use Rattle.just_plain_run.proofs.checks.check_lines.Given as goal
 

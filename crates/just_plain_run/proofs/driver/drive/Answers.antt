@@ -1,6 +1,6 @@
 use Rattle.std.proofs.Common.{◌≡◌, sym, subst}
 use Rattle.std.proofs.lemmas.Result.{err_from_is_err_and}
-use Rattle.just_plain.specs.Shape.{shape_of}
+use Rattle.justfile_syntax.specs.PlainShapes.{shape_of}
 use Rattle.just_plain_run.specs.Inputs.{Inputs, given, inputs_of, reader_of}
 use Rattle.just_plain_run.specs.Drives.{verdict, NamesBroken}
 use Rattle.just_plain_run.specs.Stages.{IsRead, IsTold}

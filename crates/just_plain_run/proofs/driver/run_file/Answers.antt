@@ -1,7 +1,7 @@
 use Rattle.std.proofs.Common.{◌≡◌, ◌<◌, List, map, length, sym, ap, subst, ◌∙◌}
 use Rattle.std.specs.List.{All}
 use Rattle.std.proofs.lemmas.Result.{err_from_is_err_and}
-use Rattle.just_plain.specs.Shape.{RecipeShape, recipe_shape}
+use Rattle.justfile_syntax.specs.PlainShapes.{RecipeShape, recipe_shape}
 use Rattle.just_plain_run.specs.Setup.{setup_of}
 use Rattle.just_plain_run.specs.Order.{planned_shape, name_at, IsOrder}
 use Rattle.just_plain_run.specs.Inputs.{invoked}

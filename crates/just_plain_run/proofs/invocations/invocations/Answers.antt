@@ -1,6 +1,6 @@
 use Rattle.std.proofs.Common.{◌≡◌, ◌<◌, map, length, sym, subst, ◌∙◌}
 use Rattle.std.specs.List.{All}
-use Rattle.just_plain.specs.Shape.{recipe_shape}
+use Rattle.justfile_syntax.specs.PlainShapes.{recipe_shape}
 use Rattle.just_plain_run.specs.Inputs.{Inputs, invoked}
 use Rattle.just_plain_run.specs.Order.{name_at}
 use Rattle.just_plain_run.specs.Rules.{Rule, Broken}

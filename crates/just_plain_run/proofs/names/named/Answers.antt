@@ -1,7 +1,7 @@
 -- One more recipe has its place, or its name stands earlier.
 use Rattle.std.proofs.Common.{sym, ◌∙◌, ap, subst, arith, map}
 use Rattle.std.proofs.lemmas.List.{length-map}
-use Rattle.just_plain.specs.Shape.{recipe_shape, name_text}
+use Rattle.justfile_syntax.specs.PlainShapes.{recipe_shape, name_text}
 use Rattle.just_plain_run.specs.Names.{place_named, AreListed, IsSet}
 use Rattle.just_plain_run.proofs.Places.{get_viewed, none_from_test, some_from_test}
 use Rattle.just_plain_run.proofs.Listing.{listed_none, listed_more, listed_again}

@@ -1,5 +1,5 @@
 use Rattle.std.proofs.Common.{map}
-use Rattle.just_plain.specs.Shape.{recipe_shape}
+use Rattle.justfile_syntax.specs.PlainShapes.{recipe_shape}
 use Rattle.just_plain_run.specs.Names.{AreListed, place_named}
 use Rattle.just_plain_run.proofs.names.named.Given as goal
 

@@ -1,7 +1,7 @@
 -- One more row.
 use Rattle.std.proofs.Common.{◌+◌, sym, ◌∙◌, ap, subst, map}
 use Rattle.std.proofs.lemmas.List.{map_push}
-use Rattle.just_plain.specs.Shape.{recipe_shape}
+use Rattle.justfile_syntax.specs.PlainShapes.{recipe_shape}
 use Rattle.just_order.specs.Needs.{rows}
 use Rattle.just_plain_run.specs.Plan.{AreNeeds}
 use Rattle.just_plain_run.proofs.Planning.{needs_more}

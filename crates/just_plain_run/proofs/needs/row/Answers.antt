@@ -3,13 +3,14 @@ use Rattle.std.proofs.Common.{◌≡◌, ◌+◌, ◌∷◌, ◌++◌, [], None,
 use Rattle.std.specs.Prelude.{Contains}
 use Rattle.std.proofs.lemmas.List.{map_more, take_all}
 use Rattle.std.proofs.lemmas.Option.{same_Some}
-use Rattle.just_plain.specs.Shape.{recipe_shape, name_text}
+use Rattle.justfile_syntax.specs.PlainShapes.{recipe_shape, name_text}
 use Rattle.just_plain_run.specs.Names.{place_named}
 use Rattle.just_plain_run.specs.Plan.{AreAt}
-use Rattle.just_plain_run.proofs.Places.{contains_at, get_viewed}
+use Rattle.just_plain_run.proofs.Places.{get_viewed}
 use Rattle.just_plain_run.proofs.Listing.{unknown_dependency}
 use Rattle.just_plain_run.proofs.Planning.{at_more}
 use Rattle.just_plain_run.proofs.needs.row.Goals as goal
+use Rattle.just_order.proofs.Places.{contains_at}
 
 pub returns-in_default-clause-broken : goal.returns-in_default-clause-broken
 returns-in_default-clause-broken c =

@@ -1,5 +1,5 @@
 use Rattle.std.proofs.Common.{map, take}
-use Rattle.just_plain.specs.Shape.{name_text, recipe_shape}
+use Rattle.justfile_syntax.specs.PlainShapes.{name_text, recipe_shape}
 use Rattle.just_plain_run.specs.Plan.{AreAt}
 use Rattle.just_plain_run.proofs.needs.row.Given as goal
 

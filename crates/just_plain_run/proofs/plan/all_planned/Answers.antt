@@ -2,7 +2,7 @@
 use Rattle.std.proofs.Common.{◌+◌, sym, ◌∙◌, ap, subst, map, get_or}
 use Rattle.std.proofs.lemmas.List.{map_push}
 use Rattle.std.proofs.lemmas.Option.{slice_get-get_or}
-use Rattle.just_plain.specs.Shape.{recipe_shape}
+use Rattle.justfile_syntax.specs.PlainShapes.{recipe_shape}
 use Rattle.just_order.specs.Needs.{rows}
 use Rattle.just_plain_run.specs.Order.{planned_shape}
 use Rattle.just_plain_run.specs.Plan.{ArePlanned}

@@ -1,7 +1,7 @@
 -- One more name.
 use Rattle.std.proofs.Common.{◌∷◌, ◌++◌, [], sym, ◌∙◌, ap, map, take, get_or}
 use Rattle.std.proofs.lemmas.List.{map_push, map_more}
-use Rattle.just_plain.specs.Shape.{recipe_shape, name_text}
+use Rattle.justfile_syntax.specs.PlainShapes.{recipe_shape, name_text}
 use Rattle.just_plain_run.specs.Plan.{name_in, named_or_empty}
 use Rattle.just_plain_run.proofs.Places.{get_viewed}
 use Rattle.just_plain_run.proofs.plan.names_at.Goals as goal

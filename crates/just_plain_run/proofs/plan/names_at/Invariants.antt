@@ -1,5 +1,5 @@
 use Rattle.std.proofs.Common.{◌≡◌, map, take}
-use Rattle.just_plain.specs.Shape.{name_text, recipe_shape}
+use Rattle.justfile_syntax.specs.PlainShapes.{name_text, recipe_shape}
 use Rattle.just_plain_run.specs.Plan.{name_in}
 use Rattle.just_plain_run.proofs.plan.names_at.Given as goal
 

@@ -1,7 +1,7 @@
 -- A circle of places is one of names.
 use Rattle.std.proofs.Common.{◌<◌, sym, ◌∙◌, ap, subst, map, length}
 use Rattle.std.specs.List.{All}
-use Rattle.just_plain.specs.Shape.{recipe_shape}
+use Rattle.justfile_syntax.specs.PlainShapes.{recipe_shape}
 use Rattle.just_order.specs.Needs.{rows}
 use Rattle.just_order.specs.Needs as places
 use Rattle.just_order.specs.Order.{IsReason}

@@ -3,7 +3,7 @@ use Rattle.std.proofs.Common.{◌<◌, sym, ◌∙◌, ap, subst, map, length, a
 use Rattle.std.specs.Prelude.{slice_get}
 use Rattle.std.specs.List.{All}
 use Rattle.std.proofs.lemmas.List.{length-map}
-use Rattle.just_plain.specs.Shape.{recipe_shape}
+use Rattle.justfile_syntax.specs.PlainShapes.{recipe_shape}
 use Rattle.just_plain_run.proofs.Places.{get_viewed}
 use Rattle.just_plain_run.proofs.Planning.{row_at, row_within, needs_of_all}
 use Rattle.just_plain_run.proofs.plan.planned_at.Goals as goal

@@ -1,7 +1,7 @@
 -- An order of places is one of recipes.
 use Rattle.std.proofs.Common.{◌≡◌, sym, subst, map, length}
 use Rattle.std.proofs.lemmas.List.{length-map}
-use Rattle.just_plain.specs.Shape.{recipe_shape}
+use Rattle.justfile_syntax.specs.PlainShapes.{recipe_shape}
 use Rattle.just_order.specs.Needs.{rows}
 use Rattle.just_plain_run.specs.Order.{planned_shape}
 use Rattle.just_plain_run.specs.Plan.{AreRanks, ArePlanned}

@@ -4,10 +4,10 @@ use Rattle.std.proofs.lemmas.Result.{err_from_is_err_and}
 use Rattle.just_recipes.specs.Numbering.{AreUsed}
 use Rattle.just_tree.specs.declared.ast.Item.{Item}
 use Rattle.just_tree.specs.Files.{item_shapes}
-use Rattle.just_plain.specs.Shape.{shape_of}
-use Rattle.just_plain.specs.declared.ast.Ast.{Ast as PlainAst}
+use Rattle.justfile_syntax.specs.PlainShapes.{shape_of}
+use Rattle.justfile_syntax.specs.declared.plain_files.ast.Ast.{Ast as PlainAst}
 use Rattle.std.specs.declared.alloc.AllocError.{AllocError}
-use Rattle.just_plain.specs.Plain.{plain_of}
+use Rattle.justfile_syntax.specs.Plain.{plain_of}
 use Rattle.just_plain_run.specs.Inputs.{Inputs, given, reader_of}
 use Rattle.just_plain_run.specs.Drives.{verdict}
 use Rattle.just_plain_run.specs.Stages.{IsRoot}

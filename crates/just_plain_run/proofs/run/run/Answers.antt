@@ -2,7 +2,7 @@ use Rattle.std.proofs.Common.{◌≡◌, ◌∷◌, [], true, false, Some, map, 
 use Rattle.std.proofs.lemmas.Result.{err_from_is_err_and}
 use Rattle.std.proofs.lemmas.List.{nil_from_length, length-replicate}
 use Rattle.std.proofs.lemmas.List.Elements.{recursion_from_All}
-use Rattle.just_plain.specs.Shape.{name_text, line_text}
+use Rattle.justfile_syntax.specs.PlainShapes.{name_text, line_text}
 use Rattle.just_plain_run.specs.Setup.{setup_of}
 use Rattle.just_plain_run.specs.Goes.{Lines, Runs}
 use Rattle.just_plain_run.specs.Order.{planned_shape, name_at}

@@ -1,5 +1,5 @@
 use Rattle.std.proofs.Common.{◌≡◌, false, map, length, List}
-use Rattle.just_plain.specs.Shape.{RecipeShape}
+use Rattle.justfile_syntax.specs.PlainShapes.{RecipeShape}
 use Rattle.just_plain_run.specs.Setup.{setup_of}
 use Rattle.just_plain_run.specs.Order.{IsOrder, planned_shape, name_at}
 use Rattle.just_plain_run.proofs.Growth.{Some_piece}

@@ -1,5 +1,5 @@
 use Rattle.std.proofs.Common.{arith, map}
-use Rattle.just_plain.specs.Shape.{line_text, name_text}
+use Rattle.justfile_syntax.specs.PlainShapes.{line_text, name_text}
 use Rattle.just_plain_run.specs.Setup.{setup_of}
 use Rattle.just_plain_run.specs.Goes.{LineGoes, Lines}
 use Rattle.std.proofs.lemmas.Result.{err_from_is_err_and}

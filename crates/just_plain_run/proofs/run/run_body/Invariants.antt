@@ -1,5 +1,5 @@
 use Rattle.std.proofs.Common.{◌≡◌, false, drop, map, List, Option}
-use Rattle.just_plain.specs.Shape.{line_text, name_text}
+use Rattle.justfile_syntax.specs.PlainShapes.{line_text, name_text}
 use Rattle.just_plain_run.specs.Goes.{Lines, Failure}
 use Rattle.just_plain_run.specs.Setup.{setup_of}
 use Rattle.just_host.specs.declared.entry.Entry.{Entry}

@@ -2,7 +2,7 @@
 use Rattle.std.proofs.Common.{◌≡◌, ◌∙◌, sym, Some, None}
 use Rattle.just_text.specs.Tokens.{word_of}
 use Rattle.just_expressions.specs.Reading.{ahead}
-use Rattle.just_recipes.specs.RecipeSeen.{blank_line_at}
+use Rattle.just_recipes.specs.Seen.{blank_line_at}
 use Rattle.just_recipes.proofs.BlankLines.{blank_line_shorter, one_less, none_less}
 use Rattle.just_recipes.proofs.body.blank_lines.Goals as goal
 

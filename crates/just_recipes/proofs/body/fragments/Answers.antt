@@ -5,7 +5,7 @@ use Rattle.just_text.specs.Tokens.{word_of}
 use Rattle.just_tree.specs.Lines.{piece_of}
 use Rattle.just_expressions.specs.Reading.{ahead}
 use Rattle.just_recipes.specs.Cooked.{IsFragmentCooked}
-use Rattle.just_recipes.specs.RecipeReading.{piece_at, pieces_at}
+use Rattle.just_recipes.specs.Reading.{piece_at, pieces_at}
 use Rattle.just_recipes.proofs.Shrinks.{piece_shrinks}
 use Rattle.just_recipes.proofs.Turns.{all_more, all_none, nothing_before, item_fails, one_more, none_left}
 use Rattle.just_recipes.proofs.body.fragments.Goals as goal

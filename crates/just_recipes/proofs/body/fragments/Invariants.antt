@@ -3,7 +3,7 @@ use Rattle.just_text.specs.Tokens.{word_of}
 use Rattle.just_tree.specs.Lines.{piece_of}
 use Rattle.just_expressions.specs.Reading.{ahead}
 use Rattle.just_recipes.specs.Cooked.{AreFragmentsCooked}
-use Rattle.just_recipes.specs.RecipeReading.{while_some, piece_at, pieces_at}
+use Rattle.just_recipes.specs.Reading.{while_some, piece_at, pieces_at}
 use Rattle.just_recipes.proofs.Turns.{before}
 use Rattle.just_recipes.proofs.body.fragments.Given as goal
 

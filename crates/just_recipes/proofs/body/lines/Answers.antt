@@ -6,10 +6,11 @@ use Rattle.just_text.specs.declared.token_kind.TokenKind.TheVariants.{Dedent}
 use Rattle.just_tree.specs.Lines.{pieces_of}
 use Rattle.just_expressions.specs.Reading.{ahead, accept, Fails}
 use Rattle.just_recipes.specs.Cooked.{IsLineCooked}
-use Rattle.just_recipes.specs.RecipeReading.{line_at, lines_at}
+use Rattle.just_recipes.specs.Reading.{line_at, lines_at}
 use Rattle.just_recipes.proofs.Shrinks.{line_shorter}
-use Rattle.just_recipes.proofs.Turns.{all_more, all_none, nothing_before, fails, goes_on, at_end, taken}
+use Rattle.just_recipes.proofs.Turns.{all_more, all_none, nothing_before, fails, goes_on, at_end}
 use Rattle.just_recipes.proofs.body.lines.Goals as goal
+use Rattle.just_expressions.proofs.Elements.{taken}
 
 pub loop-alloc-init : goal.loop-alloc-init
 unfolding lines_at

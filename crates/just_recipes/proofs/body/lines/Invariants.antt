@@ -4,7 +4,7 @@ use Rattle.just_text.specs.declared.token_kind.TokenKind.TheVariants.{Dedent}
 use Rattle.just_tree.specs.Lines.{pieces_of}
 use Rattle.just_expressions.specs.Reading.{ahead}
 use Rattle.just_recipes.specs.Cooked.{IsBodyCooked}
-use Rattle.just_recipes.specs.RecipeReading.{until, line_at, lines_at}
+use Rattle.just_recipes.specs.Reading.{until, line_at, lines_at}
 use Rattle.just_recipes.proofs.Turns.{before}
 use Rattle.just_recipes.proofs.body.lines.Given as goal
 

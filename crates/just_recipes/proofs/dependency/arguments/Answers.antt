@@ -3,7 +3,7 @@ use Rattle.std.proofs.Common.{◌≡◌, ◌∙◌, true, false, refl, arith}
 use Rattle.std.specs.Prelude.{nat_lt}
 use Rattle.just_tree.specs.Recipes.{argument_shapes}
 use Rattle.just_recipes.specs.Headers.{stars}
-use Rattle.just_recipes.specs.RecipeReading.{arguments_at}
+use Rattle.just_recipes.specs.Reading.{arguments_at}
 use Rattle.just_recipes.proofs.Stars.{at_most_one, more_than_one, stars_is}
 use Rattle.just_recipes.proofs.dependency.arguments.Goals as goal
 

@@ -6,10 +6,11 @@ use Rattle.just_text.specs.declared.token_kind.TokenKind.TheVariants.{ParenR}
 use Rattle.just_tree.specs.Recipes.{argument_shape}
 use Rattle.just_expressions.specs.Reading.{ahead, accept, Fails}
 use Rattle.just_recipes.specs.Cooked.{IsArgumentCooked}
-use Rattle.just_recipes.specs.RecipeReading.{argument_at}
+use Rattle.just_recipes.specs.Reading.{argument_at}
 use Rattle.just_recipes.proofs.Shrinks.{argument_shorter}
-use Rattle.just_recipes.proofs.Turns.{all_more, all_none, nothing_before, fails, goes_on, at_end, taken}
+use Rattle.just_recipes.proofs.Turns.{all_more, all_none, nothing_before, fails, goes_on, at_end}
 use Rattle.just_recipes.proofs.dependency.arguments_to_end.Goals as goal
+use Rattle.just_expressions.proofs.Elements.{taken}
 
 pub loop-arguments-init : goal.loop-arguments-init
 loop-arguments-init g c =

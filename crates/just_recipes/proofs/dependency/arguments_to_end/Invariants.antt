@@ -4,7 +4,7 @@ use Rattle.just_text.specs.declared.token_kind.TokenKind.TheVariants.{ParenR}
 use Rattle.just_tree.specs.Recipes.{argument_shape}
 use Rattle.just_expressions.specs.Reading.{ahead}
 use Rattle.just_recipes.specs.Cooked.{AreArgumentsCooked}
-use Rattle.just_recipes.specs.RecipeReading.{until, argument_at}
+use Rattle.just_recipes.specs.Reading.{until, argument_at}
 use Rattle.just_recipes.proofs.Turns.{before}
 use Rattle.just_recipes.proofs.dependency.arguments_to_end.Given as goal
 

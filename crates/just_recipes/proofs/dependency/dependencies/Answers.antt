@@ -5,7 +5,7 @@ use Rattle.just_text.specs.Tokens.{word_of}
 use Rattle.just_tree.specs.Recipes.{dependency_shape}
 use Rattle.just_expressions.specs.Reading.{ahead}
 use Rattle.just_recipes.specs.Cooked.{IsDependencyCooked}
-use Rattle.just_recipes.specs.RecipeReading.{dependency_at, dependencies_at}
+use Rattle.just_recipes.specs.Reading.{dependency_at, dependencies_at}
 use Rattle.just_recipes.proofs.Shrinks.{dependency_shrinks}
 use Rattle.just_recipes.proofs.Turns.{all_more, all_none, nothing_before, item_fails, one_more, none_left}
 use Rattle.just_recipes.proofs.dependency.dependencies.Goals as goal

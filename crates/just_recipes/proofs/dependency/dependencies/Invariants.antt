@@ -3,7 +3,7 @@ use Rattle.just_text.specs.Tokens.{word_of}
 use Rattle.just_tree.specs.Recipes.{dependency_shape}
 use Rattle.just_expressions.specs.Reading.{ahead}
 use Rattle.just_recipes.specs.Cooked.{AreDependenciesCooked}
-use Rattle.just_recipes.specs.RecipeReading.{while_some, dependency_at, dependencies_at}
+use Rattle.just_recipes.specs.Reading.{while_some, dependency_at, dependencies_at}
 use Rattle.just_recipes.proofs.Turns.{before}
 use Rattle.just_recipes.proofs.dependency.dependencies.Given as goal
 

@@ -4,7 +4,7 @@ use Rattle.just_text.specs.Tokens.{word_of}
 use Rattle.just_text.specs.declared.token_kind.TokenKind.TheVariants.{Dollar, Identifier}
 use Rattle.just_tree.specs.Recipes.{is_variadic}
 use Rattle.just_expressions.specs.Reading.{ahead, is_next}
-use Rattle.just_recipes.specs.RecipeReading.{marked_at}
+use Rattle.just_recipes.specs.Reading.{marked_at}
 use Rattle.just_recipes.proofs.Marks.{no_parameter}
 use Rattle.just_recipes.proofs.parameter.parameter.Goals as goal
 

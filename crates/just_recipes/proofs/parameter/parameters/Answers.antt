@@ -6,8 +6,8 @@ use Rattle.just_tree.specs.Recipes.{is_variadic}
 use Rattle.just_expressions.specs.Reading.{ahead}
 use Rattle.just_recipes.specs.Cooked.{IsParameterCooked}
 use Rattle.just_recipes.specs.Plain.{IsPlain}
-use Rattle.just_recipes.specs.RecipeReading.{parameter_at}
-use Rattle.just_recipes.specs.RecipeSeen.{named_shape}
+use Rattle.just_recipes.specs.Reading.{parameter_at}
+use Rattle.just_recipes.specs.Seen.{named_shape}
 use Rattle.just_recipes.proofs.ParameterTurns.{start, item_fails, none_left, name_fails, last_fails, is_last, goes_on, numbered}
 use Rattle.just_recipes.proofs.Turns.{all_more}
 use Rattle.just_recipes.proofs.Shrinks.{parameter_shrinks}

@@ -5,8 +5,8 @@ use Rattle.just_expressions.specs.Reading.{ahead}
 use Rattle.just_recipes.specs.Numbering.{AreNumbered}
 use Rattle.just_recipes.specs.Cooked.{AreParametersCooked}
 use Rattle.just_recipes.specs.Plain.{ArePlain}
-use Rattle.just_recipes.specs.RecipeReading.{parameters_at}
-use Rattle.just_recipes.specs.RecipeSeen.{HasNames}
+use Rattle.just_recipes.specs.Reading.{parameters_at}
+use Rattle.just_recipes.specs.Seen.{HasNames}
 use Rattle.just_recipes.proofs.Turns.{before}
 use Rattle.just_recipes.proofs.parameter.parameters.Given as goal
 

@@ -6,8 +6,8 @@ use Rattle.just_text.specs.declared.token_kind.TokenKind.TheVariants.{ColonColon
 use Rattle.just_expressions.specs.Reading.{ahead, accept}
 use Rattle.just_expressions.proofs.Shorter.{accept_shorter, expect_shorter}
 use Rattle.just_recipes.proofs.Paths.{no_first, first_name, one_more, no_name, at_end}
-use Rattle.just_recipes.proofs.Turns.{taken}
 use Rattle.just_recipes.proofs.path.namepath.Goals as goal
+use Rattle.just_expressions.proofs.Elements.{taken}
 
 pub returns-in_err-first : goal.returns-in_err-first
 returns-in_err-first c =

@@ -1,7 +1,7 @@
 use Rattle.std.proofs.Common.{◌≡◌, ℕ, suc, ◌<◌, length}
 use Rattle.just_text.specs.Tokens.{word_of}
 use Rattle.just_expressions.specs.Reading.{ahead}
-use Rattle.just_recipes.specs.RecipeReading.{names_at}
+use Rattle.just_recipes.specs.Reading.{names_at}
 use Rattle.just_recipes.proofs.Paths.{name_text, others_at}
 use Rattle.just_recipes.proofs.Turns.{before}
 use Rattle.just_recipes.proofs.path.namepath.Given as goal

@@ -2,16 +2,16 @@
 use Rattle.std.proofs.Common.{◌≡◌, ◌+◌, ◌*◌, max, ◌++◌, take}
 use Rattle.std.specs.List.{flat_map}
 use Rattle.just_expression_tree.specs.declared.expression.Expression.{size-Expression}
-use Rattle.just_references.specs.References.{references_of, references_in_hole}
+use Rattle.just_references.specs.References.{references_of, references_in_interpolation}
 use Rattle.just_references.proofs.references.+references.Given as goal
 
 abbrev pub invariant-push_row-loop-expression : goal.invariant-push_row-loop-expression
 invariant-push_row-loop-expression l =
     l.found.items ≡ l.initial.found.items ++ flat_map references_of (take l.expression-index l.expressions)
 
-abbrev pub invariant-push_holes-loop-expression : goal.invariant-push_holes-loop-expression
-invariant-push_holes-loop-expression l =
-    l.found.items ≡ l.initial.found.items ++ flat_map references_in_hole (take l.expression-index l.holes)
+abbrev pub invariant-push_interpolations-loop-expression : goal.invariant-push_interpolations-loop-expression
+invariant-push_interpolations-loop-expression l =
+    l.found.items ≡ l.initial.found.items ++ flat_map references_in_interpolation (take l.expression-index l.interpolations)
 
 abbrev pub decreases-push : goal.decreases-push
 decreases-push l = 4 * goal.size-push l
@@ -28,5 +28,5 @@ decreases-push_call l = 4 * goal.size-push_call l + 2
 abbrev pub decreases-push_row : goal.decreases-push_row
 decreases-push_row l = 4 * goal.size-push_row l + 1
 
-abbrev pub decreases-push_holes : goal.decreases-push_holes
-decreases-push_holes l = 4 * goal.size-push_holes l + 1
+abbrev pub decreases-push_interpolations : goal.decreases-push_interpolations
+decreases-push_interpolations l = 4 * goal.size-push_interpolations l + 1

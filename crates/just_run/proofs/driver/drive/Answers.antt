@@ -2,7 +2,7 @@ use Rattle.std.proofs.Common.{◌≡◌, sym, subst}
 use Rattle.std.proofs.lemmas.Result.{err_from_is_err_and}
 use Rattle.std.specs.Option.{option_map}
 use Rattle.just_builtins.specs.Laws.{asked_nothing}
-use Rattle.just_plain.specs.Shape.{shape_of}
+use Rattle.justfile_syntax.specs.PlainShapes.{shape_of}
 use Rattle.just_plain_run.specs.Inputs.{given, inputs_of, reader_of}
 use Rattle.just_plain_run.specs.Setup.{setup_of}
 use Rattle.just_plain_run.specs.Drives.{verdict}

@@ -1,5 +1,5 @@
 use Rattle.std.proofs.Common.{◌≡◌, Some, None, option_map, ap, sym, subst}
-use Rattle.just_plain.specs.Shape.{shape_of}
+use Rattle.justfile_syntax.specs.PlainShapes.{shape_of}
 use Rattle.just_plain_run.specs.Stages.{IsRoot}
 use Rattle.just_run.proofs.driver.drive_root.Goals as goal
 

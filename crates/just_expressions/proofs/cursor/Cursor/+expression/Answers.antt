@@ -13,7 +13,7 @@ use Rattle.just_expressions.specs.Operators.{right_rank}
 use Rattle.just_expressions.specs.Seen.{operator_seen, prefix_seen}
 use Rattle.just_expressions.proofs.Cooked.{call_cooked, listing_cooked}
 use Rattle.just_expressions.proofs.Elements.{no_element, no_close, is_last, goes_on, at_end, element_shorter, one_more_cooked, taken}
-use Rattle.just_expressions.proofs.Interpolations.{no_hole, no_part, is_last_hole, more_holes, hole_shorter, one_more_hole_cooked}
+use Rattle.just_expressions.proofs.Interpolations.{no_interpolation, no_part, is_last_interpolation, more_interpolations, interpolation_shorter, one_more_interpolation_cooked}
 use Rattle.just_expressions.proofs.Formats.{format_closed, format_open, format_fails}
 use Rattle.just_expressions.proofs.Operands.{operand_fails, prefixed_read, left_fails, left_alone, right_fails, both_read}
 use Rattle.just_expressions.proofs.Together.{both_given, second_refused}
@@ -108,7 +108,7 @@ format_string-returns-then-is_open-clause-gives g t c =
     let x = g.E.Expander.expansion c.args.expander.now in
     let same : c.of_lexeme-kind.result ≡ kind_of (lexeme c.args.token) = c.of_lexeme-kind.ensures ∙ ap kind_of c.lexeme.ensures in
     let goes : is_open (lexeme c.args.token) ≡ true = ap is_open (sym c.lexeme-2.ensures) ∙ sym c.is_open.ensures ∙ c.if-is_open.true in
-    format_open x c.args.levels c.args.token (ahead c.args.self.now) c.in_ok-start.start c.of_lexeme-kind.result same c.in_ok-start.ensures.gives c.in_ok-start.ensures.token c.in_ok-expressions.expressions (ahead c.holes.new.self) goes c.in_ok-expressions.ensures.gives
+    format_open x c.args.levels c.args.token (ahead c.args.self.now) c.in_ok-start.start c.of_lexeme-kind.result same c.in_ok-start.ensures.gives c.in_ok-start.ensures.token c.in_ok-expressions.expressions (ahead c.interpolations.new.self) goes c.in_ok-expressions.ensures.gives
 
 pub format_string-returns-clause-gives : goal.format_string-returns-clause-gives
 format_string-returns-clause-gives g t c =
@@ -117,53 +117,53 @@ format_string-returns-clause-gives g t c =
     let ends : is_open (lexeme c.args.token) ≡ false = ap is_open (sym c.lexeme-2.ensures) ∙ sym c.is_open.ensures ∙ c.if-is_open.false in
     format_closed x c.args.levels c.args.token (ahead c.args.self.now) c.in_ok-start.start c.of_lexeme-kind.result same c.in_ok-start.ensures.gives c.in_ok-start.ensures.token c.new-expressions.result ends (search rules)
 
-pub holes-returns-in_err-expression-clause-gives : goal.holes-returns-in_err-expression-clause-gives
-holes-returns-in_err-expression-clause-gives g t c =
-    let l = c.loop-holes in
+pub interpolations-returns-in_err-expression-clause-gives : goal.interpolations-returns-in_err-expression-clause-gives
+interpolations-returns-in_err-expression-clause-gives g t c =
+    let l = c.loop-interpolations in
     let x = g.E.Expander.expansion c.args.expander.now in
     let p = err_from_is_err_and c.from_residual.result c.from_residual.ensures.1 in
-    rw (p.1, p.2) (no_hole x c.args.levels c.args.kind l.holes.items l.invariant.0 (ahead l.self) _ l.invariant.1 l.invariant.2 c.in_err-expression.field-0.0 c.in_err-expression.ensures.gives)
+    rw (p.1, p.2) (no_interpolation x c.args.levels c.args.kind l.interpolations.items l.invariant.0 (ahead l.self) _ l.invariant.1 l.invariant.2 c.in_err-expression.field-0.0 c.in_err-expression.ensures.gives)
 
-pub holes-returns-in_err-expression-2-clause-gives : goal.holes-returns-in_err-expression-2-clause-gives
-holes-returns-in_err-expression-2-clause-gives g t c =
-    let l = c.loop-holes in
+pub interpolations-returns-in_err-expression-2-clause-gives : goal.interpolations-returns-in_err-expression-2-clause-gives
+interpolations-returns-in_err-expression-2-clause-gives g t c =
+    let l = c.loop-interpolations in
     let x = g.E.Expander.expansion c.args.expander.now in
     let refused = second_refused c.in_ok-expression.expression c.part.result c.in_err-expression-2.field-0.0 c.in_err-expression-2.ensures in
     let failed : Fails c.in_err-expression-2.field-0.0 (part_at word_of c.args.kind (ahead c.ranked.new.self)) = rw refused at c.part.ensures.gives in
     let p = err_from_is_err_and c.from_residual-in_err-expression-2.result c.from_residual-in_err-expression-2.ensures.1 in
-    rw (p.1, p.2) (no_part x c.args.levels c.args.kind l.holes.items l.invariant.0 (ahead l.self) _ l.invariant.1 l.invariant.2 c.in_ok-expression.expression (ahead c.ranked.new.self) c.in_ok-expression.ensures.gives c.in_err-expression-2.field-0.0 failed)
+    rw (p.1, p.2) (no_part x c.args.levels c.args.kind l.interpolations.items l.invariant.0 (ahead l.self) _ l.invariant.1 l.invariant.2 c.in_ok-expression.expression (ahead c.ranked.new.self) c.in_ok-expression.ensures.gives c.in_err-expression-2.field-0.0 failed)
 
-pub holes-returns-then-not-follows-clause-gives : goal.holes-returns-then-not-follows-clause-gives
-holes-returns-then-not-follows-clause-gives g t c =
-    let l = c.loop-holes in
+pub interpolations-returns-then-not-follows-clause-gives : goal.interpolations-returns-then-not-follows-clause-gives
+interpolations-returns-then-not-follows-clause-gives g t c =
+    let l = c.loop-interpolations in
     let x = g.E.Expander.expansion c.args.expander.now in
     let given = both_given c.in_ok-expression.expression c.part.result (c.in_ok-expression-2.expression, (c.in_ok-expression-2.part, c.in_ok-expression-2.follows)) c.in_ok-expression-2.ensures in
     let last : c.in_ok-expression-2.follows ≡ false = grind arith in
     let any_part : part_at word_of c.args.kind (ahead c.ranked.new.self) ≡ Ok ((written c.in_ok-expression-2.part, c.in_ok-expression-2.follows), ahead c.part.new.self) = rw given.1 at c.part.ensures.gives in
     let part : part_at word_of c.args.kind (ahead c.ranked.new.self) ≡ Ok ((written c.in_ok-expression-2.part, false), ahead c.part.new.self) = rw last at any_part in
-    let pushed : c.push.new.self.items ≡ l.holes.items ++ (c.in_ok-expression-2.expression, c.in_ok-expression-2.part) ∷ [] = search rules in
-    let hole_pushed = pushed ∙ ap (λ (e : Expression). l.holes.items ++ (e, c.in_ok-expression-2.part) ∷ []) given.0 in
-    rw hole_pushed (is_last_hole x c.args.levels c.args.kind l.holes.items l.invariant.0 (ahead l.self) _ l.invariant.1 l.invariant.2 c.in_ok-expression.expression (ahead c.ranked.new.self) c.in_ok-expression-2.part (ahead c.part.new.self) c.in_ok-expression.ensures.gives part)
+    let pushed : c.push.new.self.items ≡ l.interpolations.items ++ (c.in_ok-expression-2.expression, c.in_ok-expression-2.part) ∷ [] = search rules in
+    let interpolation_pushed = pushed ∙ ap (λ (e : Expression). l.interpolations.items ++ (e, c.in_ok-expression-2.part) ∷ []) given.0 in
+    rw interpolation_pushed (is_last_interpolation x c.args.levels c.args.kind l.interpolations.items l.invariant.0 (ahead l.self) _ l.invariant.1 l.invariant.2 c.in_ok-expression.expression (ahead c.ranked.new.self) c.in_ok-expression-2.part (ahead c.part.new.self) c.in_ok-expression.ensures.gives part)
 
-pub holes-returns-then-not-follows-clause-cooked : goal.holes-returns-then-not-follows-clause-cooked
-holes-returns-then-not-follows-clause-cooked g t c =
-    let l = c.loop-holes in
+pub interpolations-returns-then-not-follows-clause-cooked : goal.interpolations-returns-then-not-follows-clause-cooked
+interpolations-returns-then-not-follows-clause-cooked g t c =
+    let l = c.loop-interpolations in
     let given = both_given c.in_ok-expression.expression c.part.result (c.in_ok-expression-2.expression, (c.in_ok-expression-2.part, c.in_ok-expression-2.follows)) c.in_ok-expression-2.ensures in
     let part_cooked : cooked_part c.args.kind (written c.in_ok-expression-2.part) ≡ Ok c.in_ok-expression-2.part.cooked = rw given.1 at c.part.ensures.cooked in
     let of_kind : c.in_ok-expression-2.part.kind ≡ c.args.kind = rw given.1 at c.part.ensures.kind in
-    let pushed : c.push.new.self.items ≡ l.holes.items ++ (c.in_ok-expression-2.expression, c.in_ok-expression-2.part) ∷ [] = search rules in
-    let hole_pushed = pushed ∙ ap (λ (e : Expression). l.holes.items ++ (e, c.in_ok-expression-2.part) ∷ []) given.0 in
-    rw hole_pushed (one_more_hole_cooked (g.E.Expander.expansion c.args.expander.now) c.args.kind l.holes.items c.in_ok-expression.expression c.in_ok-expression-2.part l.invariant.3 c.in_ok-expression.ensures.cooked part_cooked of_kind)
+    let pushed : c.push.new.self.items ≡ l.interpolations.items ++ (c.in_ok-expression-2.expression, c.in_ok-expression-2.part) ∷ [] = search rules in
+    let interpolation_pushed = pushed ∙ ap (λ (e : Expression). l.interpolations.items ++ (e, c.in_ok-expression-2.part) ∷ []) given.0 in
+    rw interpolation_pushed (one_more_interpolation_cooked (g.E.Expander.expansion c.args.expander.now) c.args.kind l.interpolations.items c.in_ok-expression.expression c.in_ok-expression-2.part l.invariant.3 c.in_ok-expression.ensures.cooked part_cooked of_kind)
 
-pub holes-loop-holes-smaller : goal.holes-loop-holes-smaller
-holes-loop-holes-smaller g t c =
+pub interpolations-loop-interpolations-smaller : goal.interpolations-loop-interpolations-smaller
+interpolations-loop-interpolations-smaller g t c =
     let given = both_given c.in_ok-expression.expression c.part.result (c.in_ok-expression-2.expression, (c.in_ok-expression-2.part, c.in_ok-expression-2.follows)) c.in_ok-expression-2.ensures in
     let part : part_at word_of c.args.kind (ahead c.ranked.new.self) ≡ Ok ((written c.in_ok-expression-2.part, c.in_ok-expression-2.follows), ahead c.part.new.self) = rw given.1 at c.part.ensures.gives in
-    hole_shorter (g.E.Expander.expansion c.args.expander.now) c.args.levels c.args.kind c.in_ok-expression.expression (ahead c.loop-holes.self) (ahead c.ranked.new.self) (written c.in_ok-expression-2.part, c.in_ok-expression-2.follows) (ahead c.part.new.self) c.in_ok-expression.ensures.gives part
+    interpolation_shorter (g.E.Expander.expansion c.args.expander.now) c.args.levels c.args.kind c.in_ok-expression.expression (ahead c.loop-interpolations.self) (ahead c.ranked.new.self) (written c.in_ok-expression-2.part, c.in_ok-expression-2.follows) (ahead c.part.new.self) c.in_ok-expression.ensures.gives part
 
-pub holes-loop-holes-preserved : goal.holes-loop-holes-preserved
-holes-loop-holes-preserved g t c =
-    let l = c.loop-holes in
+pub interpolations-loop-interpolations-preserved : goal.interpolations-loop-interpolations-preserved
+interpolations-loop-interpolations-preserved g t c =
+    let l = c.loop-interpolations in
     let x = g.E.Expander.expansion c.args.expander.now in
     let given = both_given c.in_ok-expression.expression c.part.result (c.in_ok-expression-2.expression, (c.in_ok-expression-2.part, c.in_ok-expression-2.follows)) c.in_ok-expression-2.ensures in
     let more : c.in_ok-expression-2.follows ≡ true = grind arith in
@@ -171,10 +171,10 @@ holes-loop-holes-preserved g t c =
     let part : part_at word_of c.args.kind (ahead c.ranked.new.self) ≡ Ok ((written c.in_ok-expression-2.part, true), ahead c.part.new.self) = rw more at any_part in
     let part_cooked : cooked_part c.args.kind (written c.in_ok-expression-2.part) ≡ Ok c.in_ok-expression-2.part.cooked = rw given.1 at c.part.ensures.cooked in
     let of_kind : c.in_ok-expression-2.part.kind ≡ c.args.kind = rw given.1 at c.part.ensures.kind in
-    let less = hole_shorter x c.args.levels c.args.kind c.in_ok-expression.expression (ahead l.self) (ahead c.ranked.new.self) (written c.in_ok-expression-2.part, true) (ahead c.part.new.self) c.in_ok-expression.ensures.gives part in
-    let pushed : c.push.new.self.items ≡ l.holes.items ++ (c.in_ok-expression-2.expression, c.in_ok-expression-2.part) ∷ [] = search rules in
-    let hole_pushed = pushed ∙ ap (λ (e : Expression). l.holes.items ++ (e, c.in_ok-expression-2.part) ∷ []) given.0 in
-    (l.invariant.0 - 1, omega (arith, less, l.invariant.1), rw hole_pushed (more_holes x c.args.levels c.args.kind l.holes.items l.invariant.0 (ahead l.self) _ l.invariant.1 l.invariant.2 c.in_ok-expression.expression (ahead c.ranked.new.self) c.in_ok-expression-2.part (ahead c.part.new.self) c.in_ok-expression.ensures.gives part), rw hole_pushed (one_more_hole_cooked x c.args.kind l.holes.items c.in_ok-expression.expression c.in_ok-expression-2.part l.invariant.3 c.in_ok-expression.ensures.cooked part_cooked of_kind))
+    let less = interpolation_shorter x c.args.levels c.args.kind c.in_ok-expression.expression (ahead l.self) (ahead c.ranked.new.self) (written c.in_ok-expression-2.part, true) (ahead c.part.new.self) c.in_ok-expression.ensures.gives part in
+    let pushed : c.push.new.self.items ≡ l.interpolations.items ++ (c.in_ok-expression-2.expression, c.in_ok-expression-2.part) ∷ [] = search rules in
+    let interpolation_pushed = pushed ∙ ap (λ (e : Expression). l.interpolations.items ++ (e, c.in_ok-expression-2.part) ∷ []) given.0 in
+    (l.invariant.0 - 1, omega (arith, less, l.invariant.1), rw interpolation_pushed (more_interpolations x c.args.levels c.args.kind l.interpolations.items l.invariant.0 (ahead l.self) _ l.invariant.1 l.invariant.2 c.in_ok-expression.expression (ahead c.ranked.new.self) c.in_ok-expression-2.part (ahead c.part.new.self) c.in_ok-expression.ensures.gives part), rw interpolation_pushed (one_more_interpolation_cooked x c.args.kind l.interpolations.items c.in_ok-expression.expression c.in_ok-expression-2.part l.invariant.3 c.in_ok-expression.ensures.cooked part_cooked of_kind))
 
 pub operand-returns-in_err-operand-clause-gives : goal.operand-returns-in_err-operand-clause-gives
 operand-returns-in_err-operand-clause-gives g t c =

@@ -1,10 +1,10 @@
 -- The measures of the parser, and what its loops have read so far.
 use Rattle.std.proofs.Common.{◌≡◌, ℕ, suc, ◌+◌, ◌*◌, ◌<◌, length}
 use Rattle.just_text.specs.Tokens.{word_of}
-use Rattle.just_expressions.specs.Literals.{AreCooked, AreHolesCooked}
-use Rattle.just_expressions.specs.Reading.{ahead, elements_at, holes_at, expression_at}
+use Rattle.just_expressions.specs.Literals.{AreCooked, AreInterpolationsCooked}
+use Rattle.just_expressions.specs.Reading.{ahead, elements_at, interpolations_at, expression_at}
 use Rattle.just_expressions.proofs.Elements.{before}
-use Rattle.just_expressions.proofs.Interpolations.{before_holes}
+use Rattle.just_expressions.proofs.Interpolations.{before_interpolations}
 use Rattle.just_expressions.proofs.cursor.Cursor.+expression.Given as goal
 
 abbrev pub decreases-ranked : goal.decreases-ranked
@@ -49,8 +49,8 @@ decreases-braces g l = 1024 * l.levels + 3
 abbrev pub decreases-elements : goal.decreases-elements
 decreases-elements g l = 1024 * l.levels + 2
 
-abbrev pub decreases-holes : goal.decreases-holes
-decreases-holes g l = 1024 * l.levels + 2
+abbrev pub decreases-interpolations : goal.decreases-interpolations
+decreases-interpolations g l = 1024 * l.levels + 2
 
 abbrev pub invariant-elements-loop-close : goal.invariant-elements-loop-close
 invariant-elements-loop-close g l =
@@ -61,11 +61,11 @@ invariant-elements-loop-close g l =
 abbrev pub decreases-elements-loop-close : goal.decreases-elements-loop-close
 decreases-elements-loop-close g l = length (ahead l.self)
 
-abbrev pub invariant-holes-loop-holes : goal.invariant-holes-loop-holes
-invariant-holes-loop-holes g l =
+abbrev pub invariant-interpolations-loop-interpolations : goal.invariant-interpolations-loop-interpolations
+invariant-interpolations-loop-interpolations g l =
     (n : ℕ) × (length (ahead l.self) < n)
-    × (before_holes l.holes.items (holes_at word_of (g.E.Expander.expansion l.expander) (expression_at word_of (g.E.Expander.expansion l.expander) l.levels) n l.kind (ahead l.self)) ≡ holes_at word_of (g.E.Expander.expansion l.expander) (expression_at word_of (g.E.Expander.expansion l.expander) l.levels) (suc (length (ahead l.fn.self))) l.kind (ahead l.fn.self))
-    × AreHolesCooked (g.E.Expander.expansion l.expander) l.kind l.holes.items
+    × (before_interpolations l.interpolations.items (interpolations_at word_of (g.E.Expander.expansion l.expander) (expression_at word_of (g.E.Expander.expansion l.expander) l.levels) n l.kind (ahead l.self)) ≡ interpolations_at word_of (g.E.Expander.expansion l.expander) (expression_at word_of (g.E.Expander.expansion l.expander) l.levels) (suc (length (ahead l.fn.self))) l.kind (ahead l.fn.self))
+    × AreInterpolationsCooked (g.E.Expander.expansion l.expander) l.kind l.interpolations.items
 
-abbrev pub decreases-holes-loop-holes : goal.decreases-holes-loop-holes
-decreases-holes-loop-holes g l = length (ahead l.self)
+abbrev pub decreases-interpolations-loop-interpolations : goal.decreases-interpolations-loop-interpolations
+decreases-interpolations-loop-interpolations g l = length (ahead l.self)

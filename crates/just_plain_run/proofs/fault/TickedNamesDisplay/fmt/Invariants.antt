@@ -1,7 +1,7 @@
 use Rattle.std.proofs.Common.{take, map}
 use Rattle.std.specs.Fmt.{HasWritten, IsPlainFormatter}
 use Rattle.just_text.specs.Fields.{ticked_more}
-use Rattle.just_plain.specs.Shape.{name_text}
+use Rattle.justfile_syntax.specs.PlainShapes.{name_text}
 use Rattle.just_plain_run.proofs.fault.TickedNamesDisplay.fmt.Given as goal
 
 abbrev pub invariant-loop-name : goal.invariant-loop-name

@@ -1,0 +1,61 @@
+//! Counts what the first word says: the tokens or the items of the text on standard input, or what
+//! comes of lists of texts. benches/lex, benches/parse and benches/values measure it.
+//!
+//! A second word behind `tokens` or `items` is how often it is done (default: once).
+#![tactic(auto)]
+
+mod input;
+mod items;
+mod tokens;
+mod values;
+
+use anyhow::{Context, Result, bail};
+use std::env;
+use std::process::ExitCode;
+
+/// What is counted.
+#[derive(Clone, Copy)]
+enum Counted {
+    Tokens,
+    Items,
+    Values,
+}
+
+/// What the word names, if anything.
+fn find_counted(word: &str) -> Option<Counted> {
+    match word {
+        "tokens" => Some(Counted::Tokens),
+        "items" => Some(Counted::Items),
+        "values" => Some(Counted::Values),
+        _ => None,
+    }
+}
+
+/// What the first word names.
+fn read_counted(rt: &HostRuntime) -> Result<Option<Counted>> {
+    let mut given = env::args(rt).context("could not read the words")?;
+    let _name = given.next();
+    match given.next() {
+        Some(word) => Ok(find_counted(&word)),
+        None => Ok(None),
+    }
+}
+
+fn run(rt: &HostRuntime) -> Result<()> {
+    match read_counted(rt)? {
+        Some(Counted::Tokens) => tokens::run(rt),
+        Some(Counted::Items) => items::run(rt),
+        Some(Counted::Values) => values::run(rt),
+        None => bail!("the first word is 'tokens', 'items' or 'values'"),
+    }
+}
+
+fn main(rt: HostRuntime) -> ExitCode {
+    match run(&rt) {
+        Ok(()) => ExitCode::SUCCESS,
+        Err(error) => {
+            let _ = eprintln!(rt; "error: {error:#}");
+            ExitCode::FAILURE
+        }
+    }
+}

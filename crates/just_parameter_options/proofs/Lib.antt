@@ -1,9 +1,0 @@
-pub mod Behind
-pub mod Faults
-pub mod Given
-pub mod Lists
-pub mod New
-pub mod Numbers
-pub mod OptionNames
-pub mod Placed
-pub mod WholeOptions

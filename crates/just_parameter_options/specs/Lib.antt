@@ -1,5 +1,0 @@
-pub mod Rules
-pub mod Options
-pub mod Names
-pub mod Places
-pub mod Whole

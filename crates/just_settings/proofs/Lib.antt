@@ -1,9 +1,0 @@
-pub mod Strings
-pub mod Elements
-pub mod Forms
-pub mod SetWords
-pub mod Truths
-pub mod SetStrings
-pub mod Interpreters
-pub mod SetValues
-pub mod Exact

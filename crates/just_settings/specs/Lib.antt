@@ -1,6 +1,0 @@
-pub mod Names
-pub mod Settings
-pub mod Versions
-pub mod Reading
-pub mod Cooked
-pub mod Laws

@@ -1,9 +1,0 @@
-pub mod Words
-pub mod Fits
-pub mod Table
-pub mod InCode
-pub mod Lines
-pub mod Bodies
-pub mod WholeBodies
-pub mod Lexemes
-pub mod Beside

@@ -1,0 +1,11 @@
+pub mod Words
+pub mod Fits
+pub mod Table
+pub mod InCode
+pub mod Lines
+pub mod Bodies
+pub mod WholeBodies
+pub mod Lexemes
+pub mod Beside
+pub mod PlainShapes
+pub mod Plain

@@ -1,0 +1,84 @@
+//! Numbers of names.
+
+use crate::tokens::name;
+use just_attribute_tree::{Attribute, AttributeKind};
+use just_attributes::{AttributeItem, AttributeSet};
+use just_expression_tree::Expression;
+use just_text::{Number, Numerator};
+use just_tree::{ExpressionContext, resolve_attributes};
+use std::alloc::{AllocError, Global};
+use std::test::Fail;
+
+fn numbers() -> [Number; 3] {
+    let numerator = Numerator::new(3);
+    [
+        numerator.constant(0),
+        numerator.constant(1),
+        numerator.constant(2),
+    ]
+}
+
+#[test]
+fn finds_the_last_of_equal_names(rt: HostRuntime) -> Result<(), Fail> {
+    let [a, b, c] = numbers();
+    let names = [(name("x"), a), (name("y"), b), (name("x"), c)];
+    let context = ExpressionContext::from_names(rt.alloc(), &names)?;
+    assert_eq!(rt; context.lookup("x"), Some(c));
+    assert_eq!(rt; context.lookup("y"), Some(b));
+    assert_eq!(rt; context.lookup("z"), None);
+    Ok(())
+}
+
+/// A variable without a number.
+fn variable(text: &'static str) -> Expression<'static> {
+    Expression::Variable {
+        name: name(text),
+        number: None,
+    }
+}
+
+/// Whether the expression is a variable with this number.
+fn has_number(expression: &Expression, number: Number) -> bool {
+    match expression {
+        Expression::Variable {
+            number: Some(found),
+            ..
+        } => *found == number,
+        _ => false,
+    }
+}
+
+/// Whether these are the numbers of the key and the value of an `env`.
+fn are_numbered(attribute: Option<&Attribute>, key_number: Number, value_number: Number) -> bool {
+    match attribute {
+        Some(Attribute::Env { key, value }) => {
+            has_number(key, key_number) && has_number(value, value_number)
+        }
+        _ => false,
+    }
+}
+
+/// Whether `env(x, y)` gets its numbers where the environment knows `x` and the bindings know `y`; the
+/// context's number of `x` is not for it.
+fn numbers_a_pair(alloc: Global) -> Result<bool, AllocError> {
+    let [a, b, c] = numbers();
+    let context = ExpressionContext::from_names(alloc, &[(name("x"), c)])?;
+    let environment = ExpressionContext::from_names(alloc, &[(name("x"), a)])?;
+    let bindings = ExpressionContext::from_names(alloc, &[(name("y"), b)])?;
+    let env = Attribute::Env {
+        key: variable("x"),
+        value: variable("y"),
+    };
+    let item = AttributeItem::new(alloc, env, name("env"))?;
+    let mut items = Vec::new(alloc);
+    items.push(item)?;
+    let mut attributes = AttributeSet::from_items(items)?;
+    resolve_attributes(&mut attributes, &context, &environment, &bindings);
+    Ok(are_numbered(attributes.get(AttributeKind::Env), a, b))
+}
+
+#[test]
+fn numbers_variables_of_attributes(rt: HostRuntime) -> Result<(), Fail> {
+    assert!(rt; numbers_a_pair(rt.alloc())?);
+    Ok(())
+}
