@@ -9,10 +9,18 @@ use Rattle.just_text.specs.declared.compile_error.CompileErrorKind.TheVariants a
 use Rattle.just_attributes.specs.declared.item_kind.ItemKind.{ItemKind}
 use Rattle.just_attributed_items.specs.Rules.{arg_keyword}
 use Rattle.just_attribute_tree.specs.Attributes.{AttributeShape, kind_name, kind_of}
+use Rattle.just_attribute_tree.specs.declared.attribute.AttributeKind.{AttributeKind}
+use Rattle.just_attribute_tree.specs.contracts.attribute.AttributeKind.{the_type}
+use Rattle.just_attributes.proofs.SameKind.{same_names}
+use denote.Enum.Bare.{sameb}
 use Rattle.just_attribute_lines.specs.declared.attribute.AttributeRead.{AttributeRead}
 use Rattle.just_attribute_lines.specs.Seen.{read_shape, read_shapes}
 use Rattle.just_attributed_items.specs.Fitting.{is_one, known}
 use Rattle.just_attributed_items.specs.Refusals.{head_fault, is_named, is_repeated, known_fault, may_repeat, name_in}
+
+-- a kind is the attribute's where its name is
+pub kind_named : (a : AttributeShape) (kind : AttributeKind) → is_named (kind_name kind) (Some a) ≡ sameb the_type (kind_of a) kind
+kind_named a kind = same_names (kind_of a) kind
 
 -- one is found where one passes the test
 found_any : {A B : Type 0} (p : B → Bool) (f : A → B) (xs : List A) → is_some (find (λ x. p (f x)) xs) ≡ list_any p (map f xs)

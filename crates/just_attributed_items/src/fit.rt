@@ -9,6 +9,7 @@ ghost use Rattle.just_attributed_items.specs.Fitting.{known, name_of, repeated};
 ghost use Rattle.just_attributed_items.specs.Refusals.{head_fault, is_misplaced, is_named, is_repeated, known_fault, may_repeat, name_in};
 
 use just_attribute_lines::AttributeRead;
+use just_attribute_tree::AttributeKind;
 use just_attributes::{ItemKind, may_carry};
 use just_expressions::Fault;
 use just_text::{CompileErrorKind, Text};
@@ -66,34 +67,38 @@ fn misfit<'a, 'src>(
     reads.iter().find(|read| is_misplaced(carrier, read))
 }
 
-/// Whether the attribute's kind has that name.
-fn is_named(read: &AttributeRead, name: &str) -> bool
-    ensures { result ≡ is_named name.now (read_shape read.now) }
+/// Whether the attribute is of that kind.
+#[tactic(auto, using(crate::proofs::Named::kind_named))]
+fn is_of(read: &AttributeRead, kind: AttributeKind) -> bool
+    ensures { result ≡ is_named (kind_name kind) (read_shape read.now) }
 {
     match &read.attribute {
-        Some(attribute) => attribute.kind().name() == name,
+        Some(attribute) => attribute.kind() == kind,
         None => false,
     }
 }
 
-/// The first attribute whose kind has that name.
-fn first_named<'a, 'src>(
+/// The first attribute of that kind.
+fn first_of<'a, 'src>(
     reads: &'a [AttributeRead<'src>],
-    name: &str,
+    kind: AttributeKind,
 ) -> Option<&'a AttributeRead<'src>>
-    ensures { option_map (λ r. r.now) result ≡ find (λ r. is_named name.now (read_shape r)) reads.now }
+    ensures { option_map (λ r. r.now) result ≡ find (λ r. is_named (kind_name kind) (read_shape r)) reads.now }
 {
-    reads.iter().find(|read| is_named(read, name))
+    reads.iter().find(|read| is_of(read, kind))
 }
 
-/// Whether the attribute may stand again.
-fn may_repeat(read: &AttributeRead) -> bool
-    ensures { result ≡ may_repeat (read_shape read.now) }
+/// The kind of the attribute, if it is known and may not stand again.
+fn single(read: &AttributeRead) -> Option<AttributeKind>
+    ensures kind { IfSome result (λ kind. kind_name kind ≡ name_in (read_shape read.now)) }
+    ensures single { is_some result ≡ not (may_repeat (read_shape read.now)) }
 {
-    match &read.attribute {
-        Some(attribute) => attribute.kind().is_repeatable(),
-        None => true,
+    let attribute = read.attribute.as_ref()?;
+    let kind = attribute.kind();
+    if kind.is_repeatable() {
+        return None;
     }
+    Some(kind)
 }
 
 /// The first of these attributes that repeats the attribute, if it may not stand again.
@@ -104,10 +109,8 @@ fn again<'a, 'src>(
     ensures found { is_some result ≡ is_repeated (read_shapes behind.now) (read_shape read.now) }
     ensures named { IfSome result (λ r. name_in (read_shape r.now) ≡ name_in (read_shape read.now)) }
 {
-    if may_repeat(read) {
-        return None;
-    }
-    first_named(behind, kind_name(read))
+    let kind = single(read)?;
+    first_of(behind, kind)
 }
 
 /// What repeats the first attribute that stands again and may not.

@@ -3,3 +3,4 @@ pub mod TextsInRow
 pub mod InOrder
 pub mod Groups
 pub mod InPlace
+pub mod SameKind

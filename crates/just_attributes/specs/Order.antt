@@ -1,11 +1,9 @@
 -- The order of attributes: by name in bytes, then by printed arguments in bytes, then by appearance.
-use Rattle.std.specs.Prelude.{◌≡◌, ℕ, Bool, List, [], ◌∷◌, ◌==◌, ◌&&◌, if◌then◌else◌}
+use Rattle.std.specs.Prelude.{◌≡◌, ℕ, Bool, List, [], ◌∷◌, ◌==◌, if◌then◌else◌}
 use Rattle.std.specs.declared.cmp.Ordering.{Ordering}
-use Rattle.std.specs.declared.cmp.Ordering.TheVariants.{Less, Equal, Greater}
 use Rattle.std.specs.Cmp.{IsTotalOrder, IsEquivalence}
 use Rattle.std.specs.Cmp.Lexicographic.{slice_cmp, pointwise, texts_ties}
-use Rattle.std.specs.Ordering.{nat_cmp, on, then_cmp, ordering_then, eq_of_both, is_eq, is_lt, eq_by_cmp}
-use Rattle.std.proofs.Common.{ap, ◌∙◌}
+use Rattle.std.specs.Ordering.{nat_cmp, on, then_cmp, eq_of_both, is_lt, eq_by_cmp}
 use Rattle.std.proofs.lemmas.Cmp.{on_total, then_total, nat_list_cmp_total, on_equiv, and_equiv, nat_list_eq_equiv}
 use Rattle.just_attribute_tree.specs.Attributes.{AttributeShape, attribute_shape, kind_of, kind_name}
 use Rattle.just_attributes.specs.declared.attribute_item.AttributeItem.{AttributeItem}

@@ -9,7 +9,7 @@ ghost use Rattle.just_attributes.specs.Arguments.{arguments_text};
 
 use crate::numbering::{NumberVariables, number_attribute};
 use crate::printed_arguments::PrintedArguments;
-use just_attribute_tree::Attribute;
+use just_attribute_tree::{Attribute, AttributeKind};
 use just_text::{Name, Text};
 use std::alloc::{AllocError, Global};
 use std::cmp::Ordering;
@@ -32,7 +32,7 @@ fn print_arguments(alloc: Global, attribute: &Attribute) -> Result<Text, AllocEr
 
 impl<'src> AttributeItem<'src> {
     ghost use Rattle.std.specs.Prelude.{option_map};
-    ghost use Rattle.just_attributes.specs.Sets.{group_of, written_item};
+    ghost use Rattle.just_attributes.specs.Sets.{group_of, is_of, written_item};
 
     /// Prints the attribute's arguments, once and for all comparisons. Refused only where memory is.
     pub fn new(
@@ -53,6 +53,14 @@ impl<'src> AttributeItem<'src> {
                 Err(refused)
             }
         }
+    }
+
+    /// Whether the attribute is of this kind.
+    #[tactic(auto, using(crate::proofs::SameKind::same_names))]
+    pub(crate) fn is_of(&self, kind: AttributeKind) -> bool
+        ensures { result ≡ is_of kind self.now }
+    {
+        self.attribute.kind() == kind
     }
 
     /// The text of a group.

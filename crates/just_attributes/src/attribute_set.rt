@@ -64,9 +64,7 @@ impl<'src> AttributeSet<'src> {
     fn find(&self, kind: AttributeKind) -> Option<&AttributeItem<'src>>
         ensures { option_map (λ item. item.now) result ≡ find (spec.is_of kind) (items_of self.now) }
     {
-        self.items
-            .iter()
-            .find(|item| item.attribute.name() == kind.name())
+        self.items.iter().find(|item| item.is_of(kind))
     }
 
     /// The first attribute of this kind.
@@ -93,9 +91,7 @@ impl<'src> AttributeSet<'src> {
     pub fn contains(&self, kind: AttributeKind) -> bool
         ensures { result ≡ list_any (spec.is_of kind) (items_of self.now) }
     {
-        self.items
-            .iter()
-            .any(|item| item.attribute.name() == kind.name())
+        self.items.iter().any(|item| item.is_of(kind))
     }
 
     /// Whether the item is private by an attribute.

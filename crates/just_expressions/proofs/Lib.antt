@@ -1,4 +1,7 @@
 pub mod Taken
+pub mod Alone
+pub mod TokensTaken
+pub mod LineEnds
 pub mod Together
 pub mod Operators
 pub mod Found

@@ -2,7 +2,9 @@ pub mod Words
 pub mod Operators
 pub mod Literals
 pub mod Grammar
+pub mod Alone
 pub mod Reading
 pub mod Strings
 pub mod Seen
 pub mod Laws
+pub mod LineEnds

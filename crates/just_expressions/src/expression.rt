@@ -79,6 +79,10 @@ impl<'t, 'src> Cursor<'t, 'src> {
         if levels == 0 {
             return Err(self.too_deep());
         }
+        // (most are a string or a name, for which no rank need be tried)
+        if self.is_alone() {
+            return self.primary(expander, levels - 1);
+        }
         self.operand(expander, rank, levels - 1)
     }
 

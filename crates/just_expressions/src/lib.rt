@@ -5,10 +5,13 @@ mod cursor;
 mod expression;
 mod fault;
 pub mod law;
+mod line_end;
 mod literal;
+mod lone_operand;
 mod node;
 mod operator;
 mod string;
 
 pub use cursor::Cursor;
 pub use fault::Fault;
+pub use line_end::{end_of_line, ended};

@@ -30,7 +30,7 @@ pub(crate) enum Prefix {
 
 impl Operator {
     /// The operator of that token.
-    fn of_kind(kind: TokenKind) -> Option<Operator>
+    pub(crate) fn of_kind(kind: TokenKind) -> Option<Operator>
         ensures { operator_of kind ≡ mapped operator_seen result }
     {
         match kind {

@@ -8,9 +8,9 @@ use Rattle.just_expressions.specs.Words.{Mark}
 use Rattle.just_expressions.specs.Literals.{Expansion}
 use Rattle.just_expressions.specs.Reading.{Stop, accept, expect, is_next}
 use Rattle.just_expressions.proofs.Shorter.{accept_shorter}
-use Rattle.just_recipes.specs.Reading.{eol_at}
+use Rattle.just_expressions.specs.LineEnds.{eol_at}
 use Rattle.just_recipes.specs.Laws.{EolsExactly}
-use Rattle.just_recipes.proofs.RecipeTaken.{accept_mark, expect_begins, taken, none_taken, no_accept, is_next-yes, is_next-no, Reads}
+use Rattle.just_expressions.proofs.TokensTaken.{accept_mark, expect_begins, taken, none_taken, no_accept, is_next-yes, is_next-no, Reads}
 use Rattle.just_recipes.proofs.ExpressionsRead.{fewer}
 use Rattle.just_attributed_items.specs.Halting.{or_stopped}
 use Rattle.just_attributed_items.specs.Items.{IsAttributed}

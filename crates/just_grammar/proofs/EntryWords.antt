@@ -14,7 +14,7 @@ use Rattle.just_attribute_lines.specs.Rows.{Follow}
 use Rattle.just_attributes.specs.Order.{in_order}
 use Rattle.just_attribute_lines.specs.Lines.{IsAttribute, IsBetween, IsLast, AreAttributes}
 use Rattle.just_attribute_lines.proofs.Rest.{closes_takes, between_takes, attribute_takes, line_end_takes}
-use Rattle.just_recipes.proofs.RecipeTaken.{front_shorter, mark_shorter, lacks}
+use Rattle.just_expressions.proofs.TokensTaken.{front_shorter, mark_shorter, lacks}
 use Rattle.just_items.specs.Keywords.{set_keyword}
 use Rattle.just_items.specs.declared.form.Form.{Form}
 use Rattle.just_items.specs.declared.form.Form.TheVariants.{Indentation, Interpreter, Truth, Value, Version as VersionForm}

@@ -9,7 +9,7 @@ use Rattle.just_expressions.specs.Words.{is_kind, Begins, Lacks}
 use Rattle.just_expressions.specs.Literals.{Expansion}
 use Rattle.just_expressions.proofs.Starts.{shorter}
 use Rattle.just_recipes.specs.Headers.{IsQuiet, IsRecipe}
-use Rattle.just_recipes.proofs.RecipeTaken.{front_shorter, mark_shorter, lacks}
+use Rattle.just_expressions.proofs.TokensTaken.{front_shorter, mark_shorter, lacks}
 use Rattle.just_recipes.proofs.RecipePaths.{path_shorter}
 use Rattle.just_items.specs.Items.{AreWords, AreNames, IsOptional, IsFile, IsItem}
 use Rattle.just_items.specs.Keywords.{alias_keyword, eager_keyword, export_keyword, import_keyword, mod_keyword, unexport_keyword}

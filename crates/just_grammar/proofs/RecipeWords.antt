@@ -9,9 +9,10 @@ use Rattle.just_tree.specs.Recipes.{ParameterShape, ArgumentShape, DependencySha
 use Rattle.just_expression_tree.specs.Shape.{Shape}
 use Rattle.just_expressions.specs.Words.{is_kind, Mark}
 use Rattle.just_expressions.specs.Literals.{Expansion}
-use Rattle.just_recipes.specs.Bodies.{IsEol, behind_blank, behind_comment, ArePieces, AreLines, IsBody}
+use Rattle.just_expressions.specs.LineEnds.{IsEol}
+use Rattle.just_recipes.specs.Bodies.{behind_blank, behind_comment, ArePieces, AreLines, IsBody}
 use Rattle.just_recipes.specs.Headers.{IsKind, IsExported, IsStarred, IsQuiet, IsDefault, IsParameter, AreParameters, IsArgument, AreArguments, IsDependency, AreDependencies, AreSubsequents, IsRecipe}
-use Rattle.just_recipes.proofs.RecipeTaken.{front_shorter, mark_shorter}
+use Rattle.just_expressions.proofs.TokensTaken.{front_shorter, mark_shorter}
 use Rattle.just_recipes.proofs.RecipePaths.{path_shorter}
 use Rattle.just_expressions.proofs.Starts.{shorter}
 use Rattle.just_expressions.proofs.Taken.{test}

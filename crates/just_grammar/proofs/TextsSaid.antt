@@ -11,7 +11,7 @@ use Rattle.just_tree.specs.Files.{ItemShape}
 use Rattle.just_expressions.specs.Words.{is_significant, significant}
 use Rattle.just_expressions.specs.Literals.{Expansion}
 use Rattle.just_expressions.specs.Reading.{shown}
-use Rattle.just_recipes.proofs.RecipeTaken.{same_words}
+use Rattle.just_expressions.proofs.TokensTaken.{same_words}
 use Rattle.just_attributed_items.specs.Halting.{Halt}
 use Rattle.semver.specs.declared.Version.{Version}
 use Rattle.just_grammar.specs.Files.{Entry, items_in, Derives}

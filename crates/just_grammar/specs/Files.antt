@@ -6,7 +6,7 @@ use Rattle.just_text.specs.declared.token_kind.TokenKind.TheVariants.{ByteOrderM
 use Rattle.just_tree.specs.Files.{ItemShape, comment_item, newline_item}
 use Rattle.just_expressions.specs.Literals.{Expansion}
 use Rattle.just_expressions.specs.Words.{Begins, Mark, significant}
-use Rattle.just_recipes.specs.Bodies.{IsEol}
+use Rattle.just_expressions.specs.LineEnds.{IsEol}
 use Rattle.just_attributed_items.specs.Items.{IsAttributed}
 use Rattle.semver.specs.declared.Version.{Version}
 

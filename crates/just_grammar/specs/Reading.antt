@@ -6,7 +6,7 @@ use Rattle.just_text.specs.declared.token_kind.TokenKind.TheVariants.{ByteOrderM
 use Rattle.just_tree.specs.Files.{comment_item, newline_item}
 use Rattle.just_expressions.specs.Literals.{Expansion}
 use Rattle.just_expressions.specs.Reading.{◌>>=◌, on, Read, unexpected, first, accept, expect, is_next}
-use Rattle.just_recipes.specs.Reading.{eol_at}
+use Rattle.just_expressions.specs.LineEnds.{eol_at}
 use Rattle.just_attributed_items.specs.Halting.{Halt, stopped, or_stopped}
 use Rattle.just_attributed_items.specs.Reading.{attributed_at}
 use Rattle.just_grammar.specs.Files.{Entry}

@@ -10,8 +10,7 @@ ghost use Rattle.just_attributed_items.specs.Held.{IsItemCooked, IsItemNumbered,
 ghost use Rattle.just_grammar.specs.Reading.{comment_at, entry_at, filled_at};
 
 use just_attributed_items::{ItemRead, attributed_item};
-use just_expressions::{Cursor, Fault};
-use just_recipes::end_of_line;
+use just_expressions::{Cursor, Fault, end_of_line};
 use just_text::{Expander, Numerator, TokenKind};
 use just_tree::Item;
 use semver::Version;

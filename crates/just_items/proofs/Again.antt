@@ -12,7 +12,7 @@ use Rattle.just_expressions.specs.Literals.{Expansion}
 use Rattle.just_expressions.specs.Laws.{Exactly}
 use Rattle.just_expressions.specs.Reading.{taken_if}
 use Rattle.just_expressions.proofs.Taken.{taken, marked}
-use Rattle.just_recipes.specs.Bodies.{IsEol}
+use Rattle.just_expressions.specs.LineEnds.{IsEol}
 use Rattle.just_recipes.specs.Laws.{EolsExactly, PathsExactly}
 use Rattle.just_items.specs.Keywords.{alias_keyword, import_keyword, mod_keyword, unexport_keyword}
 use Rattle.just_items.specs.Items.{IsAlias, IsUnexport, IsAssignment, IsFunction, IsImport, IsFile, IsModule, IsItem}

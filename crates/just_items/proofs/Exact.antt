@@ -9,9 +9,9 @@ use Rattle.just_expressions.specs.Literals.{Expansion}
 use Rattle.just_expressions.specs.Laws.{Exactly}
 use Rattle.just_expressions.specs.Reading.{accept, expect}
 use Rattle.just_expressions.proofs.Taken.{bind_ok, inspect, turned, ok_is, expect_is, taken}
-use Rattle.just_recipes.specs.Bodies.{IsEol}
+use Rattle.just_expressions.specs.LineEnds.{IsEol}
 use Rattle.just_recipes.specs.Laws.{EolsExactly}
-use Rattle.just_recipes.proofs.RecipeTaken.{Reads}
+use Rattle.just_expressions.proofs.TokensTaken.{Reads}
 use Rattle.just_items.specs.Keywords.{set_keyword}
 use Rattle.just_items.specs.Reading.{kind_at}
 use Rattle.semver.specs.declared.Version.{Version as SemanticVersion}

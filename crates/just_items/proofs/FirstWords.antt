@@ -7,7 +7,7 @@ use Rattle.just_attributes.specs.declared.item_kind.ItemKind.TheVariants.{Alias,
 use Rattle.just_expressions.specs.Words.{is_kind, Begins, Mark}
 use Rattle.just_expressions.specs.Reading.{is_next}
 use Rattle.just_expressions.proofs.Taken.{Taken, taken}
-use Rattle.just_recipes.specs.Bodies.{IsEol}
+use Rattle.just_expressions.specs.LineEnds.{IsEol}
 use Rattle.just_recipes.specs.Laws.{EolsExactly}
 use Rattle.just_items.specs.Items.{AreWords, IsOptional}
 use Rattle.just_items.specs.Keywords.{alias_keyword, eager_keyword, export_keyword, import_keyword, mod_keyword, unexport_keyword}

@@ -14,7 +14,7 @@ use Rattle.just_expressions.specs.Literals.{Expansion}
 use Rattle.just_expressions.specs.Laws.{Exactly}
 use Rattle.just_expressions.specs.Reading.{expect, is_next, taken_if}
 use Rattle.just_expressions.proofs.Taken.{bind_ok, test, turned, ok_is, expect_is, expect_mark}
-use Rattle.just_recipes.specs.Bodies.{IsEol}
+use Rattle.just_expressions.specs.LineEnds.{IsEol}
 use Rattle.just_recipes.specs.Laws.{EolsExactly, PathsExactly}
 use Rattle.just_recipes.specs.Reading.{marked_at}
 use Rattle.just_items.specs.Items.{IsAlias, IsUnexport, IsAssignment, IsFunction, IsImport, IsFile, IsModule, IsItem}

@@ -6,9 +6,10 @@ use Rattle.just_text.specs.declared.token_kind.TokenKind.TheVariants.{ColonEqual
 use Rattle.just_expressions.specs.Words.{is_kind, Begins, Mark, Lacks}
 use Rattle.just_expressions.specs.Reading.{Read, accept, expect, is_next}
 use Rattle.just_expressions.proofs.Taken.{inspect, same_front, clash, accept_mark, expect_is, taken, marked, lacks_accept}
-use Rattle.just_recipes.specs.Bodies.{IsEol}
+use Rattle.just_expressions.specs.LineEnds.{IsEol}
 use Rattle.just_recipes.specs.Laws.{EolsExactly}
-use Rattle.just_recipes.specs.Reading.{eol_at, marked_at}
+use Rattle.just_expressions.specs.LineEnds.{eol_at}
+use Rattle.just_recipes.specs.Reading.{marked_at}
 use Rattle.just_items.specs.Items.{IsOptional}
 use Rattle.just_items.specs.Reading.{is_ok, ends_here, is_named_value}
 

@@ -10,7 +10,7 @@ use Rattle.just_expressions.specs.Literals.{Expansion}
 use Rattle.just_expressions.specs.Laws.{Exactly}
 use Rattle.just_expressions.specs.Reading.{accept}
 use Rattle.just_expressions.proofs.Taken.{bind_ok, inspect, turned, accept_mark, expect_mark, marked, lacks_accept, other_accept}
-use Rattle.just_recipes.proofs.RecipeTaken.{mark_shorter, Reads}
+use Rattle.just_expressions.proofs.TokensTaken.{mark_shorter, Reads}
 use Rattle.just_recipes.proofs.ExpressionFronts.{never_first, shorter}
 use Rattle.just_items.specs.Settings.{AreElements}
 use Rattle.just_items.specs.SettingReading.{elements_at, arguments_at, interpreter_at}

@@ -7,7 +7,7 @@ use Rattle.just_strings.specs.Cooking.{cooked}
 use Rattle.just_expressions.specs.Words.{Mark}
 use Rattle.just_expressions.specs.Literals.{Expansion}
 use Rattle.just_expressions.proofs.Taken.{bind_ok, test, ok_is, expect_is, expect_mark, taken, marked}
-use Rattle.just_recipes.proofs.RecipeTaken.{Reads}
+use Rattle.just_expressions.proofs.TokensTaken.{Reads}
 use Rattle.just_attributes.specs.Indentations.{is_indentation}
 use Rattle.semver.specs.declared.Version.{Version}
 use Rattle.semver.specs.declared.error.Error.{Error}

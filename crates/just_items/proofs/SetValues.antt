@@ -8,7 +8,7 @@ use Rattle.just_expressions.specs.Words.{Mark, Lacks}
 use Rattle.just_expressions.specs.Literals.{Expansion}
 use Rattle.just_expressions.specs.Laws.{Exactly}
 use Rattle.just_expressions.proofs.Taken.{bind_ok, turned, expect_mark, marked}
-use Rattle.just_recipes.proofs.RecipeTaken.{Reads}
+use Rattle.just_expressions.proofs.TokensTaken.{Reads}
 use Rattle.just_attributes.specs.Indentations.{is_indentation}
 use Rattle.semver.specs.declared.Version.{Version as SemanticVersion}
 use Rattle.just_items.specs.declared.form.Form.{Form}

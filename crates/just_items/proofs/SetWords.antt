@@ -9,7 +9,7 @@ use Rattle.just_attributes.specs.declared.item_kind.ItemKind.TheVariants.{Alias,
 use Rattle.just_expressions.specs.Words.{is_kind, Begins, Mark, Lacks}
 use Rattle.just_expressions.specs.Reading.{accept, is_next}
 use Rattle.just_expressions.proofs.Taken.{inspect, test, text_same, taken, marked, lacks_accept, other_accept}
-use Rattle.just_recipes.specs.Bodies.{IsEol}
+use Rattle.just_expressions.specs.LineEnds.{IsEol}
 use Rattle.just_recipes.specs.Laws.{EolsExactly}
 use Rattle.just_items.specs.Keywords.{alias_keyword, import_keyword, mod_keyword, set_keyword, unexport_keyword}
 use Rattle.just_items.specs.Reading.{are_both_words, is_word, kind_of_value, kind_of_names, ends_here, is_named_value, kind_by_two, kind_by_one, kind_at}

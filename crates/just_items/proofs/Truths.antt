@@ -6,7 +6,7 @@ use Rattle.just_attribute_tree.specs.Settings.{truth_text}
 use Rattle.just_expressions.specs.Words.{Begins, Mark, Lacks}
 use Rattle.just_expressions.specs.Reading.{accept, expect, is_keyword}
 use Rattle.just_expressions.proofs.Taken.{bind_ok, inspect, test, turned, text_other, same_front, accept_mark, accept_none, expect_is, taken, marked, lacks_accept, keyword_is, keyword_begins, lacks_keyword}
-use Rattle.just_recipes.proofs.RecipeTaken.{Reads}
+use Rattle.just_expressions.proofs.TokensTaken.{Reads}
 use Rattle.just_items.specs.SettingReading.{true_keyword, false_keyword, truth_at, flag_at}
 
 -- up to rest there is a truth value, which is true where it is left out

@@ -6,7 +6,7 @@ use Rattle.just_tree.specs.Files.{ItemShape, alias_item, assignment_item, functi
 use Rattle.just_tree.specs.Items.{AliasShape, AssignmentShape, FunctionShape, ImportShape, ModuleShape}
 use Rattle.just_expressions.specs.Words.{Begins, Mark}
 use Rattle.just_expressions.specs.Literals.{Expansion, Cooks}
-use Rattle.just_recipes.specs.Bodies.{IsEol}
+use Rattle.just_expressions.specs.LineEnds.{IsEol}
 use Rattle.just_recipes.specs.Headers.{AreDistinct, IsPath}
 use Rattle.just_items.specs.Keywords.{alias_keyword, eager_keyword, export_keyword, import_keyword, mod_keyword, unexport_keyword}
 use Rattle.just_expressions.specs.Strings.{IsExpression, IsString}

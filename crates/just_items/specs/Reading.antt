@@ -13,7 +13,8 @@ use Rattle.just_tree.specs.Items.{AliasShape, AssignmentShape, FunctionShape, Im
 use Rattle.just_expression_tree.specs.Shape.{Shape}
 use Rattle.just_expressions.specs.Literals.{Expansion}
 use Rattle.just_expressions.specs.Reading.{◌>>=◌, on, Read, unexpected, refused, first, accept, expect, is_next, taken_if, expression_at}
-use Rattle.just_recipes.specs.Reading.{eol_at, is_named, marked_at, path_at}
+use Rattle.just_expressions.specs.LineEnds.{eol_at}
+use Rattle.just_recipes.specs.Reading.{is_named, marked_at, path_at}
 use Rattle.just_recipes.specs.Seen.{with_name}
 use Rattle.just_items.specs.Keywords.{alias_keyword, eager_keyword, export_keyword, import_keyword, mod_keyword, set_keyword, unexport_keyword}
 use Rattle.just_expressions.specs.Strings.{string_at}

@@ -9,7 +9,7 @@ use Rattle.just_attribute_tree.specs.Settings.{ValueShape, truth, expression, in
 use Rattle.just_expression_tree.specs.Shape.{Shape}
 use Rattle.just_expressions.specs.Literals.{Expansion}
 use Rattle.just_expressions.specs.Reading.{◌>>=◌, on, Read, unexpected, refused, first, accept, expect, is_keyword, expression_at}
-use Rattle.just_recipes.specs.Reading.{eol_at}
+use Rattle.just_expressions.specs.LineEnds.{eol_at}
 use Rattle.just_attributes.specs.Indentations.{is_indentation}
 use Rattle.semver.specs.declared.Version.{Version as SemanticVersion}
 use Rattle.semver.specs.Identifiers.{version_text}

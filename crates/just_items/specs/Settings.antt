@@ -7,7 +7,7 @@ use Rattle.just_attribute_tree.specs.Settings.{ValueShape, truth, expression, in
 use Rattle.just_expression_tree.specs.Shape.{Shape}
 use Rattle.just_expressions.specs.Words.{Begins, Mark, Lacks}
 use Rattle.just_expressions.specs.Literals.{Expansion}
-use Rattle.just_recipes.specs.Bodies.{IsEol}
+use Rattle.just_expressions.specs.LineEnds.{IsEol}
 use Rattle.just_items.specs.Keywords.{set_keyword}
 use Rattle.just_attributes.specs.Indentations.{is_indentation}
 use Rattle.semver.specs.declared.Version.{Version as SemanticVersion}

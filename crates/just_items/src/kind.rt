@@ -9,7 +9,7 @@ use just_expressions::Cursor;
 use just_text::TokenKind;
 
 /// Whether a line ends here.
-#[tactic(auto, unfolding(just_recipes::specs::Reading::eol_at, just_expressions::specs::Reading::is_next))]
+#[tactic(auto, unfolding(just_expressions::specs::LineEnds::eol_at, just_expressions::specs::Reading::is_next))]
 fn ends_here(mut cursor: Cursor) -> bool
     ensures { result ≡ ends_here word_of (ahead cursor.entry) }
 {

@@ -9,7 +9,7 @@ use Rattle.just_expressions.specs.Words.{is_kind, Lacks, if_keyword, else_keywor
 use Rattle.just_expressions.specs.Literals.{Expansion}
 use Rattle.just_expressions.specs.Operators.{sign}
 use Rattle.just_expressions.specs.Grammar.{Closes, Is, AreAll, AreInterpolations, part_kind}
-use Rattle.just_recipes.proofs.RecipeTaken.{front_shorter, mark_shorter, lacks}
+use Rattle.just_expressions.proofs.TokensTaken.{front_shorter, mark_shorter, lacks}
 
 -- kinds with which no expression begins
 abbrev pub NeverFirst : TokenKind → Type 0

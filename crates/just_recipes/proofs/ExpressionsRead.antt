@@ -7,7 +7,7 @@ use Rattle.just_expressions.specs.Literals.{Expansion}
 use Rattle.just_expressions.specs.Grammar.{Derives}
 use Rattle.just_expressions.specs.Reading.{expression_at}
 use Rattle.just_expressions.specs.Laws.{Exactly}
-use Rattle.just_recipes.proofs.RecipeTaken.{Reads}
+use Rattle.just_expressions.proofs.TokensTaken.{Reads}
 
 module _ {T : Type 0} (word : T → Word) where
   -- fewer words are left, so fewer tokens are

@@ -1,9 +1,7 @@
-pub mod RecipeTaken
 pub mod ExpressionFronts
 pub mod BlankWords
 pub mod Distinct
 pub mod RecipeLoops
-pub mod RecipeEnds
 pub mod RecipePaths
 pub mod ExpressionsRead
 pub mod RecipeBodies

@@ -10,7 +10,7 @@ use Rattle.just_expressions.specs.Reading.{accept, is_next}
 use Rattle.just_expressions.specs.Laws.{Exactly}
 use Rattle.just_recipes.specs.Bodies.{behind_blank, without_blank_end, blank_end, ArePieces, AreLines, IsBody}
 use Rattle.just_recipes.specs.Reading.{is_some_line, piece_at, pieces_at, line_at, lines_at, body_at}
-use Rattle.just_recipes.proofs.RecipeTaken.{lacks, front_shorter, mark_shorter, accept_begins, accept_mark, expect_mark, taken, none_taken, not_first, no_accept, is_next-yes, is_next-no, Reads}
+use Rattle.just_expressions.proofs.TokensTaken.{lacks, front_shorter, mark_shorter, accept_begins, accept_mark, expect_mark, taken, none_taken, not_first, no_accept, is_next-yes, is_next-no, Reads}
 use Rattle.just_recipes.proofs.ExpressionFronts.{shorter}
 use Rattle.just_recipes.proofs.ExpressionsRead.{fewer, expression_found, expression_again}
 use Rattle.just_recipes.proofs.RecipeLoops.{until_found, while_found, until_again, while_again, Step}

@@ -10,7 +10,7 @@ use Rattle.just_expressions.specs.Laws.{Exactly}
 use Rattle.just_expressions.specs.Reading.{accept, is_next}
 use Rattle.just_recipes.specs.Headers.{stars, IsArgument, AreArguments, IsDependency, AreDependencies, AreSubsequents}
 use Rattle.just_recipes.specs.Reading.{marked_at, argument_at, arguments_at, dependency_at, dependencies_at, some_if, subsequents_at}
-use Rattle.just_recipes.proofs.RecipeTaken.{lacks, mark_shorter, accept_mark, taken, none_taken, no_accept, is_next-yes, is_next-no, Reads}
+use Rattle.just_expressions.proofs.TokensTaken.{lacks, mark_shorter, accept_mark, taken, none_taken, no_accept, is_next-yes, is_next-no, Reads}
 use Rattle.just_recipes.proofs.RecipeMarks.{starred, starred-mark, marked_no_longer, marked_lacks, marked_found, marked_again}
 use Rattle.just_recipes.proofs.RecipePaths.{path_mark, path_shorter, path_found, path_again}
 use Rattle.just_recipes.proofs.RecipeLoops.{until_found, while_found, until_again, while_again, Step}

@@ -6,13 +6,13 @@ use Rattle.just_tree.specs.Recipes.{DependencyShape, RecipeShape}
 use Rattle.just_expressions.specs.Words.{Mark}
 use Rattle.just_expressions.specs.Literals.{Expansion}
 use Rattle.just_expressions.specs.Laws.{Exactly}
-use Rattle.just_recipes.specs.Bodies.{IsEol}
+use Rattle.just_expressions.specs.LineEnds.{IsEol}
 use Rattle.just_recipes.specs.Headers.{AreDistinct, parameter_name, AreParameters, AreDependencies, AreSubsequents, IsRecipe}
 use Rattle.just_recipes.specs.Reading.{Header, marked_at, header_at, recipe_from, recipe_at}
 use Rattle.just_recipes.specs.Laws.{RecipesExactly, PathsExactly, EolsExactly, AtMostOneRecipe}
-use Rattle.just_recipes.proofs.RecipeTaken.{lacks, expect_begins, expect_mark, taken, same_words, Reads}
+use Rattle.just_expressions.proofs.TokensTaken.{lacks, expect_begins, expect_mark, taken, same_words, Reads}
 use Rattle.just_recipes.proofs.RecipeMarks.{quiet, quiet-mark, marked_found, marked_again}
-use Rattle.just_recipes.proofs.RecipeEnds.{eol_lacks, eol_found, eol_again}
+use Rattle.just_expressions.proofs.LineEnds.{eol_lacks, eol_found, eol_again}
 use Rattle.just_recipes.proofs.RecipePaths.{path_found, path_again}
 use Rattle.just_recipes.proofs.Distinct.{nothing_before}
 use Rattle.just_recipes.proofs.RecipeBodies.{body_found, body_again}

@@ -5,7 +5,7 @@ use Rattle.just_text.specs.declared.token_kind.TokenKind.{TokenKind}
 use Rattle.just_expressions.specs.Words.{Mark}
 use Rattle.just_expressions.specs.Reading.{◌>>=◌, Read, accept}
 use Rattle.just_recipes.specs.Reading.{until, while_some, unless_none}
-use Rattle.just_recipes.proofs.RecipeTaken.{taken, Reads}
+use Rattle.just_expressions.proofs.TokensTaken.{taken, Reads}
 use Rattle.just_expressions.proofs.Taken.{bind_ok, inspect, turned}
 
 module _ {T : Type 0} (word : T → Word) where

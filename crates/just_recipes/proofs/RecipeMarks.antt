@@ -7,7 +7,7 @@ use Rattle.just_expressions.specs.Words.{Mark, Lacks}
 use Rattle.just_expressions.specs.Reading.{accept}
 use Rattle.just_recipes.specs.Headers.{IsExported, IsStarred, IsQuiet}
 use Rattle.just_recipes.specs.Reading.{marked_at}
-use Rattle.just_recipes.proofs.RecipeTaken.{mark_shorter, accept_mark, taken, none_taken}
+use Rattle.just_expressions.proofs.TokensTaken.{mark_shorter, accept_mark, taken, none_taken}
 use Rattle.just_expressions.proofs.Taken.{inspect}
 
 -- a mark of that kind, or nothing

@@ -14,7 +14,7 @@ use Rattle.just_expressions.specs.Laws.{Exactly}
 use Rattle.just_expressions.specs.Reading.{◌>>=◌, refused, accept, is_next}
 use Rattle.just_recipes.specs.Headers.{IsKind, IsExported, AreDistinct, parameter_name, IsDefault, IsParameter, AreParameters}
 use Rattle.just_recipes.specs.Reading.{is_named, unless_none, kind_at, marked_at, parameter_ahead, last_if, last_at, default_at, named_at, parameter_at, parameters_at}
-use Rattle.just_recipes.proofs.RecipeTaken.{lacks, front_shorter, mark_shorter, accept_mark, expect_begins, taken, none_taken, not_first, no_accept, is_next-yes, is_next-no, Reads}
+use Rattle.just_expressions.proofs.TokensTaken.{lacks, front_shorter, mark_shorter, accept_mark, expect_begins, taken, none_taken, not_first, no_accept, is_next-yes, is_next-no, Reads}
 use Rattle.just_recipes.proofs.RecipeMarks.{exported, exported-mark, marked_no_longer, marked_found, no_mark, marked_again}
 use Rattle.just_recipes.proofs.ExpressionFronts.{shorter}
 use Rattle.just_recipes.proofs.ExpressionsRead.{fewer, expression_found, expression_again}

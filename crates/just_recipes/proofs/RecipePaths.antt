@@ -7,7 +7,7 @@ use Rattle.just_expressions.specs.Words.{Begins, Mark}
 use Rattle.just_expressions.specs.Reading.{accept}
 use Rattle.just_recipes.specs.Headers.{IsPath}
 use Rattle.just_recipes.specs.Reading.{names_at, path_at}
-use Rattle.just_recipes.proofs.RecipeTaken.{front_shorter, mark_shorter, accept_mark, expect_begins, taken, none_taken, not_first, Reads}
+use Rattle.just_expressions.proofs.TokensTaken.{front_shorter, mark_shorter, accept_mark, expect_begins, taken, none_taken, not_first, Reads}
 use Rattle.just_expressions.proofs.Taken.{bind_ok, inspect, turned}
 
 -- ---- how paths begin, and that they take words

@@ -13,10 +13,6 @@ use Rattle.just_expressions.specs.Strings.{IsExpression, IsAside}
 abbrev pub IsPrimary : Expansion → Shape → List Word → List Word → Type 0
 IsPrimary expansion e words rest = Derives expansion 256 0 words e rest
 
--- Up to rest a line ends, perhaps behind a comment. The end of the file serves too, and is not taken.
-abbrev pub IsEol : List Word → List Word → Type 0
-IsEol words rest = (a : List Word) × IsAside words a × (Mark Eol a rest ⊎ ((a ≡ rest) × ((after : List Word) × Mark Eof a after)))
-
 module _ {T : Type 0} (word : T → Word) where
   unfoldable mutual
     -- what follows the lines at the front on which nothing stands but a comment

@@ -9,7 +9,8 @@ use Rattle.just_tree.specs.Recipes.{ParameterShape, ArgumentShape, DependencySha
 use Rattle.just_expression_tree.specs.Shape.{Shape}
 use Rattle.just_expressions.specs.Words.{Begins, Mark, Lacks}
 use Rattle.just_expressions.specs.Literals.{Expansion}
-use Rattle.just_recipes.specs.Bodies.{IsPrimary, IsEol, IsBody}
+use Rattle.just_expressions.specs.LineEnds.{IsEol}
+use Rattle.just_recipes.specs.Bodies.{IsPrimary, IsBody}
 use Rattle.just_expressions.specs.Strings.{IsExpression}
 
 -- ---- paths

@@ -3,9 +3,10 @@ use Rattle.std.specs.Prelude.{ℕ, ◌≡◌, List, map, Ok}
 use Rattle.just_text.specs.Tokens.{Word, word_of}
 use Rattle.just_tree.specs.Recipes.{RecipeShape}
 use Rattle.just_expressions.specs.Literals.{Expansion}
-use Rattle.just_recipes.specs.Bodies.{IsEol}
+use Rattle.just_expressions.specs.LineEnds.{IsEol}
 use Rattle.just_recipes.specs.Headers.{IsPath, IsRecipe}
-use Rattle.just_recipes.specs.Reading.{eol_at, path_at, recipe_at}
+use Rattle.just_expressions.specs.LineEnds.{eol_at}
+use Rattle.just_recipes.specs.Reading.{path_at, recipe_at}
 
 -- What is read is derived, and what is derived is read.
 pub record RecipesExactly {T : Type 0} (word : T → Word) (expansion : Expansion) : Type 0 where

@@ -13,6 +13,7 @@ use Rattle.just_tree.specs.Recipes.{is_variadic, ParameterShape, ArgumentShape, 
 use Rattle.just_expression_tree.specs.Shape.{Shape}
 use Rattle.just_expressions.specs.Literals.{Expansion}
 use Rattle.just_expressions.specs.Reading.{◌>>=◌, on, Read, Stop, unexpected, refused, first, accept, expect, is_next, expression_at}
+use Rattle.just_expressions.specs.LineEnds.{eol_at}
 use Rattle.just_recipes.specs.Bodies.{behind_blank, without_blank_end, blank_end}
 use Rattle.just_recipes.specs.Headers.{stars}
 
@@ -32,11 +33,6 @@ is_some_line [] = false
 is_some_line (p ∷ ps) = true
 
 module _ {T : Type 0} (word : T → Word) where
-  unfoldable pub eol_at : List T → Result (List T) (Stop T)
-  eol_at ts =
-      let a = on (accept word Comment ts) ts (λ p. p.1) in
-      on (accept word Eol a) (if is_next word Eof a then Ok a else Err (unexpected (first a))) (λ p. Ok p.1)
-
   -- Items up to a closing mark. The number bounds the turns, for which the count of the tokens is always enough.
   unfoldable pub until : {A : Type 0} → (List T → Read T A) → TokenKind → ℕ → List T → Read T (List A)
   until item close zero ts = Err (unexpected (first ts))
@@ -175,7 +171,7 @@ module _ {T : Type 0} (word : T → Word) where
     -- what stands between a recipe's name and the end of its first line
     unfoldable pub header_at : List T → Read T Header
     header_at ts =
-        parameters_at (suc (length ts)) [] ts >>= λ ps. expect word Colon ps.1 >>= λ c. dependencies_at c.1 >>= λ ds. subsequents_at ds.1 >>= λ ss. eol_at ss.1 >>= λ rest.
+        parameters_at (suc (length ts)) [] ts >>= λ ps. expect word Colon ps.1 >>= λ c. dependencies_at c.1 >>= λ ds. subsequents_at ds.1 >>= λ ss. eol_at word ss.1 >>= λ rest.
         Ok (record { parameters = ps.0; priors = ds.0; subsequents = ss.0 }, rest)
 
     abbrev pub recipe_from : Bool → List ℕ → Header → List (List Piece) → RecipeShape

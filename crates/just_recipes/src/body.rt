@@ -6,7 +6,7 @@ ghost use Rattle.just_recipes.specs.Bodies.{behind_blank, blank_end, without_bla
 ghost use Rattle.just_expressions.specs.Reading.{Gives, ahead};
 ghost use Rattle.just_recipes.specs.Cooked.{AreFragmentsCooked, IsBodyCooked, IsFragmentCooked, IsLineCooked};
 ghost use Rattle.just_recipes.specs.Seen.{blank_line_at, if_taken};
-ghost use Rattle.just_recipes.specs.Reading.{body_at, eol_at, line_at, lines_at, piece_at, pieces_at};
+ghost use Rattle.just_recipes.specs.Reading.{body_at, line_at, lines_at, piece_at, pieces_at};
 
 use crate::shrinking::{push_compact, shrunk};
 use just_expressions::{Cursor, Fault};
@@ -19,33 +19,6 @@ use std::alloc::Global;
 pub struct BodyRead<'src> {
     pub lines: Vec<Line<'src>>,
     pub blank_lines: usize,
-}
-
-/// Takes the end of a line, perhaps behind a comment. The end of the file serves too, and is not
-/// taken.
-///
-/// `Unexpected` where neither comes. After a refusal it is not said where the cursor stands.
-#[tactic(auto, unfolding(crate::specs::Reading::eol_at, just_expressions::specs::Reading::is_next))]
-pub fn end_of_line<'src>(cursor: &mut Cursor<'_, 'src>) -> Result<(), Fault<'src>>
-    ensures { Gives (λ _. ahead cursor.new) result (eol_at word_of (ahead cursor.old)) }
-{
-    let _comment = cursor.accept(TokenKind::Comment);
-    if cursor.accept(TokenKind::Eol).is_some() || cursor.is_next(TokenKind::Eof) {
-        return Ok(());
-    }
-    Err(cursor.unexpected())
-}
-
-/// What was read, where its line ends here as `end_of_line` has it.
-///
-/// `Unexpected` where the line goes on; then what was read is dropped, and it is not said where the
-/// cursor stands.
-pub fn ended<'src, T: Drop>(cursor: &mut Cursor<'_, 'src>, read: T) -> Result<T, Fault<'src>>
-    ensures gives { Gives (λ _. ahead cursor.new) result (eol_at word_of (ahead cursor.old)) }
-    ensures same { IfOk result (λ x. x ≡ read) }
-{
-    end_of_line(cursor)?;
-    Ok(read)
 }
 
 /// Takes a line on which nothing stands but a comment, if it comes here.

@@ -10,7 +10,7 @@ pub mod recipe;
 pub mod recipe_law;
 mod shrinking;
 
-pub use body::{BodyRead, end_of_line, ended};
+pub use body::BodyRead;
 pub use dependency::{dependencies, subsequents};
 pub use numbering::{next_binding, next_recipe};
 pub use parameter::parameters;

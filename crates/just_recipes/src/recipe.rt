@@ -9,13 +9,13 @@ ghost use Rattle.just_recipes.specs.Seen.{header_shape};
 ghost use Rattle.just_expressions.specs.Reading.{ahead};
 ghost use Rattle.just_recipes.specs.Reading.{header_at, recipe_at};
 
-use crate::body::{body, end_of_line};
+use crate::body::body;
 use crate::dependency::{dependencies, subsequents};
 use crate::numbering::next_recipe;
 use crate::parameter::{marked, parameters};
 use crate::shrinking::shrunk;
 use just_attributes::AttributeSet;
-use just_expressions::{Cursor, Fault};
+use just_expressions::{Cursor, Fault, end_of_line};
 use just_text::{Expander, Name, Numerator, TokenKind};
 use just_tree::{Parameter, Recipe, UnresolvedDependency};
 use std::alloc::Global;

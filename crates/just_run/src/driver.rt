@@ -10,7 +10,7 @@ ghost use Rattle.just_run.specs.declared.outcome.Action.TheVariants.{Run};
 ghost use Rattle.just_builtins.specs.Asking.{Asks, IsAsked};
 
 use crate::fault::Fault;
-use crate::outcome::{Action, Outcome};
+use crate::outcome::{Action, Outcome, Trees};
 use crate::prepared::perform_task;
 use crate::request::{Request, request_of};
 use crate::texts::{tell, write_performed};
@@ -24,6 +24,7 @@ use justfile_syntax::Expander;
 use justfile_syntax::plain_files::Ast as PlainAst;
 use std::alloc::Global;
 use std::collections::BTreeMap;
+use std::mem;
 
 /// Opens all modules, does the task, and writes what it gave.
 fn drive_task<'src, H: RunHost + Drop, O: Out>(
@@ -105,6 +106,14 @@ fn drive_modules<'src, H: RunHost + Drop, O: Out>(
     }
 }
 
+/// Drops the trees of all files, or leaves them.
+fn part_with(compilation: Compilation, trees: Trees) {
+    match trees {
+        Trees::Dropped => drop(compilation),
+        Trees::Left => mem::forget(compilation),
+    }
+}
+
 /// Numbers the variables of the modules, and does what is asked of them.
 fn drive_compilation<'src, H: RunHost + Drop, O: Out>(
     alloc: Global,
@@ -113,6 +122,7 @@ fn drive_compilation<'src, H: RunHost + Drop, O: Out>(
     root: &str,
     words: &Positional,
     action: Action,
+    trees: Trees,
     host: &mut Recorded<H>,
     out: &mut O,
 ) -> Result<Outcome, Fault<'src>>
@@ -120,7 +130,11 @@ fn drive_compilation<'src, H: RunHost + Drop, O: Out>(
     ensures asks { Asks H.goes host.old host.new }
 {
     match number_variables(alloc, &mut compilation) {
-        Ok(()) => drive_modules(alloc, &compilation, config, root, words, action, host, out),
+        Ok(()) => {
+            let driven = drive_modules(alloc, &compilation, config, root, words, action, host, out);
+            part_with(compilation, trees);
+            driven
+        }
         Err(error) => Err(Fault::from(error)),
     }
 }
@@ -135,6 +149,7 @@ fn drive_files<'src, E: Expander, H: RunHost + Drop, O: Out>(
     parsed: Parsed<'src>,
     words: &Positional,
     action: Action,
+    trees: Trees,
     host: &mut Recorded<H>,
     out: &mut O,
 ) -> Result<Outcome, Fault<'src>>
@@ -149,6 +164,7 @@ fn drive_files<'src, E: Expander, H: RunHost + Drop, O: Out>(
             path,
             words,
             action,
+            trees,
             host,
             out,
         ),
@@ -192,6 +208,7 @@ fn drive_root<'src, E: Expander, H: RunHost + Drop, O: Out>(
     root: Root<'src>,
     words: &Positional,
     action: Action,
+    trees: Trees,
     host: &mut Recorded<H>,
     out: &mut O,
 ) -> Result<Outcome, Fault<'src>>
@@ -217,7 +234,7 @@ fn drive_root<'src, E: Expander, H: RunHost + Drop, O: Out>(
                 numerator,
             };
             drive_files(
-                alloc, config, expander, sources, path, parsed, words, action, host, out,
+                alloc, config, expander, sources, path, parsed, words, action, trees, host, out,
             )
         }
     }
@@ -231,7 +248,9 @@ fn drive_root<'src, E: Expander, H: RunHost + Drop, O: Out>(
 /// first, and the recipes that the words name run, each behind all that it depends on, none twice
 /// with the same values, up to the first command that fails; or the variables are written, or the one
 /// command runs. A file of plain recipes that names no other runs by a shorter way, to the same end.
-/// Want of memory, or of numbers for recipes and bindings, may come in the place of any answer.
+/// Want of memory, or of numbers for recipes and bindings, may come in the place of any answer. The
+/// trees of the files are dropped at the end or left, as `trees` says; those of plain recipes are
+/// dropped.
 ///
 /// # Errors
 ///
@@ -246,6 +265,7 @@ pub fn drive<'src, E: Expander, H: RunHost + Drop, O: Out>(
     roots: &'src BTreeMap<Option<String>, String>,
     words: &[String],
     action: Action,
+    trees: Trees,
     host: &mut Recorded<H>,
     out: &mut O,
 ) -> Result<Outcome, Fault<'src>>
@@ -261,6 +281,6 @@ pub fn drive<'src, E: Expander, H: RunHost + Drop, O: Out>(
     let words = Positional::from_values(alloc, words)?;
     let root = read_root(alloc, &words, sources, roots, expander, &config.version)?;
     drive_root(
-        alloc, config, expander, sources, root, &words, action, host, out,
+        alloc, config, expander, sources, root, &words, action, trees, host, out,
     )
 }

@@ -17,4 +17,4 @@ pub use just_host::{
 pub use just_plain_run::{Collected, Device, Out, WriteFailed, write_all};
 pub use just_tasks::CommandFault;
 pub use just_value::{Override, Positional};
-pub use outcome::{Action, Outcome};
+pub use outcome::{Action, Outcome, Trees};

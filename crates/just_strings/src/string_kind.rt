@@ -55,27 +55,21 @@ impl StringPrefix {
     }
 }
 
-/// A string from its quotes on.
-fn quoted(lexeme: &str) -> &str
-    ensures { result.now ≡ spec.quoted lexeme.now }
-{
-    cut::without_front(lexeme, prefix_of(lexeme).text())
-}
-
 impl StringKind {
     /// The form of a string, by the text of its token, or of the first token of a format string.
     #[tactic(auto, unfolding(crate::specs::Kinds::kind_of))]
     pub fn of_lexeme(lexeme: &str) -> StringKind
         ensures { result ≡ spec.kind_of lexeme.now }
     {
-        let quoted = quoted(lexeme);
+        let prefix = prefix_of(lexeme);
+        let quoted = cut::without_front(lexeme, prefix.text());
         StringKind {
             delimiter: if cut::begins(quoted, "\"") {
                 StringDelimiter::QuoteDouble
             } else {
                 StringDelimiter::QuoteSingle
             },
-            prefix: prefix_of(lexeme),
+            prefix,
             tripled: cut::begins(quoted, "'''") || cut::begins(quoted, "\"\"\""),
         }
     }
@@ -93,11 +87,13 @@ impl StringKind {
     }
 }
 
-/// What stands between the marks of a string.
+/// What stands between the marks of a string of this form.
 #[tactic(auto, unfolding(crate::specs::Kinds::kind_of))]
-pub fn contents(lexeme: &str) -> &str
+pub(crate) fn contents(kind: StringKind, lexeme: &str) -> &str
+    requires { kind ≡ spec.kind_of lexeme.now }
     ensures { result.now ≡ spec.contents lexeme.now }
 {
-    let mark = StringKind::of_lexeme(lexeme).mark();
-    cut::without_back(cut::without_front(quoted(lexeme), mark), mark)
+    let mark = kind.mark();
+    let quoted = cut::without_front(lexeme, kind.prefix.text());
+    cut::without_back(cut::without_front(quoted, mark), mark)
 }

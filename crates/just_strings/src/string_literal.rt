@@ -3,6 +3,7 @@ ghost use Rattle.std.specs.Prelude.{◌≡◌, ◌≢◌, IfErr, IfOk};
 ghost use Rattle.just_text.specs.declared.compile_error.CompileErrorKind.TheVariants.{OutOfMemory};
 ghost use Rattle.just_strings.specs.Answering.{Answers};
 ghost use Rattle.just_strings.specs.Cooking as spec;
+ghost use Rattle.just_strings.specs.Kinds.{kind_of};
 
 use crate::escapes::unescape;
 use crate::indentation::unindent;
@@ -75,13 +76,18 @@ fn expanded<E: Expander>(
     }
 }
 
-/// What a string stands for.
+/// What a string of this form stands for.
 #[tactic(auto, unfolding(crate::specs::Cooking::cooked, crate::specs::Kinds::kind_of))]
-fn cooked<E: Expander>(alloc: Global, lexeme: &str, expander: &E) -> Result<Text, CompileErrorKind>
+fn cooked<E: Expander>(
+    alloc: Global,
+    kind: StringKind,
+    lexeme: &str,
+    expander: &E,
+) -> Result<Text, CompileErrorKind>
+    requires { kind ≡ kind_of lexeme.now }
     ensures { Answers (spec.cooked (E.expansion expander.now) lexeme.now) result }
 {
-    let kind = StringKind::of_lexeme(lexeme);
-    let Ok(text) = laid_out(alloc, kind.tripled, contents(lexeme)) else {
+    let Ok(text) = laid_out(alloc, kind.tripled, contents(kind, lexeme)) else {
         return Err(CompileErrorKind::OutOfMemory);
     };
     match read_escapes(alloc, kind.delimiter, text) {
@@ -122,10 +128,11 @@ impl<'src> StringLiteral<'src> {
         ensures place { IfErr result (λ error. error.kind ≢ OutOfMemory → error.token ≡ token.entry) }
     {
         let lexeme = token.lexeme();
-        match cooked(alloc, lexeme, expander) {
+        let kind = StringKind::of_lexeme(lexeme);
+        match cooked(alloc, kind, lexeme, expander) {
             Ok(cooked) => Ok(StringLiteral {
                 cooked,
-                kind: StringKind::of_lexeme(lexeme),
+                kind,
                 token,
             }),
             Err(kind) => Err(refusal(token, kind)),

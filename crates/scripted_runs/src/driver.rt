@@ -4,7 +4,7 @@ use crate::scripted::Scripted;
 use crate::told::told;
 use crate::way::{Telling, Way};
 use crate::whole::told_whole;
-use just_run::{Collected, Entry, Fault, Out, Outcome, Recorded, drive};
+use just_run::{Collected, Entry, Fault, Out, Outcome, Recorded, Trees, drive};
 use justfile_syntax::{ExpandFault, Expander, Text};
 use std::alloc::{AllocError, Global};
 
@@ -73,6 +73,7 @@ pub fn drive_into<'g, O: Out>(
         &given.roots,
         given.words.as_slice(),
         way.action,
+        Trees::Dropped,
         host,
         out,
     )

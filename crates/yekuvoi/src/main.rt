@@ -8,7 +8,7 @@ use anyhow::{Context, Result, bail};
 use just_excerpt::Excerpt;
 use just_expander::Environment;
 use just_loader::{base_folder, find_root, load};
-use just_run::{Config, Device, Fault, Outcome, Recorded, drive};
+use just_run::{Config, Device, Fault, Outcome, Recorded, Trees, drive};
 use just_shell::Shell;
 use just_value::Positional;
 use justfile_syntax::{Os, Text};
@@ -156,6 +156,7 @@ fn drive_project(
         &project.roots,
         words,
         start.action,
+        Trees::Left,
         &mut host,
         &mut out,
     );

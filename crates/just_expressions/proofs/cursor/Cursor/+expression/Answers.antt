@@ -11,6 +11,8 @@ use Rattle.just_expressions.specs.Literals.{is_open}
 use Rattle.just_expressions.specs.Reading.{ahead, accept, expect, operator_at, prefix_at, part_at, operand_at, expression_at, Fails}
 use Rattle.just_expressions.specs.Operators.{right_rank}
 use Rattle.just_expressions.specs.Seen.{operator_seen, prefix_seen}
+use Rattle.just_expressions.specs.Alone.{is_alone}
+use Rattle.just_expressions.proofs.Alone.{expression_alone, expression_step}
 use Rattle.just_expressions.proofs.Cooked.{call_cooked, listing_cooked}
 use Rattle.just_expressions.proofs.Elements.{no_element, no_close, is_last, goes_on, at_end, element_shorter, one_more_cooked, taken}
 use Rattle.just_expressions.proofs.Interpolations.{no_interpolation, no_part, is_last_interpolation, more_interpolations, interpolation_shorter, one_more_interpolation_cooked}
@@ -175,6 +177,21 @@ interpolations-loop-interpolations-preserved g t c =
     let pushed : c.push.new.self.items ≡ l.interpolations.items ++ (c.in_ok-expression-2.expression, c.in_ok-expression-2.part) ∷ [] = search rules in
     let interpolation_pushed = pushed ∙ ap (λ (e : Expression). l.interpolations.items ++ (e, c.in_ok-expression-2.part) ∷ []) given.0 in
     (l.invariant.0 - 1, omega (arith, less, l.invariant.1), rw interpolation_pushed (more_interpolations x c.args.levels c.args.kind l.interpolations.items l.invariant.0 (ahead l.self) _ l.invariant.1 l.invariant.2 c.in_ok-expression.expression (ahead c.ranked.new.self) c.in_ok-expression-2.part (ahead c.part.new.self) c.in_ok-expression.ensures.gives part), rw interpolation_pushed (one_more_interpolation_cooked x c.args.kind l.interpolations.items c.in_ok-expression.expression c.in_ok-expression-2.part l.invariant.3 c.in_ok-expression.ensures.cooked part_cooked of_kind))
+
+pub ranked-returns-then-is_alone-clause-gives : goal.ranked-returns-then-is_alone-clause-gives
+ranked-returns-then-is_alone-clause-gives g t c =
+    let left : c.args.levels ≢ 0 = omega arith in
+    let same : ahead c.is_alone.new.self ≡ ahead c.args.self.now = grind arith in
+    let lone : is_alone word_of (ahead c.args.self.now) ≡ true = grind arith in
+    let read = rw same at c.primary.ensures.gives in
+    rw (expression_alone word_of (g.E.Expander.expansion c.args.expander.now) c.args.levels c.args.rank (ahead c.args.self.now) left lone) read
+
+pub ranked-returns-clause-gives : goal.ranked-returns-clause-gives
+ranked-returns-clause-gives g t c =
+    let left : c.args.levels ≢ 0 = omega arith in
+    let same : ahead c.is_alone.new.self ≡ ahead c.args.self.now = grind arith in
+    let read = rw same at c.operand.ensures.gives in
+    rw (expression_step word_of (g.E.Expander.expansion c.args.expander.now) c.args.levels c.args.rank (ahead c.args.self.now) left) read
 
 pub operand-returns-in_err-operand-clause-gives : goal.operand-returns-in_err-operand-clause-gives
 operand-returns-in_err-operand-clause-gives g t c =

@@ -5,9 +5,9 @@ use Rattle.just_text.specs.declared.token_kind.TokenKind.{TokenKind}
 use Rattle.just_text.specs.declared.token_kind.TokenKind.TheVariants.{Comment, Eof, Eol}
 use Rattle.just_expressions.specs.Words.{is_kind, Mark, Lacks}
 use Rattle.just_expressions.specs.Reading.{on, Stop, unexpected, first, accept, is_next}
-use Rattle.just_recipes.specs.Bodies.{IsEol}
-use Rattle.just_recipes.specs.Reading.{eol_at}
-use Rattle.just_recipes.proofs.RecipeTaken.{lacks, accept_mark, taken, none_taken, not_first, no_accept, is_next-yes}
+use Rattle.just_expressions.specs.LineEnds.{IsEol}
+use Rattle.just_expressions.specs.LineEnds.{eol_at}
+use Rattle.just_expressions.proofs.TokensTaken.{lacks, accept_mark, taken, none_taken, not_first, no_accept, is_next-yes}
 use Rattle.just_expressions.proofs.Taken.{inspect, ok_is}
 
 -- a line ends here, or the file does
