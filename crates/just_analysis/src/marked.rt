@@ -1,5 +1,5 @@
 //! Variables by their numbers.
-use just_reads::ModuleLists;
+use crate::module_lists::ModuleLists;
 use just_text::Number;
 use std::alloc::AllocError;
 use std::collections::BTreeSet;

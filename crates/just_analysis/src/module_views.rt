@@ -1,9 +1,9 @@
 //! What evaluation sees of modules.
 use crate::known_values::KnownValues;
+use crate::module_lists::ModuleLists;
 use crate::variables::ModuleVariables;
 use just_builtins::{ModuleView, Settings};
 use just_compilation::ModuleNode;
-use just_reads::ModuleLists;
 use just_text::Text;
 use std::alloc::{AllocError, Global};
 

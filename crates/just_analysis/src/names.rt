@@ -1,7 +1,7 @@
 //! Submodules by their names, and the recipe that runs where none is named.
+use crate::item_places::ItemPlaces;
 use just_attribute_tree::AttributeKind;
 use just_compilation::{Compilation, ModuleNode, Place};
-use just_dependencies::ItemPlaces;
 use just_text::Name;
 
 /// Whether the module has the name.

@@ -1,10 +1,11 @@
 //! The variables that a lazy justfile evaluates.
 use crate::marked::add_marked;
+use crate::module_lists::ModuleLists;
+use crate::module_reads::ModuleReads;
 use crate::recipes::ResolvedRecipe;
 use crate::variables::ModuleVariables;
 use just_builtins::{AssignmentRef, Settings};
-use just_graph::reached;
-use just_reads::{ModuleLists, ModuleReads};
+use just_order::reached;
 use just_text::Number;
 use std::alloc::{AllocError, Global};
 use std::collections::BTreeSet;

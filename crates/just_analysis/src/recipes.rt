@@ -1,6 +1,7 @@
 //! The recipes of all modules in their order, and what aliases stand for.
+use crate::aliases::ResolvedAlias;
+use crate::item_places::ItemPlaces;
 use just_compilation::Place;
-use just_dependencies::{ItemPlaces, ResolvedAlias};
 use just_text::Name;
 
 /// A recipe, and the places of what it depends on and reads.

@@ -1,5 +1,6 @@
 //! The variables of all modules, what they read, and their orders.
-use just_reads::{ModuleLists, ModuleReads};
+use crate::module_lists::ModuleLists;
+use crate::module_reads::ModuleReads;
 
 /// What each module keeps, what its variables and functions read, and the order of its variables, by
 /// the modules' places.

@@ -11,13 +11,16 @@ use Rattle.just_expressions.specs.Laws.{Exactly}
 use Rattle.just_expressions.specs.Reading.{Read, accept}
 use Rattle.just_expressions.specs.Strings.{IsExpression, IsString}
 use Rattle.just_expressions.proofs.Taken.{bind_ok, inspect, turned, accept_mark, accept_none, marked, lacks_accept, other_accept}
-use Rattle.just_attribute_lines.specs.Rows.{IsComma, Follow, IfGiven}
+use Rattle.just_attribute_lines.specs.Rows.{Follow, IfGiven}
 use Rattle.just_attribute_lines.specs.Options.{OptionShape, with_option, with_all, without_options, if_whole, options_of}
 use Rattle.just_attribute_lines.specs.Arguments.{Sort, of_strings, of_expressions, of_parameter, Arguments, nothing, strings, expressions, parameter, lone, made}
 use Rattle.just_attribute_lines.specs.Lines.{IsOption, AreInside, IsBehindColon, AreArguments}
-use Rattle.just_attribute_lines.specs.Reading.{more_at, whole_at, text_at, option_at, others_at, inside_at, arguments_at}
+use Rattle.just_attribute_lines.specs.Reading.{whole_at, text_at, option_at, others_at, inside_at, arguments_at}
+use Rattle.just_expressions.specs.Rows.{more_at, IsComma}
 use Rattle.just_attribute_lines.proofs.Rest.{Takes, comma_takes, given_takes, string_takes, expression_takes, option_takes}
-use Rattle.just_attribute_lines.proofs.RowsExact.{UnlessNone, AreGiven, given_follow, Reads, Found, Again, turns_enough, follow_found, follow_again, more_found, more_again}
+use Rattle.just_attribute_lines.proofs.RowsExact.{UnlessNone, AreGiven, given_follow, Found, Again, turns_enough, follow_found, follow_again}
+use Rattle.just_expressions.proofs.TokensTaken.{Reads}
+use Rattle.just_expressions.proofs.Rows.{more_found, more_again}
 use Rattle.just_attribute_lines.proofs.StringsExact.{string_found, string_again, whole_found, whole_again}
 use Rattle.just_attribute_lines.proofs.OptionsExact.{option_found, given_again}
 use Rattle.just_expressions.specs.Grammar.{Closes}

@@ -16,7 +16,8 @@ use Rattle.just_attribute_lines.specs.Lines.{IsBetween, IsLast, AreArguments, Is
 use Rattle.just_attribute_lines.specs.Reading.{kind_named, another_at, follow_at, arguments_at, known_at, attribute_at, attributes_at}
 use Rattle.just_attribute_lines.specs.Laws.{AttributesExactly}
 use Rattle.just_attribute_lines.proofs.Rest.{given_takes, between_takes, attribute_takes}
-use Rattle.just_attribute_lines.proofs.RowsExact.{UnlessNone, some_follow, follow_some, Reads, Found, Again, turns_enough, follow_found, follow_again}
+use Rattle.just_attribute_lines.proofs.RowsExact.{UnlessNone, some_follow, follow_some, Found, Again, turns_enough, follow_found, follow_again}
+use Rattle.just_expressions.proofs.TokensTaken.{Reads}
 use Rattle.just_attribute_lines.proofs.KindNames.{has_name, found_by_name}
 use Rattle.just_attribute_lines.proofs.ArgumentsExact.{made_known, arguments_found, arguments_again}
 use Rattle.just_attribute_lines.proofs.LineEndsExact.{another_found, another_again}

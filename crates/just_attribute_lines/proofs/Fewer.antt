@@ -1,25 +1,26 @@
 -- What is read of attributes leaves fewer tokens.
-use Rattle.std.proofs.Common.{◌≡◌, ℕ, zero, suc, ◌<◌, ◌≤◌, Bool, true, false, List, [], ◌∷◌, length, Result, Ok, Err, Option, Some, None, refl, ap, arith, inl, inr, if◌then◌else◌}
+use Rattle.std.proofs.Common.{◌≡◌, ℕ, zero, suc, ◌<◌, ◌≤◌, Bool, true, false, List, [], ◌∷◌, length, Ok, Option, Some, None, ap, arith, inl, inr, if◌then◌else◌}
 use Rattle.std.specs.Prelude.{codes}
 use Rattle.std.specs.Str.{bytes_eq}
 use Rattle.just_text.specs.Tokens.{Word}
-use Rattle.just_text.specs.declared.token_kind.TokenKind.{TokenKind}
-use Rattle.just_text.specs.declared.token_kind.TokenKind.TheVariants.{BracketL, BracketR, Colon, Comma, Comment, Eol, Equals, Identifier, ParenL, ParenR, StringToken}
+use Rattle.just_text.specs.declared.token_kind.TokenKind.TheVariants.{BracketL, BracketR, Colon, Comment, Eol, Equals, Identifier, ParenL, ParenR, StringToken}
 use Rattle.just_strings.specs.Cooking.{cooked}
 use Rattle.just_attribute_tree.specs.declared.attribute.AttributeKind.{AttributeKind}
 use Rattle.just_attribute_tree.specs.Attributes.{AttributeShape}
 use Rattle.just_expression_tree.specs.Shape.{Shape}
 use Rattle.just_attribute_tree.specs.Forms.{form_of, takes}
 use Rattle.just_expressions.specs.Literals.{Expansion}
-use Rattle.just_expressions.specs.Reading.{◌>>=◌, Stop, Read, taken_if, accept, expect}
+use Rattle.just_expressions.specs.Reading.{◌>>=◌, Stop, Read, taken_if, accept}
 use Rattle.just_expressions.specs.Words.{is_kind}
+use Rattle.just_expressions.proofs.Rows.{more_shorter}
 use Rattle.just_expressions.proofs.Shorter.{accept_shorter, expect_shorter, expression_shorter, ended}
 use Rattle.just_expressions.specs.Strings.{string_at}
 use Rattle.just_attribute_lines.specs.Arguments.{Sort, of_strings, of_expressions, of_parameter, sort_of, Arguments, nothing, strings, expressions, parameter, count, lone, made}
 use Rattle.just_attribute_lines.specs.Lines.{behind_comments, behind_one}
 use Rattle.just_attribute_lines.specs.Options.{OptionShape, flag, multiple, long, help, max, min, short, value}
-use Rattle.just_attribute_lines.specs.Reading.{more_at, follow_at, line_end_at, another_at, whole_at, text_at, assigned_at, long_at, value_at, unknown_at, named_at, option_at, others_at, inside_at, arguments_at, counted, known_at, kind_named, attribute_at}
-use Rattle.just_expressions.proofs.Taken.{inspect, test, bind_ok, done, ok_is}
+use Rattle.just_attribute_lines.specs.Reading.{follow_at, line_end_at, another_at, whole_at, text_at, assigned_at, long_at, value_at, unknown_at, named_at, option_at, others_at, inside_at, arguments_at, known_at, kind_named, attribute_at}
+use Rattle.just_expressions.specs.Rows.{more_at}
+use Rattle.just_expressions.proofs.Taken.{inspect, test, bind_ok, ok_is}
 
 -- ---- steps
 
@@ -29,21 +30,6 @@ shaped read f n each p h = let s = bind_ok _ _ p h in ended (f s.0.0) s.0.1 p n 
 
 module _ {T : Type 0} (word : T → Word) where
   -- ---- rows
-
-  pub more_shorter : (close : TokenKind) (ts : List T) (p : Bool × List T) → more_at word close ts ≡ Ok p → length p.1 < length ts
-  unfolding more_at
-  more_shorter close ts p h =
-      elim (inspect (accept word Comma ts)) [
-        | inl w ↦
-            let e = bind_ok _ _ p (rw w at h) in
-            let less = expect_shorter word close ts e.0 e.1 in ended false e.0.1 p (length ts) e.2 less
-        | inr w ↦
-            let comma = accept_shorter word Comma ts w.0 w.1 in
-            elim (inspect (accept word close w.0.1)) [
-              | inl v ↦ ended true w.0.1 p (length ts) (rw (w.1, v) at h) comma
-              | inr v ↦ let less = accept_shorter word close w.0.1 v.0 v.1 in ended false v.0.1 p (length ts) (rw (w.1, v.1) at h) (omega (arith, comma, less))
-            ]
-      ]
 
   pub follow_shorter : {A : Type 0} (item : List T → Read T A) (more : List T → Read T Bool)
       (each : (ts : List T) (p : A × List T) → item ts ≡ Ok p → length p.1 < length ts) (told : (ts : List T) (p : Bool × List T) → more ts ≡ Ok p → length p.1 < length ts)
@@ -99,7 +85,7 @@ module _ {T : Type 0} (word : T → Word) where
   unfolding another_at
   another_shorter ts p h =
       let m = bind_ok _ _ p h in
-      let less = more_shorter BracketR ts m.0 m.1 in
+      let less = more_shorter word BracketR ts m.0 m.1 in
       elim (test m.0.0) [
         | inl e ↦ let q = ap (λ (z : Bool × List T). z.1) (ok_is {A = Bool × List T} {E = Stop T} m.0 p (rw e at m.2)) in rw (← q) less
         | inr e ↦
@@ -202,7 +188,7 @@ module _ {T : Type 0} (word : T → Word) where
 
     others_shorter : {A : Type 0} (item : List T → Read T A) (each : (ts : List T) (p : A × List T) → item ts ≡ Ok p → length p.1 < length ts) (ts : List T) (p : List A × List T)
         → others_at word expansion item ts ≡ Ok p → length p.1 < length ts
-    others_shorter item each ts p h = follow_shorter item (more_at word ParenR) each (more_shorter ParenR) (suc (length ts)) ts p h
+    others_shorter item each ts p h = follow_shorter item (more_at word ParenR) each (more_shorter word ParenR) (suc (length ts)) ts p h
 
     inside_shorter : (sort : Sort) (ts : List T) (p : Arguments × List T) → inside_at word expansion sort ts ≡ Ok p → length p.1 < length ts
     unfolding inside_at

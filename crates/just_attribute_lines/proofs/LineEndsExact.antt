@@ -5,10 +5,11 @@ use Rattle.just_text.specs.declared.token_kind.TokenKind.TheVariants.{BracketL, 
 use Rattle.just_expressions.specs.Words.{is_kind}
 use Rattle.just_expressions.specs.Reading.{Stop, accept, expect}
 use Rattle.just_expressions.proofs.Taken.{bind_ok, inspect, test, turned, ok_is, accept_mark, accept_none, expect_mark, marked, lacks_accept}
-use Rattle.just_attribute_lines.specs.Rows.{IsComma}
 use Rattle.just_attribute_lines.specs.Lines.{behind_comments, behind_one, IsLineEnd, IsBetween, IsLast}
-use Rattle.just_attribute_lines.specs.Reading.{more_at, line_end_at, another_at}
-use Rattle.just_attribute_lines.proofs.RowsExact.{BetweenOrEnd, Found, Again, more_found, more_again}
+use Rattle.just_attribute_lines.specs.Reading.{line_end_at, another_at}
+use Rattle.just_expressions.specs.Rows.{more_at, BetweenOrEnd, IsComma}
+use Rattle.just_attribute_lines.proofs.RowsExact.{Found, Again}
+use Rattle.just_expressions.proofs.Rows.{more_found, more_again}
 use Rattle.just_expressions.specs.Grammar.{Closes}
 
 module _ {T : Type 0} (word : T → Word) where

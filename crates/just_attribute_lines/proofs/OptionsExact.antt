@@ -14,7 +14,8 @@ use Rattle.just_attribute_lines.specs.Rows.{IfGiven}
 use Rattle.just_attribute_lines.specs.Options.{OptionShape, flag, multiple, long, help, max, min, short, value}
 use Rattle.just_attribute_lines.specs.Lines.{IsAssigned, IsOption}
 use Rattle.just_attribute_lines.specs.Reading.{assigned_at, long_at, value_at, unknown_at, named_at, option_at}
-use Rattle.just_attribute_lines.proofs.RowsExact.{UnlessNone, Reads, Found, Again}
+use Rattle.just_attribute_lines.proofs.RowsExact.{UnlessNone, Found, Again}
+use Rattle.just_expressions.proofs.TokensTaken.{Reads}
 use Rattle.just_attribute_lines.proofs.StringsExact.{IsSet, string_found, string_again, assigned_found, assigned_again, value_found, value_again}
 
 -- up to rest there is `=` and a string, or nothing where no `=` stands

@@ -10,7 +10,8 @@ use Rattle.just_expressions.specs.Words.{is_kind, Begins, Mark}
 use Rattle.just_expressions.specs.Literals.{Expansion}
 use Rattle.just_expressions.specs.Strings.{IsAside, IsExpression, IsString}
 use Rattle.just_expressions.proofs.Starts.{shorter}
-use Rattle.just_attribute_lines.specs.Rows.{IsComma, Follow, IfGiven}
+use Rattle.just_attribute_lines.specs.Rows.{Follow, IfGiven}
+use Rattle.just_expressions.specs.Rows.{IsComma}
 use Rattle.just_attribute_lines.specs.Options.{OptionShape, flag, multiple, long, help, max, min, short, value}
 use Rattle.just_attribute_lines.specs.Arguments.{Sort, of_strings, of_expressions, of_parameter, sort_of, Arguments, nothing, strings, expressions, parameter}
 use Rattle.just_attribute_lines.specs.Lines.{behind_comments, behind_one, IsLineEnd, IsBracketEnd, IsBetween, IsAssigned, IsOption, AreInside, IsBehindColon, AreArguments, IsAttribute}

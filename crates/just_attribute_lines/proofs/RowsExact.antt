@@ -2,20 +2,13 @@
 use Rattle.std.proofs.Common.{◌≡◌, ℕ, zero, suc, ◌<◌, Bool, true, false, List, [], ◌∷◌, length, map, Ok, Option, Some, None, refl, arith, inl, inr}
 use Rattle.std.proofs.lemmas.List.{length-map}
 use Rattle.just_text.specs.Tokens.{Word}
-use Rattle.just_text.specs.declared.token_kind.TokenKind.{TokenKind}
-use Rattle.just_text.specs.declared.token_kind.TokenKind.TheVariants.{Comma}
-use Rattle.just_expressions.specs.Words.{is_kind}
-use Rattle.just_expressions.specs.Reading.{Read, accept}
-use Rattle.just_expressions.proofs.Taken.{bind_ok, inspect, test, turned, accept_mark, accept_none, expect_mark, marked, lacks_accept, other_accept}
-use Rattle.just_attribute_lines.specs.Rows.{IsComma, Follow, IfGiven}
-use Rattle.just_attribute_lines.specs.Reading.{more_at, follow_at}
+use Rattle.just_expressions.specs.Reading.{Read}
+use Rattle.just_expressions.specs.Rows.{BetweenOrEnd}
+use Rattle.just_expressions.proofs.Taken.{bind_ok, test, turned}
+use Rattle.just_expressions.proofs.TokensTaken.{Reads}
+use Rattle.just_attribute_lines.specs.Rows.{Follow, IfGiven}
+use Rattle.just_attribute_lines.specs.Reading.{follow_at}
 use Rattle.just_attribute_lines.proofs.Rest.{Takes}
-use Rattle.just_expressions.specs.Grammar.{Closes}
-
--- up to rest there is what stands between two items, or the end behind the last
-abbrev pub BetweenOrEnd : (List Word → List Word → Type 0) → (List Word → List Word → Type 0) → Bool → List Word → List Word → Type 0
-BetweenOrEnd Between End true words rest = Between words rest
-BetweenOrEnd Between End false words rest = End words rest
 
 -- if there is an item, the words spell it
 abbrev pub UnlessNone : {A : Type 0} → (A → List Word → List Word → Type 0) → Option A → List Word → List Word → Type 0
@@ -44,19 +37,13 @@ module _ {A : Type 0} (Is : A → List Word → List Word → Type 0) (Between E
   follow_some (x ∷ xs) ws rest (a, b, m, i, f) = (a, b, m, i, follow_some xs b rest f)
 
 module _ {T : Type 0} (word : T → Word) where
-  -- what is read where a thing is spelled, and what is left then
-  pub record Reads {A : Type 0} (read : Read T A) (x : A) (ws : List Word) : Type 0 where
-    pub rest : List T
-    pub is : read ≡ Ok (x, rest)
-    pub others : map word rest ≡ ws
-
   -- what is read is spelled
   abbrev pub Found : {A : Type 0} → (A → List Word → List Word → Type 0) → (List T → Read T A) → Type 0
   Found {A = A} Is read = (ts : List T) (p : A × List T) → read ts ≡ Ok p → Is p.0 (map word ts) (map word p.1)
 
   -- what is spelled is read
   abbrev pub Again : {A : Type 0} → (A → List Word → List Word → Type 0) → (List T → Read T A) → Type 0
-  Again {A = A} Is read = (x : A) (ts : List T) (ws : List Word) → Is x (map word ts) ws → Reads (read ts) x ws
+  Again {A = A} Is read = (x : A) (ts : List T) (ws : List Word) → Is x (map word ts) ws → Reads word (read ts) x ws
 
   -- as many turns as there are tokens are enough
   pub turns_enough : (ts : List T) → length (map word ts) < suc (length ts)
@@ -84,7 +71,7 @@ module _ {T : Type 0} (word : T → Word) where
         ]
 
     module _ (items : Again Is item) (mores : Again (BetweenOrEnd Between End) more) (each : (x : A) → Takes (Is x)) (takes : Takes Between) where
-      pub follow_again : (xs : List A) (n : ℕ) (ts : List T) (ws : List Word) → length (map word ts) < n → Follow Is Between End xs (map word ts) ws → Reads (follow_at word item more n ts) xs ws
+      pub follow_again : (xs : List A) (n : ℕ) (ts : List T) (ws : List Word) → length (map word ts) < n → Follow Is Between End xs (map word ts) ws → Reads word (follow_at word item more n ts) xs ws
       unfolding follow_at
       follow_again xs zero ts ws turns f = absurd (omega arith)
       follow_again [] (suc n) ts ws turns f = let m = mores false ts ws f in record { rest = m.rest; is = rw m.is refl; others = m.others }
@@ -95,38 +82,3 @@ module _ {T : Type 0} (word : T → Word) where
           let q = each x a b i in
           let r = follow_again xs n j.rest ws (rw j.others (omega (arith, p, q, turns))) (rw j.others f) in
           record { rest = r.rest; is = rw (g.is, j.is, r.is) refl; others = r.others }
-
-  -- ---- commas
-
-  module _ (close : TokenKind) where
-    pub more_found : Found (BetweenOrEnd (IsComma close) (Closes close)) (more_at word close)
-    unfolding more_at
-    more_found ts p h =
-        elim (inspect (accept word Comma ts)) [
-          | inl w ↦
-              let e = bind_ok _ _ p (rw w at h) in
-              turned (λ (z : Bool × List T). BetweenOrEnd (IsComma close) (Closes close) z.0 (map word ts) (map word z.1)) (false, e.0.1) p e.2 (inl (expect_mark word close ts e.0 e.1))
-          | inr w ↦ elim (inspect (accept word close w.0.1)) [
-            | inl v ↦
-                turned (λ (z : Bool × List T). BetweenOrEnd (IsComma close) (Closes close) z.0 (map word ts) (map word z.1)) (true, w.0.1) p (rw (w.1, v) at h)
-                (accept_mark word Comma ts w.0 w.1, accept_none word close w.0.1 v)
-            | inr v ↦
-                turned (λ (z : Bool × List T). BetweenOrEnd (IsComma close) (Closes close) z.0 (map word ts) (map word z.1)) (false, v.0.1) p (rw (w.1, v.1) at h)
-                (inr (map word w.0.1, accept_mark word Comma ts w.0 w.1, accept_mark word close w.0.1 v.0 v.1))
-          ]
-        ]
-
-    pub more_again : is_kind close Comma ≡ false → Again (BetweenOrEnd (IsComma close) (Closes close)) (more_at word close)
-    unfolding more_at
-    more_again differs true ts ws (m, l) =
-        let c = marked word Comma ts ws m in
-        let stop = lacks_accept word close c.rest (rw c.others l) in
-        record { rest = c.rest; is = rw (c.accepts, stop) refl; others = c.others }
-    more_again differs false ts ws (inl m) =
-        let t = marked word close ts ws m in
-        let no_comma = other_accept word Comma close ts ws m differs in
-        record { rest = t.rest; is = rw (no_comma, t.expects) refl; others = t.others }
-    more_again differs false ts ws (inr (a, c, m)) =
-        let d = marked word Comma ts a c in
-        let t = marked word close d.rest ws (rw d.others m) in
-        record { rest = t.rest; is = rw (d.accepts, t.accepts) refl; others = t.others }

@@ -3,8 +3,7 @@ use Rattle.std.specs.Prelude.{ℕ, zero, suc, List, [], ◌∷◌, length, Bool,
 use Rattle.std.specs.Str.{bytes_eq}
 use Rattle.just_text.specs.Tokens.{Word}
 use Rattle.just_text.specs.declared.compile_error.CompileErrorKind.TheVariants as kinds
-use Rattle.just_text.specs.declared.token_kind.TokenKind.{TokenKind}
-use Rattle.just_text.specs.declared.token_kind.TokenKind.TheVariants.{BracketL, BracketR, Colon, Comma, Comment, Eol, Equals, Identifier, ParenL, ParenR}
+use Rattle.just_text.specs.declared.token_kind.TokenKind.TheVariants.{BracketL, BracketR, Colon, Comment, Eol, Equals, Identifier, ParenL, ParenR}
 use Rattle.just_attribute_tree.specs.declared.attribute.AttributeKind.{AttributeKind}
 use Rattle.just_attribute_tree.specs.declared.attribute.AttributeKind.TheVariants.{Android, Arg, Cache, Confirm, Default, Doc, Dragonfly, Env, ExitMessage, Extension, Freebsd, Group, Linux, Macos, Metadata, Netbsd, NoCd, NoExitMessage, NoQuiet, Openbsd, Parallel, PositionalArguments, Private, Script, Unix, Windows, WorkingDirectory}
 use Rattle.just_attribute_tree.specs.Attributes.{AttributeShape}
@@ -13,6 +12,7 @@ use Rattle.just_attribute_tree.specs.Forms.{form_of, takes}
 use Rattle.just_attribute_tree.specs.Kinds.{named}
 use Rattle.just_expressions.specs.Literals.{Expansion}
 use Rattle.just_expressions.specs.Reading.{◌>>=◌, on, Read, Stop, unexpected, refused, first, accept, expect, expression_at}
+use Rattle.just_expressions.specs.Rows.{more_at}
 use Rattle.just_expressions.specs.Strings.{string_at}
 use Rattle.just_attribute_lines.specs.Lines.{behind_comments}
 use Rattle.just_attribute_lines.specs.Options.{OptionShape, flag, multiple, long, help, max, min, short, value}
@@ -29,13 +29,6 @@ abbrev pub kind_named : List ℕ → Option AttributeKind
 kind_named name = named name all_kinds
 
 module _ {T : Type 0} (word : T → Word) where
-  -- whether another item comes, where the closing mark ends the row, perhaps behind a comma
-  unfoldable pub more_at : TokenKind → List T → Read T Bool
-  more_at close ts =
-      on (accept word Comma ts)
-      (expect word close ts >>= λ p. Ok (false, p.1))
-      (λ c. on (accept word close c.1) (Ok (true, c.1)) (λ p. Ok (false, p.1)))
-
   -- Items as long as more come. The number bounds the turns, for which the count of the tokens is always enough.
   unfoldable pub follow_at : {A : Type 0} → (List T → Read T A) → (List T → Read T Bool) → ℕ → List T → Read T (List A)
   follow_at item more zero ts = Err (unexpected (first ts))
@@ -49,7 +42,7 @@ module _ {T : Type 0} (word : T → Word) where
   -- whether another attribute comes: behind a comma, or in brackets on a line of its own
   unfoldable pub another_at : List T → Read T Bool
   another_at ts =
-      more_at BracketR ts >>= λ m. if m.0 then Ok m else
+      more_at word BracketR ts >>= λ m. if m.0 then Ok m else
       line_end_at m.1 >>= λ rest. on (accept word BracketL rest) (Ok (false, rest)) (λ o. Ok (true, o.1))
 
   module _ (expansion : Expansion) where
@@ -97,7 +90,7 @@ module _ {T : Type 0} (word : T → Word) where
 
     -- items behind the first, up to a closing parenthesis
     abbrev pub others_at : {A : Type 0} → (List T → Read T A) → List T → Read T (List A)
-    others_at item ts = follow_at item (more_at ParenR) (suc (length ts)) ts
+    others_at item ts = follow_at item (more_at word ParenR) (suc (length ts)) ts
 
     -- arguments of that sort, one or more, and a closing parenthesis
     unfoldable pub inside_at : Sort → List T → Read T Arguments

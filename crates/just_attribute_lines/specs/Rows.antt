@@ -1,13 +1,6 @@
 -- Items in a row, and what stands between them.
 use Rattle.std.specs.Prelude.{◌⊎◌, List, [], ◌∷◌, Option, Some, None}
 use Rattle.just_text.specs.Tokens.{Word}
-use Rattle.just_text.specs.declared.token_kind.TokenKind.{TokenKind}
-use Rattle.just_text.specs.declared.token_kind.TokenKind.TheVariants.{Comma}
-use Rattle.just_expressions.specs.Words.{Mark, Lacks}
-
--- up to rest there is a comma behind which something other than the closing mark follows
-abbrev pub IsComma : TokenKind → List Word → List Word → Type 0
-IsComma close words rest = Mark Comma words rest × Lacks close rest
 
 -- up to rest these items follow, each behind what stands between two, and the end behind the last
 abbrev pub Follow : {A : Type 0} → (A → List Word → List Word → Type 0) → (List Word → List Word → Type 0) → (List Word → List Word → Type 0) → List A → List Word → List Word → Type 0

@@ -11,10 +11,9 @@ ghost use Rattle.just_attribute_lines.specs.Held.{IsCookedArguments, IsCookedGiv
 ghost use Rattle.just_attribute_lines.specs.Reading.{arguments_at, inside_at, option_at, others_at, text_at, whole_at};
 
 use crate::parameter_option::{OptionRead, option};
-use crate::row::is_more;
 use just_attribute_tree::ArgumentForm;
 use just_expression_tree::Expression;
-use just_expressions::{Cursor, Fault};
+use just_expressions::{Cursor, Fault, is_more};
 use just_strings::StringLiteral;
 use just_text::{Expander, TokenKind, both};
 use std::alloc::Global;

@@ -16,8 +16,8 @@ ghost use Rattle.just_attribute_lines.specs.Seen.{AreWholeReads, IsWholeRead, op
 
 use crate::argument_options::options_of;
 use crate::arguments::{ArgumentsRead, arguments};
+use crate::between::is_another;
 use crate::make::made;
-use crate::row::is_another;
 use just_attribute_tree::{
     ArgumentForm, ArgumentOptions, Attribute, AttributeKind, kind_from_name,
 };

@@ -4,9 +4,9 @@
 mod argument_options;
 mod arguments;
 mod attribute;
+mod between;
 pub mod law;
 mod make;
 mod parameter_option;
-mod row;
 
 pub use attribute::{AttributeRead, attributes};

@@ -20,14 +20,15 @@ use std::alloc::{AllocError, Global};
 pub(crate) fn item_name<'src>(item: &Item<'src>) -> &'src str
     ensures { result.now ≡ name_of (item_shape item.now) }
 {
-    match item {
-        Item::Alias(alias) => alias.name.lexeme(),
-        Item::Assignment(assignment) => assignment.name.lexeme(),
-        Item::Module(submodule) => submodule.name.lexeme(),
-        Item::Recipe(recipe) => recipe.name.lexeme(),
-        Item::Set(set) => set.name.lexeme(),
-        _ => "",
-    }
+    let name = match item {
+        Item::Alias(alias) => alias.name,
+        Item::Assignment(assignment) => assignment.name,
+        Item::Module(submodule) => submodule.name,
+        Item::Recipe(recipe) => recipe.name,
+        Item::Set(set) => set.name,
+        _ => return "",
+    };
+    name.lexeme()
 }
 
 /// The name of the attribute's kind; empty where the attribute is not known.

@@ -1,5 +1,5 @@
 //! Attributes in their order, and beside them the options of those that are `arg`s.
-ghost use Rattle.std.specs.Prelude.{◌≡◌, ◌++◌, [], IfOk, OnOk, map};
+ghost use Rattle.std.specs.Prelude.{◌≡◌, ◌++◌, [], IfOk, OnOk, Some, map};
 ghost use Rattle.std.specs.List.{cons_option};
 ghost use Rattle.std.specs.Option.{option_map};
 ghost use Rattle.just_attributes.specs.Order.{in_order, item_shape};
@@ -58,6 +58,18 @@ fn push_both<A: Drop, O: Drop>(
     push_given(options, option)
 }
 
+/// The attribute with its name.
+fn named<'src>(
+    alloc: Global,
+    attribute: Attribute<'src>,
+    name: Name<'src>,
+) -> Result<Option<AttributeItem<'src>>, AllocError>
+    ensures { IfOk result (λ item. option_map attribute_in item ≡ Some attribute.entry) }
+{
+    let item = AttributeItem::new(alloc, attribute, name)?;
+    Ok(Some(item))
+}
+
 /// The attribute with its name, if it is one.
 fn item<'src>(
     alloc: Global,
@@ -67,7 +79,7 @@ fn item<'src>(
     ensures { IfOk result (λ item. option_map attribute_in item ≡ attribute.entry) }
 {
     match attribute {
-        Some(attribute) => Ok(Some(AttributeItem::new(alloc, attribute, name)?)),
+        Some(attribute) => named(alloc, attribute, name),
         None => Ok(None),
     }
 }

@@ -2,7 +2,7 @@
 use Rattle.std.specs.Prelude.{ℕ, List}
 use Rattle.just_host.specs.declared.job.Pair.{Pair}
 use Rattle.just_value.specs.Frames.{Frames}
-use Rattle.just_environment.specs.Environment.{IsEnvironment, given_pairs, texts}
+use Rattle.just_functions.specs.Environment.{IsEnvironment, given_pairs, texts}
 use Rattle.just_builtins.specs.declared.context.ExecutionContext.{ExecutionContext}
 
 -- what the files of variables gave for the module, the frames around the innermost one and further pairs

@@ -7,7 +7,7 @@ ghost use Rattle.just_builtins.specs.Asking.{Asks};
 
 use crate::asked::ask_text;
 use crate::context::ExecutionContext;
-use just_environment::JobEnvironment;
+use just_functions::JobEnvironment;
 use just_host::{CommandJob, Host, HostFault, Pair, Question, Recorded};
 use just_text::{Sequence, Text};
 use just_value::Scope;

@@ -6,7 +6,7 @@ ghost use Rattle.just_builtins.specs.Environments.{IsEnvironmentIn};
 ghost use Rattle.just_builtins.specs.Folders.{folder_below};
 
 use crate::settings::Settings;
-use just_environment::JobEnvironment;
+use just_functions::JobEnvironment;
 use just_host::{Config, Pair};
 use just_text::{Name, Number};
 use just_tree::{Assignment, FunctionDefinition};

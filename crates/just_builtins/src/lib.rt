@@ -18,7 +18,8 @@ pub use call::call_builtin;
 pub use command::{command_output, line_job, run_command};
 pub use context::{AssignmentRef, ExecutionContext, FunctionRef, ModuleView, find_function};
 pub use error::Error;
-pub use just_environment::JobEnvironment;
-pub use just_functions::{ArgumentCount, Function, FunctionFault, text_at, text_of};
+pub use just_functions::{
+    ArgumentCount, Function, FunctionFault, JobEnvironment, text_at, text_of,
+};
 pub use settings::{DEFAULT_SHELL, DEFAULT_SHELL_ARGS, Settings, interpreter_words};
 pub use site::{CallSite, os_name};

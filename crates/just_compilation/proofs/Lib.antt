@@ -1,0 +1,4 @@
+pub mod Tabled
+pub mod Walks
+pub mod Keys
+pub mod Pieces

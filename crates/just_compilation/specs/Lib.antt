@@ -1,2 +1,5 @@
 pub mod Places
 pub mod Refusals
+pub mod Paths
+pub mod Modulepaths
+pub mod Tables

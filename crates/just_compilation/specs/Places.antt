@@ -1,5 +1,5 @@
 -- What stands at a place.
-use Rattle.std.specs.Prelude.{ℕ, List, [], Bool, true, false, Option, Some, None, slice_get}
+use Rattle.std.specs.Prelude.{ℕ, List, [], Bool, true, false, Option, Some, None, Result, Ok, Err, slice_get}
 use Rattle.std.specs.Option.{option_and_then}
 use Rattle.just_text.specs.Tokens.{lexeme}
 use Rattle.just_text.specs.declared.name.Name.{Name}
@@ -8,6 +8,11 @@ use Rattle.just_tree.specs.declared.ast.Item.TheVariants.{Alias, Assignment, Com
 use Rattle.just_compilation.specs.declared.place.Place.{Place}
 use Rattle.just_compilation.specs.declared.module_node.File.{File}
 use Rattle.just_compilation.specs.declared.compilation.Compilation.{Compilation}
+
+-- what is answered where an outcome may be a refusal: what is given, or the refusal
+abbrev pub unless_refused : {A B E : Type 0} → A → Result B E → Result A E
+unless_refused a (Ok done) = Ok a
+unless_refused a (Err refused) = Err refused
 
 -- the items of the file at a place, none where there is no file
 abbrev pub items_of : Option File → List Item

@@ -1,5 +1,5 @@
 //! Compiled justfiles.
-ghost use Rattle.std.specs.Prelude.{◌≡◌, IfSome, Some, is_some, option_map, slice_get};
+ghost use Rattle.std.specs.Prelude.{[], ◌∷◌, ◌≡◌, ◌++◌, IfSome, OnOk, Some, is_some, option_map, slice_get};
 ghost use Rattle.just_tree.specs.declared.ast.Item.TheVariants as items;
 ghost use Rattle.just_compilation.specs.Places as spec;
 
@@ -33,7 +33,10 @@ pub enum Target {
 
 impl<'src> Compilation<'src> {
     /// No file and no module. Takes no memory.
-    pub fn new(alloc: Global) -> Compilation<'src> {
+    pub fn new(alloc: Global) -> Compilation<'src>
+        ensures files { result.files.items ≡ [] }
+        ensures modules { result.modules.items ≡ [] }
+    {
         Compilation {
             files: Vec::new(alloc),
             modules: Vec::new(alloc),
@@ -41,14 +44,20 @@ impl<'src> Compilation<'src> {
     }
 
     /// Puts the file behind the others. Refused only where memory is, and the file is dropped then.
-    pub fn add_file(&mut self, file: File<'src>) -> Result<(), AllocError> {
+    pub fn add_file(&mut self, file: File<'src>) -> Result<(), AllocError>
+        ensures files { OnOk result (self.new.files.items ≡ self.old.files.items ++ file.entry ∷ []) }
+        ensures modules { OnOk result (self.new.modules.items ≡ self.old.modules.items) }
+    {
         self.files.push(file)?;
         Ok(())
     }
 
     /// Puts the module behind the others. Refused only where memory is, and the module is dropped
     /// then.
-    pub fn add_module(&mut self, node: ModuleNode<'src>) -> Result<(), AllocError> {
+    pub fn add_module(&mut self, node: ModuleNode<'src>) -> Result<(), AllocError>
+        ensures modules { OnOk result (self.new.modules.items ≡ self.old.modules.items ++ node.entry ∷ []) }
+        ensures files { OnOk result (self.new.files.items ≡ self.old.files.items) }
+    {
         self.modules.push(node)?;
         Ok(())
     }
@@ -58,7 +67,9 @@ impl<'src> Compilation<'src> {
     pub fn unless_refused(
         self,
         outcome: Result<(), Error<'src>>,
-    ) -> Result<Compilation<'src>, Error<'src>> {
+    ) -> Result<Compilation<'src>, Error<'src>>
+        ensures { result ≡ spec.unless_refused self.entry outcome.entry }
+    {
         match outcome {
             Ok(()) => Ok(self),
             Err(error) => Err(error),

@@ -12,6 +12,7 @@ pub mod Refusals
 pub mod Views
 pub mod Cooked
 pub mod Shorter
+pub mod Rows
 pub mod Elements
 pub mod Interpolations
 pub mod Formats

@@ -4,6 +4,7 @@ pub mod Literals
 pub mod Grammar
 pub mod Alone
 pub mod Reading
+pub mod Rows
 pub mod Strings
 pub mod Seen
 pub mod Laws

@@ -52,6 +52,21 @@ impl<'t, 'src> Cursor<'t, 'src> {
         self.ranked(expander, PRIMARY, LEVELS)
     }
 
+    /// Takes expressions up to the closing mark, and the mark: a comma stands behind each but the
+    /// last, which may have one too.
+    ///
+    /// Refused as `expression` refuses, and `Unexpected` where neither a comma nor the mark comes.
+    pub fn expressions<E: Expander>(
+        &mut self,
+        expander: &E,
+        close: TokenKind,
+    ) -> Result<Vec<Expression<'src>>, Fault<'src>>
+        ensures gives { Gives (λ es. (shapes_of es.items, ahead self.new)) result (elements_at word_of (E.expansion expander.now) (expression_at word_of (E.expansion expander.now) 256) (suc (length (ahead self.old))) close (ahead self.old)) }
+        ensures cooked { IfOk result (λ es. AreCooked (E.expansion expander.now) es.items) }
+    {
+        self.elements(expander, close, LEVELS)
+    }
+
     // What stands in the way where no level is left.
     fn too_deep(&mut self) -> Fault<'src>
         ensures { Fails {Y = Shape × List Token} result (Err (too_deep (first (ahead self.old)))) }

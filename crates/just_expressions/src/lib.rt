@@ -10,8 +10,10 @@ mod literal;
 mod lone_operand;
 mod node;
 mod operator;
+mod row;
 mod string;
 
 pub use cursor::Cursor;
 pub use fault::Fault;
 pub use line_end::{end_of_line, ended};
+pub use row::is_more;

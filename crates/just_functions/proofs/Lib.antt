@@ -1,2 +1,4 @@
 pub mod Parents
 pub mod Rows
+pub mod LastValues
+pub mod FramePairs

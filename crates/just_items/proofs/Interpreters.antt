@@ -4,16 +4,17 @@ use Rattle.std.proofs.lemmas.List.{length-map}
 use Rattle.just_text.specs.Tokens.{Word}
 use Rattle.just_text.specs.declared.token_kind.TokenKind.TheVariants.{BracketL, BracketR, ColonEquals, Comma}
 use Rattle.just_attribute_tree.specs.Settings.{InterpreterShape}
-use Rattle.just_expression_tree.specs.Shape.{Shape}
+use Rattle.just_expression_tree.specs.Shape.{Shape, Shapes, end, more, shapes_from}
 use Rattle.just_expressions.specs.Words.{Mark}
 use Rattle.just_expressions.specs.Literals.{Expansion}
 use Rattle.just_expressions.specs.Laws.{Exactly}
-use Rattle.just_expressions.specs.Reading.{accept}
+use Rattle.just_expressions.specs.Reading.{accept, elements_at, expression_at}
 use Rattle.just_expressions.proofs.Taken.{bind_ok, inspect, turned, accept_mark, expect_mark, marked, lacks_accept, other_accept}
 use Rattle.just_expressions.proofs.TokensTaken.{mark_shorter, Reads}
 use Rattle.just_recipes.proofs.ExpressionFronts.{never_first, shorter}
 use Rattle.just_items.specs.Settings.{AreElements}
-use Rattle.just_items.specs.SettingReading.{elements_at, arguments_at, interpreter_at}
+use Rattle.just_items.specs.SettingReading.{shapes_in, arguments_at, interpreter_at}
+use Rattle.just_items.proofs.Elements.{same_shapes}
 
 -- up to rest there are these expressions behind another, and a closing bracket
 abbrev AreOthers : Expansion → List Shape → List Word → List Word → Type 0
@@ -26,22 +27,22 @@ IsInterpreter expansion i words rest = (a b : List Word) × Mark ColonEquals wor
 module _ {T : Type 0} (word : T → Word) (expansion : Expansion) (expressions : Exactly word expansion 256 6) where
   -- ---- what is read
 
-  elements_found : (n : ℕ) (ts : List T) (p : List Shape × List T) → elements_at word expansion n ts ≡ Ok p → AreElements expansion p.0 (map word ts) (map word p.1)
+  elements_found : (n : ℕ) (ts : List T) (p : Shapes × List T) → elements_at word expansion (expression_at word expansion 256) n BracketR ts ≡ Ok p → AreElements expansion (shapes_in p.0) (map word ts) (map word p.1)
   unfolding elements_at
   elements_found zero ts p h = absurd cc
   elements_found (suc n) ts p h =
       elim (inspect (accept word BracketR ts)) [
-        | inr w ↦ turned (λ (z : List Shape × List T). AreElements expansion z.0 (map word ts) (map word z.1)) ([], w.0.1) p (rw w.1 at h) (accept_mark word BracketR ts w.0 w.1)
+        | inr w ↦ turned (λ (z : Shapes × List T). AreElements expansion (shapes_in z.0) (map word ts) (map word z.1)) (end, w.0.1) p (rw w.1 at h) (accept_mark word BracketR ts w.0 w.1)
         | inl w ↦
             let e = bind_ok _ _ p (rw w at h) in
             let i = expressions.found ts e.0.1 e.0.0 e.1 in
             elim (inspect (accept word Comma e.0.1)) [
               | inl v ↦
                   let q = bind_ok _ _ p (rw v at e.2) in
-                  turned (λ (z : List Shape × List T). AreElements expansion z.0 (map word ts) (map word z.1)) (e.0.0 ∷ [], q.0.1) p q.2 (map word e.0.1, i, inr (refl, expect_mark word BracketR e.0.1 q.0 q.1))
+                  turned (λ (z : Shapes × List T). AreElements expansion (shapes_in z.0) (map word ts) (map word z.1)) (more e.0.0 end, q.0.1) p q.2 (map word e.0.1, i, inr (refl, expect_mark word BracketR e.0.1 q.0 q.1))
               | inr v ↦
                   let es = bind_ok _ _ p (rw v.1 at e.2) in
-                  turned (λ (z : List Shape × List T). AreElements expansion z.0 (map word ts) (map word z.1)) (e.0.0 ∷ es.0.0, es.0.1) p es.2
+                  turned (λ (z : Shapes × List T). AreElements expansion (shapes_in z.0) (map word ts) (map word z.1)) (more e.0.0 es.0.0, es.0.1) p es.2
                   (map word e.0.1, i, inl (map word v.0.1, accept_mark word Comma e.0.1 v.0 v.1, elements_found n v.0.1 es.0 es.1))
             ]
       ]
@@ -53,7 +54,10 @@ module _ {T : Type 0} (word : T → Word) (expansion : Expansion) (expressions :
         | inl w ↦
             let q = bind_ok _ _ p (rw w at h) in
             turned (λ (z : List Shape × List T). AreOthers expansion z.0 (map word ts) (map word z.1)) ([], q.0.1) p q.2 (inr (refl, expect_mark word BracketR ts q.0 q.1))
-        | inr w ↦ inl (map word w.0.1, accept_mark word Comma ts w.0 w.1, elements_found (suc (length w.0.1)) w.0.1 p (rw w.1 at h))
+        | inr w ↦
+            let es = bind_ok _ _ p (rw w.1 at h) in
+            turned (λ (z : List Shape × List T). AreOthers expansion z.0 (map word ts) (map word z.1)) (shapes_in es.0.0, es.0.1) p es.2
+            (inl (map word w.0.1, accept_mark word Comma ts w.0 w.1, elements_found (suc (length w.0.1)) w.0.1 es.0 es.1))
       ]
 
   pub interpreter_found : (ts : List T) (p : InterpreterShape × List T) → interpreter_at word expansion ts ≡ Ok p → IsInterpreter expansion p.0 (map word ts) (map word p.1)
@@ -69,7 +73,7 @@ module _ {T : Type 0} (word : T → Word) (expansion : Expansion) (expressions :
 
   -- ---- what is spelled
 
-  elements_again : (es : List Shape) (n : ℕ) (ts : List T) (ws : List Word) → length (map word ts) < n → AreElements expansion es (map word ts) ws → Reads word (elements_at word expansion n ts) es ws
+  elements_again : (es : List Shape) (n : ℕ) (ts : List T) (ws : List Word) → length (map word ts) < n → AreElements expansion es (map word ts) ws → Reads word (elements_at word expansion (expression_at word expansion 256) n BracketR ts) (shapes_from es) ws
   unfolding elements_at
   elements_again es zero ts ws fuel i = absurd (omega arith)
   elements_again [] (suc n) ts ws fuel m = let t = marked word BracketR ts ws m in record { rest = t.rest; is = rw t.accepts refl; others = t.others }
@@ -93,7 +97,7 @@ module _ {T : Type 0} (word : T → Word) (expansion : Expansion) (expressions :
   arguments_again es ts ws (inl (b, m, i)) =
       let c = marked word Comma ts b m in
       let r = elements_again es (suc (length c.rest)) c.rest ws (omega (arith, length-map c.rest word)) (rw c.others i) in
-      record { rest = r.rest; is = rw (c.accepts, r.is) refl; others = r.others }
+      record { rest = r.rest; is = rw (c.accepts, r.is, same_shapes es) refl; others = r.others }
   arguments_again es ts ws (inr (none, m)) =
       let t = marked word BracketR ts ws m in
       record { rest = t.rest; is = rw (other_accept word Comma BracketR ts ws m refl, t.expects, none) refl; others = t.others }

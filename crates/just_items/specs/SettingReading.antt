@@ -6,9 +6,9 @@ use Rattle.just_text.specs.declared.compile_error.CompileErrorKind.TheVariants a
 use Rattle.just_text.specs.declared.token_kind.TokenKind.TheVariants.{BracketL, BracketR, ColonEquals, Comma, Identifier, StringToken}
 use Rattle.just_strings.specs.Cooking.{cooked}
 use Rattle.just_attribute_tree.specs.Settings.{ValueShape, truth, expression, interpreter, string, SetShape, InterpreterShape}
-use Rattle.just_expression_tree.specs.Shape.{Shape}
+use Rattle.just_expression_tree.specs.Shape.{Shape, Shapes, end, more}
 use Rattle.just_expressions.specs.Literals.{Expansion}
-use Rattle.just_expressions.specs.Reading.{◌>>=◌, on, Read, unexpected, refused, first, accept, expect, is_keyword, expression_at}
+use Rattle.just_expressions.specs.Reading.{◌>>=◌, on, Read, unexpected, refused, first, accept, expect, is_keyword, elements_at, expression_at}
 use Rattle.just_expressions.specs.LineEnds.{eol_at}
 use Rattle.just_attributes.specs.Indentations.{is_indentation}
 use Rattle.semver.specs.declared.Version.{Version as SemanticVersion}
@@ -19,6 +19,11 @@ use Rattle.just_items.specs.declared.form.Form.{Form}
 use Rattle.just_items.specs.declared.form.Form.TheVariants.{Indentation, Interpreter, Truth, Value, Version}
 use Rattle.just_items.specs.Names.{form_named}
 use Rattle.just_items.specs.Versions.{is_above}
+
+-- the row of expressions as a list
+abbrev pub shapes_in : Shapes → List Shape
+shapes_in end = []
+shapes_in (more e es) = e ∷ shapes_in es
 
 abbrev pub true_keyword : List ℕ
 true_keyword = codes "true"
@@ -74,19 +79,12 @@ module _ {T : Type 0} (word : T → Word) where
     unfoldable pub set_string_at : List T → Read T (T × List ℕ)
     set_string_at ts = expect word ColonEquals ts >>= λ c. expect word StringToken c.1 >>= λ t. cooked_if t.0 (cooked expansion (word t.0).text) t.1
 
-    -- Expressions up to a closing bracket. The number bounds the turns, for which the count of the tokens is always enough.
-    unfoldable pub elements_at : ℕ → List T → Read T (List Shape)
-    elements_at zero ts = Err (unexpected (first ts))
-    elements_at (suc n) ts =
-        on (accept word BracketR ts)
-        (expression_at word expansion 256 6 ts >>= λ e. on (accept word Comma e.1)
-        (expect word BracketR e.1 >>= λ p. Ok (e.0 ∷ [], p.1))
-        (λ c. elements_at n c.1 >>= λ es. Ok (e.0 ∷ es.0, es.1)))
-        (λ p. Ok ([], p.1))
-
     -- what stands behind the first expression of an interpreter
     unfoldable pub arguments_at : List T → Read T (List Shape)
-    arguments_at ts = on (accept word Comma ts) (expect word BracketR ts >>= λ p. Ok ([], p.1)) (λ c. elements_at (suc (length c.1)) c.1)
+    arguments_at ts =
+        on (accept word Comma ts)
+        (expect word BracketR ts >>= λ p. Ok ([], p.1))
+        (λ c. elements_at word expansion (expression_at word expansion 256) (suc (length c.1)) BracketR c.1 >>= λ es. Ok (shapes_in es.0, es.1))
 
     unfoldable pub interpreter_at : List T → Read T InterpreterShape
     interpreter_at ts =

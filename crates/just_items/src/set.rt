@@ -1,5 +1,5 @@
 //! Settings, without their attributes.
-ghost use Rattle.std.specs.Prelude.{[], ◌≡◌, ◌≢◌, IfOk, Some, length, map, suc};
+ghost use Rattle.std.specs.Prelude.{[], ◌≡◌, ◌≢◌, IfOk, Some, map};
 ghost use Rattle.just_text.specs.Tokens.{lexeme, word_of};
 ghost use Rattle.just_text.specs.declared.compile_error.CompileErrorKind.TheVariants as kinds;
 ghost use Rattle.just_attribute_tree.specs.Settings.{interpreter_shape, value_shape};
@@ -15,7 +15,7 @@ ghost use Rattle.semver.specs.Identifiers.{parts_of};
 ghost use Rattle.just_items.specs.SettingCooked.{IsCookedInterpreter, IsCookedSetting};
 ghost use Rattle.just_items.specs.declared.form.Form.TheVariants as forms;
 ghost use Rattle.just_items.specs.Names.{form_named, setting_name};
-ghost use Rattle.just_items.specs.SettingReading.{arguments_at, checked_at, elements_at, flag_at, indentation_fault, interpreter_at, known_at, set_at, set_string_at, setting_at, truth_at, value_at, version_fault};
+ghost use Rattle.just_items.specs.SettingReading.{arguments_at, checked_at, flag_at, indentation_fault, interpreter_at, known_at, set_at, set_string_at, setting_at, truth_at, value_at, version_fault};
 ghost use Rattle.just_items.specs.Versions.{is_above};
 
 use crate::form::{Form, form_named};
@@ -187,26 +187,6 @@ fn value<'src, E: Expander>(
     cursor.expression(expander)
 }
 
-/// Expressions up to a closing bracket, a comma behind each, which the last may lack.
-fn elements<'src, E: Expander>(
-    alloc: Global,
-    cursor: &mut Cursor<'_, 'src>,
-    expander: &E,
-) -> Result<Vec<Expression<'src>>, Fault<'src>>
-    ensures gives { Gives (λ es. (map shape_of es.items, ahead cursor.new)) result (elements_at word_of (E.expansion expander.now) (suc (length (ahead cursor.old))) (ahead cursor.old)) }
-    ensures cooked { IfOk result (λ es. AreCooked (E.expansion expander.now) es.items) }
-{
-    let mut elements = Vec::new(alloc);
-    while cursor.accept(TokenKind::BracketR).is_none() {
-        elements.push(cursor.expression(expander)?)?;
-        if cursor.accept(TokenKind::Comma).is_none() {
-            cursor.expect(TokenKind::BracketR)?;
-            return Ok(elements);
-        }
-    }
-    Ok(elements)
-}
-
 /// What stands behind the first expression of an interpreter.
 #[tactic(auto, unfolding(crate::specs::SettingReading::arguments_at))]
 fn arguments<'src, E: Expander>(
@@ -218,7 +198,7 @@ fn arguments<'src, E: Expander>(
     ensures cooked { IfOk result (λ es. AreCooked (E.expansion expander.now) es.items) }
 {
     if cursor.accept(TokenKind::Comma).is_some() {
-        return elements(alloc, cursor, expander);
+        return cursor.expressions(expander, TokenKind::BracketR);
     }
     cursor.expect(TokenKind::BracketR)?;
     Ok(Vec::new(alloc))

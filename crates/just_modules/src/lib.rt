@@ -11,7 +11,7 @@ mod truths;
 
 pub use compiler::Compiler;
 pub use just_compilation::{
-    Compilation, Error, File, ModuleNode, Place, Source, Target, path_token,
+    Compilation, Error, File, ModuleNode, Modulepath, Place, Source, Table, Target, folder_from,
+    is_clean, key_from, path_token,
 };
-pub use just_keys::{Modulepath, Table, folder_from, is_clean, key_from};
 pub use just_sources::Parsed;

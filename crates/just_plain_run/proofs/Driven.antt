@@ -6,8 +6,8 @@ use Rattle.just_text.specs.declared.compile_error.CompileErrorKind.TheVariants a
 use Rattle.justfile_syntax.specs.PlainShapes.{RecipeShape}
 use Rattle.justfile_syntax.specs.Plain.{plain_of}
 use Rattle.just_tree.specs.Files.{ItemShape}
-use Rattle.just_grammar.specs.Laws.{FaultsSayNothing, SaysAtMostOne}
-use Rattle.just_grammar.specs.Reads.{Reads, IsSyntaxFault, IsRefusal}
+use Rattle.justfile_syntax.specs.Laws.{FaultsSayNothing, SaysAtMostOne}
+use Rattle.justfile_syntax.specs.Reads.{Reads, IsSyntaxFault, IsRefusal}
 use Rattle.just_host.specs.Record.{Record}
 use Rattle.just_plain_run.specs.Goes.{Failure}
 use Rattle.just_plain_run.specs.Ran.{IfRan}

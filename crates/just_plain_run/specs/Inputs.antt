@@ -10,7 +10,7 @@ use Rattle.justfile_syntax.specs.PlainShapes.{RecipeShape}
 use Rattle.justfile_syntax.specs.Plain.{plain_of}
 use Rattle.just_tree.specs.Files.{ItemShape}
 use Rattle.just_expressions.specs.Literals.{Expansion}
-use Rattle.just_grammar.specs.Reads.{Reads}
+use Rattle.justfile_syntax.specs.Reads.{Reads}
 use Rattle.semver.specs.declared.Version.{Version}
 use Rattle.just_value.specs.Words.{split}
 use Rattle.just_value.specs.declared.positional.Positional.{Positional}

@@ -5,7 +5,7 @@ use Rattle.std.specs.Str.Iter.{HasSubslice}
 use Rattle.just_text.specs.declared.compile_error.CompileErrorKind.{CompileErrorKind}
 use Rattle.just_text.specs.declared.compile_error.CompileErrorKind.TheVariants.{ExtraLeadingWhitespace}
 use Rattle.justfile_syntax.specs.PlainShapes.{RecipeShape}
-use Rattle.just_grammar.specs.Reads.{IsSyntaxFault}
+use Rattle.justfile_syntax.specs.Reads.{IsSyntaxFault}
 use Rattle.just_plain_run.specs.Recipes.{recipe_named, IsRedefined, IsUnknownDependency, IsCircle}
 use Rattle.just_plain_run.specs.Inputs.{Inputs, IsNotPlain, Reader, ReadsPlain, Says}
 

@@ -2,7 +2,7 @@
 use Rattle.std.specs.Prelude.{◌≡◌, ℕ, List, true, false, Option, Some, None}
 use Rattle.just_text.specs.declared.compile_error.CompileErrorKind.{CompileErrorKind}
 use Rattle.justfile_syntax.specs.PlainShapes.{RecipeShape}
-use Rattle.just_grammar.specs.Reads.{IsSyntaxFault}
+use Rattle.justfile_syntax.specs.Reads.{IsSyntaxFault}
 use Rattle.just_plain_run.specs.Inputs.{Inputs, IsNotPlain, Says}
 use Rattle.just_plain_run.specs.Rules.{Rule, Broken, not_yet, is_of_words}
 use Rattle.just_plain_run.specs.Drives.{Verdict, ran_out, breaks, fails}

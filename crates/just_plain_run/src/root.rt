@@ -11,8 +11,8 @@ ghost use Rattle.std.specs.Option.{option_map};
 ghost use Rattle.std.specs.String.{string_bytes};
 
 use crate::fault::Fault;
-use just_grammar::law::law;
 use just_value::{CONSTANT_COUNT, Positional};
+use justfile_syntax::file_law::file_law;
 use justfile_syntax::plain_files::{Ast, plain};
 use justfile_syntax::{Ast as File, Expander, Numerator, Parser, Text};
 use semver::Version;
@@ -119,7 +119,7 @@ pub fn read_root<'src, E: Expander>(
     ensures ok { IfOk result (λ root. IsRoot (given (reader_of (E.expansion expander.now) version.now) sources.now roots.now words.now) root.path.now (option_map shape_of root.plain)) }
     ensures err { IfErr result (λ fault. IsTold (given (reader_of (E.expansion expander.now) version.now) sources.now roots.now words.now) (verdict fault)) }
 {
-    law();
+    file_law();
     let path = find_root(alloc, roots, &words.search_directory)?;
     let text = find_text(alloc, sources, path)?;
     let mut numerator = Numerator::new(CONSTANT_COUNT);

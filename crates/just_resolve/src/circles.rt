@@ -1,8 +1,7 @@
 //! Orders, and the names of what stands in a circle.
 use crate::error::Error;
-use just_dependencies::RecipeNode;
+use just_analysis::{ModuleLists, ModuleReads, RecipeNode, evaluation_order};
 use just_order::{OrderFault, order};
-use just_reads::{ModuleLists, ModuleReads, evaluation_order};
 use just_text::{Name, Sequence};
 use std::alloc::{AllocError, Global};
 

@@ -1,8 +1,8 @@
 //! Why a justfile can't be resolved.
 ghost use Rattle.std.specs.Prelude.{◌≡◌};
 
+use just_analysis::DependencyFault;
 use just_compilation::path_token;
-use just_dependencies::DependencyFault;
 use just_references::ReadFault;
 use just_text::{Name, Namepath, Sequence, Text, Token};
 use std::alloc::{AllocError, AllocFailed};

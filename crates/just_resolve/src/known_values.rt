@@ -1,10 +1,9 @@
 //! What is known before anything is evaluated: the texts that words give, settings and folders.
 use crate::error::Error;
 use crate::settled::settled;
-use just_analysis::KnownValues;
+use just_analysis::{KnownValues, ModuleLists, ModuleReads};
 use just_builtins::Settings;
 use just_compilation::{Compilation, ModuleNode};
-use just_reads::{ModuleLists, ModuleReads};
 use just_text::{Number, Text};
 use just_value::{Scope, ValueFault, path};
 use std::alloc::{AllocError, Global};

@@ -16,6 +16,5 @@ pub use analyzer::Analyzer;
 pub use error::Error;
 pub use just_analysis::{
     Analysis, KnownValues, ModuleLists, ModuleVariables, RecipeTable, ResolvedAlias,
-    ResolvedRecipe, collect_references, default_recipe, views,
+    ResolvedRecipe, collect_references, default_recipe, number_variables, views,
 };
-pub use just_reads::number_variables;

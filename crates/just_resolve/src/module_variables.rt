@@ -1,9 +1,8 @@
 //! The variables of all modules, what they read, and their orders.
 use crate::circles::variables_in_order;
 use crate::error::Error;
-use just_analysis::ModuleVariables;
+use just_analysis::{ModuleLists, ModuleReads, ModuleVariables, all_lists, reads_of};
 use just_compilation::Compilation;
-use just_reads::{ModuleLists, ModuleReads, all_lists, reads_of};
 use just_references::ReadFault;
 use just_text::Number;
 use std::alloc::Global;

@@ -1,7 +1,7 @@
 //! Variables that words give a value for.
 use crate::error::Error;
+use just_analysis::{find, find_module};
 use just_compilation::{Compilation, Place};
-use just_dependencies::{find, find_module};
 use just_text::{Number, Text};
 use just_value::Override;
 use std::alloc::{AllocError, Global};

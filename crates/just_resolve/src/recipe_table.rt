@@ -2,13 +2,12 @@
 use crate::circles::recipe_order;
 use crate::error::Error;
 use crate::recipes::resolved_recipe;
-use just_analysis::{RecipeTable, ResolvedRecipe};
-use just_compilation::{Compilation, Place};
-use just_dependencies::{
-    DependencyFault, ItemPlaces, RecipeNode, RecipeResolver, ResolvedAlias, all_needs,
-    check_dependencies, ranks, recipe_nodes, recipe_places, resolved_aliases, value_counts,
+use just_analysis::{
+    DependencyFault, ItemPlaces, ModuleReads, RecipeNode, RecipeResolver, RecipeTable,
+    ResolvedAlias, ResolvedRecipe, all_needs, check_dependencies, ranks, recipe_nodes,
+    recipe_places, resolved_aliases, value_counts,
 };
-use just_reads::ModuleReads;
+use just_compilation::{Compilation, Place};
 use just_references::ReadFault;
 use std::alloc::{AllocError, Global};
 

@@ -1,8 +1,6 @@
 //! Recipes with what they depend on and read.
-use just_analysis::ResolvedRecipe;
-use just_dependencies::RecipeNode;
-use just_numbering::recipe_references;
-use just_references::{ReadFault, VariableResolver};
+use just_analysis::{RecipeNode, ResolvedRecipe};
+use just_references::{ReadFault, VariableResolver, recipe_references};
 use just_tree::{Recipe, UnresolvedDependency};
 use std::alloc::{AllocError, Global};
 

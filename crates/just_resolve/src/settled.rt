@@ -1,12 +1,10 @@
 //! The values of each module's settings.
 use crate::error::Error;
-use just_analysis::add_marked;
+use just_analysis::{ModuleLists, ModuleReads, add_marked};
 use just_attribute_tree::Setting;
 use just_builtins::{AssignmentRef, Settings};
 use just_compilation::{Compilation, Place};
-use just_numbering::set_references;
-use just_reads::{ModuleLists, ModuleReads};
-use just_references::{ReadFault, VariableResolver};
+use just_references::{ReadFault, VariableResolver, set_references};
 use just_text::Number;
 use just_tree::Set;
 use just_value::Scope;

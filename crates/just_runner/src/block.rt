@@ -3,11 +3,10 @@ ghost use Rattle.just_builtins.specs.Asking.{Asks};
 
 use crate::call::Call;
 use crate::plan::Runner;
-use just_bodies::RunFault;
 use just_host::{Recorded, RunHost};
 use just_tree::{DependencyArgument, Parameter, UnresolvedDependency};
 use just_value::Value;
-use justfile_evaluator::{Error, Evaluator};
+use justfile_evaluator::{Error, Evaluator, RunFault};
 use std::alloc::{AllocError, Global};
 use std::mem;
 

@@ -2,12 +2,11 @@
 ghost use Rattle.just_builtins.specs.Asking.{Asks};
 
 use just_attribute_tree::{Attribute, AttributeKind};
-use just_bodies::RunFault;
 use just_expression_tree::Expression;
 use just_host::{Confirmation, Recorded, RunHost};
 use just_text::Name;
 use just_tree::{Recipe, UnresolvedDependency};
-use justfile_evaluator::{Error, Evaluator};
+use justfile_evaluator::{Error, Evaluator, RunFault};
 use std::alloc::{AllocError, Global};
 
 /// The prompt's text.

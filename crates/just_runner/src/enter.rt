@@ -6,12 +6,14 @@ use crate::call::Call;
 use crate::confirm::confirm;
 use crate::frame::Entered;
 use crate::plan::{Placed, Runner};
-use just_bodies::{Manner, RunFault, Site, run_body};
 use just_host::{Recorded, RunHost};
 use just_text::Name;
 use just_tree::Parameter;
 use just_value::{Scope, Value};
-use justfile_evaluator::{BoundParameters, Evaluator, ExecutionContext, evaluate_parameters};
+use justfile_evaluator::{
+    BoundParameters, Evaluator, ExecutionContext, Manner, RunFault, Site, evaluate_parameters,
+    run_body,
+};
 use std::alloc::Global;
 
 /// Whether the parameter may stand for so many values.

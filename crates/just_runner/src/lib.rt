@@ -13,7 +13,7 @@ mod running;
 mod stack;
 
 pub use call::{Call, Done, Pending};
-pub use just_bodies::RunFault;
+pub use justfile_evaluator::RunFault;
 pub use opening::{Opened, Opening, open_modules};
 pub use plan::{Planned, Runner};
 pub use running::run_calls;

@@ -1,11 +1,10 @@
 //! What modules open with: their files of variables, and their variables' values.
 ghost use Rattle.just_builtins.specs.Asking.{Asks};
 
-use just_bodies::RunFault;
 use just_host::{Config, DotenvRequest, HostFault, Pair, Recorded, RunHost};
 use just_text::{Number, Sequence, Text};
 use just_value::{Scope, Value};
-use justfile_evaluator::{ExecutionContext, ModuleView, Settings, open_assignments};
+use justfile_evaluator::{ExecutionContext, ModuleView, RunFault, Settings, open_assignments};
 use std::alloc::{AllocError, Global};
 use std::collections::{BTreeMap, BTreeSet};
 

@@ -9,9 +9,9 @@ use crate::enter::{begin, end, entered};
 use crate::frame::{Entered, Frame};
 use crate::plan::{Placed, Runner};
 use crate::stack::Stack;
-use just_bodies::RunFault;
 use just_host::{Recorded, RunHost};
 use just_value::Value;
+use justfile_evaluator::RunFault;
 use std::alloc::{AllocError, Global};
 use std::mem;
 

@@ -2,8 +2,7 @@
 
 use crate::folders::Folders;
 use crate::items::{ImportLine, ModuleLine};
-use just_compilation::{Error, Source};
-use just_keys::{folder_from, key_from};
+use just_compilation::{Error, Source, folder_from, key_from};
 use justfile_syntax::{Sequence, Text};
 use std::alloc::{AllocError, Global};
 use std::collections::BTreeMap;

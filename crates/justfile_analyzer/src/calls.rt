@@ -1,7 +1,7 @@
 //! Which functions are called, directly or through functions, and whether the flag of dependencies is
 //! asked for.
 use just_builtins::FunctionRef;
-use just_graph::reached;
+use just_order::reached;
 use just_references::{Reference, References};
 use std::alloc::{AllocError, Global};
 

@@ -1,13 +1,19 @@
-//! Values of variables, parameters, constants and settings, and all that an evaluation of a justfile rests on.
+//! Values of variables, parameters, constants and settings, all that an evaluation of a justfile rests\non, and bodies of recipes: their lines one by one or as one script, up to the first failure.
 #![tactic(auto)]
 
 mod assignments;
+mod body;
 mod const_evaluator;
+mod fault;
 mod parameters;
+mod script;
 mod sets;
+mod site;
 
 pub use assignments::{evaluate_assignments, open_assignments};
+pub use body::run_body;
 pub use const_evaluator::{ConstEvaluator, evaluate_const_assignments};
+pub use fault::RunFault;
 pub use just_builtins::{
     ArgumentCount, AssignmentRef, Error, ExecutionContext, Function, FunctionRef, ModuleView,
     Settings, find_function, line_job, run_command,
@@ -22,3 +28,4 @@ pub use just_value::{
     Positional, Scope, StringContext, Ticked, Value, ValueFault, constants, encode_uri_component,
 };
 pub use parameters::{BoundParameters, evaluate_parameters, passes_words};
+pub use site::{Manner, Site};

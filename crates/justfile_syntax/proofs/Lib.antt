@@ -16,3 +16,14 @@ pub mod Lexemes
 pub mod Beside
 pub mod Each
 pub mod Lone
+pub mod Answered
+pub mod AnyShape
+pub mod EntriesExact
+pub mod EntryTurns
+pub mod EntryWords
+pub mod InOrder
+pub mod ItemWords
+pub mod ItemsHeld
+pub mod RecipeWords
+pub mod Said
+pub mod TextsSaid

@@ -9,3 +9,11 @@ pub mod Lexemes
 pub mod Beside
 pub mod PlainShapes
 pub mod Plain
+pub mod Files
+pub mod Reading
+pub mod Features
+pub mod Numbered
+pub mod Parsed
+pub mod Reads
+pub mod Told
+pub mod Laws

@@ -1,11 +1,17 @@
 //! Justfiles by one name: their tokens and refusals, their trees with their printed texts, names of
-//! variables and attributes, and the parser; words, and when they are the tokens of their joined text; and files of
-//! plain recipes.
+//! variables and attributes, and the parser of whole files; words, and when they are the tokens of their
+//! joined text; and files of plain recipes.
 #![tactic(auto)]
 
+mod features;
+mod file;
+pub mod file_law;
+mod item;
 pub mod law;
+pub mod parser;
 pub mod plain_files;
 mod printer;
+mod refusal;
 
 pub use just_attribute_tree::{
     ArgumentOptions, Attribute, AttributeArguments, AttributeKind, Interpreter, LongName, Setting,
@@ -16,7 +22,6 @@ pub use just_attributes::{
     is_private, may_carry,
 };
 pub use just_expression_tree::{ConditionalOperator, Expression, ListOperator};
-pub use just_grammar::Parser;
 pub use just_lexer::Lexer;
 pub use just_strings::{
     StringDelimiter, StringKind, StringLiteral, StringPrefix, command_text, cook_part, halve,
@@ -24,7 +29,7 @@ pub use just_strings::{
 };
 pub use just_text::{
     CompileError, CompileErrorKind, Count, Delimiter, ExpandFault, Expander, Keyword, Name,
-    Namepath, Number, Numerator, Os, Sequence, Text, Ticked, Token, TokenKind,
+    Namepath, Number, Numerator, Os, Sequence, Text, Token, TokenKind,
 };
 pub use just_tree::{
     Alias, Assignment, Ast, Binding, DependencyArgument, ExpressionContext, Fragment,
@@ -32,4 +37,5 @@ pub use just_tree::{
     Parameter, ParameterKind, Recipe, RecipeAlias, RecipeSignature, Set, Sigils, Unexport,
     UnresolvedDependency, UnstableFeature, resolve_attributes, resolve_variables,
 };
+pub use parser::Parser;
 pub use printer::print;

@@ -1,8 +1,7 @@
 //! Graphs of places.
 
 use crate::orders::copied;
-use just_graph::{components, variable_order};
-use just_order::OrderFault;
+use just_order::{OrderFault, components, variable_order};
 use std::alloc::{AllocError, Global};
 use std::test::Fail;
 

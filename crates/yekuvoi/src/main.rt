@@ -6,10 +6,8 @@ mod switch;
 
 use anyhow::{Context, Result, bail};
 use just_excerpt::Excerpt;
-use just_expander::Environment;
-use just_loader::{base_folder, find_root, load};
 use just_run::{Config, Device, Fault, Outcome, Recorded, Trees, drive};
-use just_shell::Shell;
+use just_system::{Environment, Shell, base_folder, find_root, load};
 use just_value::Positional;
 use justfile_syntax::{Os, Text};
 use replace::replace;

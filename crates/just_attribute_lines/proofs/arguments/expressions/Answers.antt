@@ -5,8 +5,10 @@ use Rattle.just_text.specs.Tokens.{word_of}
 use Rattle.just_text.specs.declared.token_kind.TokenKind.TheVariants.{ParenR}
 use Rattle.just_expression_tree.specs.Shape.{shape_of}
 use Rattle.just_expressions.specs.Reading.{ahead}
-use Rattle.just_attribute_lines.specs.Reading.{whole_at, more_at}
-use Rattle.just_attribute_lines.proofs.Fewer.{more_shorter, whole_shorter}
+use Rattle.just_attribute_lines.specs.Reading.{whole_at}
+use Rattle.just_expressions.specs.Rows.{more_at}
+use Rattle.just_attribute_lines.proofs.Fewer.{whole_shorter}
+use Rattle.just_expressions.proofs.Rows.{more_shorter}
 use Rattle.just_attribute_lines.proofs.Follow.{at_end, goes_on, no_item, untold}
 use Rattle.just_attribute_lines.proofs.arguments.expressions.Goals as goal
 use Rattle.just_expressions.proofs.Elements.{one_more_cooked}

@@ -5,7 +5,8 @@ use Rattle.just_expressions.specs.Literals.{AreCooked}
 use Rattle.just_text.specs.Tokens.{word_of}
 use Rattle.just_text.specs.declared.token_kind.TokenKind.TheVariants.{ParenR}
 use Rattle.just_expressions.specs.Reading.{ahead}
-use Rattle.just_attribute_lines.specs.Reading.{follow_at, more_at, others_at, whole_at}
+use Rattle.just_attribute_lines.specs.Reading.{follow_at, others_at, whole_at}
+use Rattle.just_expressions.specs.Rows.{more_at}
 use Rattle.just_attribute_lines.proofs.Follow.{before}
 use Rattle.just_attribute_lines.proofs.arguments.expressions.Given as goal
 

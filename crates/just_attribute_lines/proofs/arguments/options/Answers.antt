@@ -5,8 +5,10 @@ use Rattle.just_text.specs.Tokens.{word_of}
 use Rattle.just_text.specs.declared.token_kind.TokenKind.TheVariants.{ParenR}
 use Rattle.just_attribute_lines.specs.Held.{IsCookedGiven, given_shape}
 use Rattle.just_expressions.specs.Reading.{ahead}
-use Rattle.just_attribute_lines.specs.Reading.{option_at, more_at}
-use Rattle.just_attribute_lines.proofs.Fewer.{more_shorter, option_shorter}
+use Rattle.just_attribute_lines.specs.Reading.{option_at}
+use Rattle.just_expressions.specs.Rows.{more_at}
+use Rattle.just_attribute_lines.proofs.Fewer.{option_shorter}
+use Rattle.just_expressions.proofs.Rows.{more_shorter}
 use Rattle.just_attribute_lines.proofs.Follow.{all_more, at_end, goes_on, no_item, untold}
 use Rattle.just_attribute_lines.proofs.arguments.options.Goals as goal
 

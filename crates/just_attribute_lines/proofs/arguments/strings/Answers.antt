@@ -6,8 +6,10 @@ use Rattle.just_text.specs.declared.token_kind.TokenKind.TheVariants.{ParenR}
 use Rattle.just_expression_tree.specs.Shape.{written}
 use Rattle.just_expressions.specs.Strings.{IsCookedString}
 use Rattle.just_expressions.specs.Reading.{ahead}
-use Rattle.just_attribute_lines.specs.Reading.{text_at, more_at}
-use Rattle.just_attribute_lines.proofs.Fewer.{more_shorter, text_shorter}
+use Rattle.just_attribute_lines.specs.Reading.{text_at}
+use Rattle.just_expressions.specs.Rows.{more_at}
+use Rattle.just_attribute_lines.proofs.Fewer.{text_shorter}
+use Rattle.just_expressions.proofs.Rows.{more_shorter}
 use Rattle.just_attribute_lines.proofs.Follow.{all_more, at_end, goes_on, no_item, untold}
 use Rattle.just_attribute_lines.proofs.arguments.strings.Goals as goal
 

@@ -32,5 +32,5 @@ returns-clause-ok g c =
     let told : option_map shape_of c.in_ok-root.root.plain ≡ plain_of (item_shapes c.as_slice.result.now) =
     subst (λ (r : Result (Option PlainAst) AllocError). IfOk r (λ ast. option_map shape_of ast ≡ plain_of (item_shapes c.as_slice.result.now))) c.in_ok-root.ensures.1 c.plain-recipes.ensures in
     subst (λ p. IsRoot i p (option_map shape_of c.in_ok-root.root.plain)) (sym c.in_ok-root.ensures.0)
-    (root_told c.law.ensures.texts c.law.ensures.faults i c.in_ok-path.path.now c.in_ok-text.text.now (item_shapes c.in_ok-file.file.items.items) (option_map shape_of c.in_ok-root.root.plain) c.in_ok-path.ensures.ok c.in_ok-text.ensures.ok c.in_ok-file.ensures.found
+    (root_told c.file_law.ensures.texts c.file_law.ensures.faults i c.in_ok-path.path.now c.in_ok-text.text.now (item_shapes c.in_ok-file.file.items.items) (option_map shape_of c.in_ok-root.root.plain) c.in_ok-path.ensures.ok c.in_ok-text.ensures.ok c.in_ok-file.ensures.found
     (told ∙ ap (λ (items : List Item). plain_of (item_shapes items)) c.as_slice.ensures.value))

@@ -1,6 +1,0 @@
--- What was asked so far.
-use Rattle.just_builtins.specs.Asking.{Asks}
-use Rattle.just_bodies.proofs.body.run_lines.Given as goal
-
-abbrev pub invariant-loop-line : goal.invariant-loop-line
-invariant-loop-line g l = Asks g.H.Host.goes l.initial.host l.host

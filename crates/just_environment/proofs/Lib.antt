@@ -1,2 +1,0 @@
-pub mod LastValues
-pub mod FramePairs

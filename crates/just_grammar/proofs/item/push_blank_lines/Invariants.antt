@@ -1,7 +1,0 @@
--- So many blank lines stand behind the items.
-use Rattle.std.proofs.Common.{◌≡◌, ◌++◌, replicate}
-use Rattle.just_tree.specs.declared.ast.Item.TheVariants.{Newline}
-use Rattle.just_grammar.proofs.item.push_blank_lines.Given as goal
-
-abbrev pub invariant-loop : goal.invariant-loop
-invariant-loop l = l.items.items ≡ l.fn.items.items ++ replicate l.counter Newline

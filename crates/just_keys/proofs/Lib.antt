@@ -1,4 +1,0 @@
-pub mod Tabled
-pub mod Walks
-pub mod Keys
-pub mod Pieces

@@ -1,0 +1,106 @@
+//! Why a run ended early.
+ghost use Rattle.std.specs.Prelude.{◌≡◌};
+ghost use Rattle.justfile_evaluator.specs.declared.fault.RunFault.TheVariants.{OutOfMemory};
+
+use just_builtins::Error;
+use just_host::HostFault;
+use just_text::{Name, Text};
+use std::alloc::{AllocError, AllocFailed, Global};
+use std::fmt;
+
+/// Why a run ended early.
+#[derive(Debug, Drop)]
+pub enum RunFault<'src> {
+    /// Memory ran out.
+    OutOfMemory,
+    /// The files of variables of a module could not be read.
+    Dotenv(HostFault),
+    /// A variable of a module has no value.
+    Opening(Error<'src>),
+    /// A recipe's parameter, attribute, dependency or body has no value.
+    Evaluation(Error<'src>),
+    /// A command of the recipe ended with this code.
+    Code {
+        recipe: Name<'src>,
+        code: u8,
+        /// Whether nothing is to be said of it.
+        is_silent: bool,
+    },
+    /// A command of the recipe was ended by this signal.
+    Signal {
+        recipe: Name<'src>,
+        signal: u8,
+        /// Whether nothing is to be said of it.
+        is_silent: bool,
+    },
+    /// A command of the recipe could not start.
+    CouldNotStart(Name<'src>),
+    /// The user did not confirm that the recipe runs.
+    NotConfirmed(Name<'src>),
+}
+
+impl From<AllocError> for RunFault<'_> {
+    ghost from_gives = { λ _ e. e ≡ OutOfMemory };
+
+    fn from(_refused: AllocError) -> Self {
+        RunFault::OutOfMemory
+    }
+}
+
+impl<T: Drop> From<AllocFailed<T>> for RunFault<'_> {
+    ghost from_gives = { λ _ e. e ≡ OutOfMemory };
+
+    fn from(_refused: AllocFailed<T>) -> Self {
+        RunFault::OutOfMemory
+    }
+}
+
+impl<'src> From<Error<'src>> for RunFault<'src> {
+    fn from(error: Error<'src>) -> Self {
+        match error {
+            Error::OutOfMemory => RunFault::OutOfMemory,
+            other => RunFault::Evaluation(other),
+        }
+    }
+}
+
+impl<'src> RunFault<'src> {
+    /// The fault of a variable of a module.
+    pub fn opening(error: Error<'src>) -> RunFault<'src> {
+        match error {
+            Error::OutOfMemory => RunFault::OutOfMemory,
+            other => RunFault::Opening(other),
+        }
+    }
+
+    /// A fault that a resolved justfile doesn't meet.
+    pub fn internal(alloc: Global, text: &str) -> RunFault<'src> {
+        match Text::from_text(alloc, text) {
+            Ok(text) => RunFault::Evaluation(Error::Internal(text)),
+            Err(_) => RunFault::OutOfMemory,
+        }
+    }
+}
+
+impl fmt::Display for RunFault<'_> {
+    fn fmt<W: fmt::Write>(&self, f: &mut fmt::Formatter<W>) -> fmt::Result {
+        match self {
+            RunFault::OutOfMemory => write!(f, "out of memory"),
+            RunFault::Dotenv(fault) => write!(f, "dotenv: `{fault}`"),
+            RunFault::Opening(error) => write!(f, "opening: `{error}`"),
+            RunFault::Evaluation(error) => write!(f, "evaluation: `{error}`"),
+            RunFault::Code { recipe, code, .. } => {
+                write!(f, "recipe `{recipe}` failed with exit code {code}")
+            }
+            RunFault::Signal { recipe, signal, .. } => {
+                write!(f, "recipe `{recipe}` was ended by signal {signal}")
+            }
+            RunFault::CouldNotStart(recipe) => {
+                write!(f, "recipe `{recipe}` could not start its command")
+            }
+            RunFault::NotConfirmed(recipe) => write!(f, "recipe `{recipe}` was not confirmed"),
+        }
+    }
+}
+
+impl std::error::Error for RunFault<'_> {}
