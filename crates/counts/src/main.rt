@@ -1,5 +1,7 @@
 //! Counts what the first word says: the tokens or the items of the text on standard input, or what
-//! comes of lists of texts. benches/lex, benches/parse and benches/values measure it.
+//! comes of lists of texts. benches/lex, benches/parse and benches/values measure it. Behind `told` it
+//! writes what comes of files that are driven under a host which answers by a script:
+//! tests/scripted compares it.
 //!
 //! A second word behind `tokens` or `items` is how often it is done (default: once).
 #![tactic(auto)]
@@ -7,6 +9,7 @@
 mod input;
 mod items;
 mod tokens;
+mod told;
 mod values;
 
 use anyhow::{Context, Result, bail};
@@ -19,6 +22,7 @@ enum Counted {
     Tokens,
     Items,
     Values,
+    Told,
 }
 
 /// What the word names, if anything.
@@ -27,6 +31,7 @@ fn find_counted(word: &str) -> Option<Counted> {
         "tokens" => Some(Counted::Tokens),
         "items" => Some(Counted::Items),
         "values" => Some(Counted::Values),
+        "told" => Some(Counted::Told),
         _ => None,
     }
 }
@@ -46,7 +51,8 @@ fn run(rt: &HostRuntime) -> Result<()> {
         Some(Counted::Tokens) => tokens::run(rt),
         Some(Counted::Items) => items::run(rt),
         Some(Counted::Values) => values::run(rt),
-        None => bail!("the first word is 'tokens', 'items' or 'values'"),
+        Some(Counted::Told) => told::run(rt),
+        None => bail!("the first word is 'tokens', 'items', 'values' or 'told'"),
     }
 }
 

@@ -3,7 +3,7 @@ use Rattle.std.proofs.Common.{◌≡◌, ℕ, suc, ◌+◌, Bool, true, false, L
 use Rattle.std.specs.Prelude.{not, ◌&&◌, is_some, option_map, IfSome, if◌then◌else◌}
 use Rattle.std.specs.List.{All}
 use Rattle.std.specs.Option.{option_and_then}
-use Rattle.just_strings.specs.declared.string_literal.StringLiteral.{StringLiteral}
+use Rattle.just_expression_tree.specs.declared.string_literal.StringLiteral.{StringLiteral}
 use Rattle.just_attribute_tree.specs.declared.attribute.ArgumentOptions.{ArgumentOptions}
 use Rattle.just_attribute_tree.specs.Attributes.{OptionsShape, options_shape}
 use Rattle.just_expression_tree.specs.Shape.{written}

@@ -4,7 +4,7 @@ use Rattle.std.specs.Prelude.{codes}
 use Rattle.std.specs.Str.{bytes_eq}
 use Rattle.just_text.specs.Tokens.{Word}
 use Rattle.just_text.specs.declared.token_kind.TokenKind.TheVariants.{BracketL, BracketR, Colon, Comment, Eol, Equals, Identifier, ParenL, ParenR, StringToken}
-use Rattle.just_strings.specs.Cooking.{cooked}
+use Rattle.just_expression_tree.specs.Cooking.{cooked}
 use Rattle.just_attribute_tree.specs.declared.attribute.AttributeKind.{AttributeKind}
 use Rattle.just_attribute_tree.specs.Attributes.{AttributeShape}
 use Rattle.just_expression_tree.specs.Shape.{Shape}

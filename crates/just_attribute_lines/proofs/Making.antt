@@ -2,7 +2,7 @@
 use Rattle.std.proofs.Common.{◌≡◌, [], ◌∷◌, map, Some, None, refl, append-nil}
 use Rattle.std.specs.Global.{Vec}
 use Rattle.std.specs.List.{All}
-use Rattle.just_strings.specs.declared.string_literal.StringLiteral.{StringLiteral}
+use Rattle.just_expression_tree.specs.declared.string_literal.StringLiteral.{StringLiteral}
 use Rattle.just_text.specs.declared.token.Token.{Token}
 use Rattle.just_expression_tree.specs.declared.expression.Expression.{Expression, fold-Expression}
 use Rattle.just_expression_tree.specs.declared.expression.Expression.TheOpen.{Expression-F}

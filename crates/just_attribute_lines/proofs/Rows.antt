@@ -30,5 +30,3 @@ module _ (expansion : Expansion) (ts : List Token) (t : Token) (a : List Token) 
       → before read_shape (r ∷ []) (follow_at word_of (attribute_at word_of expansion) (another_at word_of) (suc (length b)) b) ≡ attributes_at word_of expansion ts
   unfolding attributes_at
   first_read r b h = rw (opens, h) refl
-
--- ---- rows of expressions

@@ -2,7 +2,7 @@
 use Rattle.std.specs.Prelude.{ℕ, Bool, true, false, not, ◌&&◌, ◌||◌, nat_le, List, [], ◌∷◌, length, Option, Some, None, is_some, if◌then◌else◌}
 use Rattle.std.specs.List.{list_all}
 use Rattle.std.specs.Option.{option_and_then}
-use Rattle.just_strings.specs.Cooking.{cooked}
+use Rattle.just_expression_tree.specs.Cooking.{cooked}
 use Rattle.just_attribute_tree.specs.Attributes.{OptionsShape}
 use Rattle.just_expression_tree.specs.Shape.{Shape}
 use Rattle.just_expressions.specs.Literals.{Expansion, text_or_none}

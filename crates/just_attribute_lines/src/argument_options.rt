@@ -11,7 +11,7 @@ ghost use Rattle.just_attribute_lines.specs.Options.{is_count, is_digit, is_shor
 
 use crate::parameter_option::OptionRead;
 use just_attribute_tree::{ArgumentOptions, LongName};
-use just_strings::StringLiteral;
+use just_expression_tree::StringLiteral;
 
 /// Whether the text is one ASCII letter or digit.
 fn is_short(text: &str) -> bool

@@ -12,9 +12,8 @@ ghost use Rattle.just_attribute_lines.specs.Reading.{arguments_at, inside_at, op
 
 use crate::parameter_option::{OptionRead, option};
 use just_attribute_tree::ArgumentForm;
-use just_expression_tree::Expression;
+use just_expression_tree::{Expression, StringLiteral};
 use just_expressions::{Cursor, Fault, is_more};
-use just_strings::StringLiteral;
 use just_text::{Expander, TokenKind, both};
 use std::alloc::Global;
 

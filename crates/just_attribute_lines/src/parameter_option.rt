@@ -8,9 +8,8 @@ ghost use Rattle.just_expressions.specs.Strings.{IsCookedString};
 ghost use Rattle.just_attribute_lines.specs.Held.{IsCookedOption, option_shape};
 ghost use Rattle.just_attribute_lines.specs.Reading.{assigned_at, long_at, named_at, option_at, unknown_at, value_at};
 
-use just_expression_tree::Expression;
+use just_expression_tree::{Expression, StringLiteral};
 use just_expressions::{Cursor, Fault};
-use just_strings::StringLiteral;
 use just_text::{Expander, TokenKind};
 
 /// An option as it is written.

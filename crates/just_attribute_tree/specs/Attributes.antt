@@ -2,7 +2,7 @@
 use Rattle.std.specs.Prelude.{ℕ, Bool, true, false, if◌then◌else◌, List, ◌++◌, map, Option, Some, None, codes}
 use Rattle.std.specs.List.{flat_map}
 use Rattle.std.specs.Option.{option_map}
-use Rattle.just_strings.specs.declared.string_literal.StringLiteral.{StringLiteral}
+use Rattle.just_expression_tree.specs.declared.string_literal.StringLiteral.{StringLiteral}
 use Rattle.just_attribute_tree.specs.declared.attribute.AttributeKind.{AttributeKind}
 use Rattle.just_attribute_tree.specs.declared.attribute.AttributeKind.TheVariants.{Android as AndroidKind, Arg as ArgKind, Cache as CacheKind, Confirm as ConfirmKind, Default as DefaultKind, Doc as DocKind, Dragonfly as DragonflyKind, Env as EnvKind, ExitMessage as ExitMessageKind, Extension as ExtensionKind, Freebsd as FreebsdKind, Group as GroupKind, Linux as LinuxKind, Macos as MacosKind, Metadata as MetadataKind, Netbsd as NetbsdKind, NoCd as NoCdKind, NoExitMessage as NoExitMessageKind, NoQuiet as NoQuietKind, Openbsd as OpenbsdKind, Parallel as ParallelKind, PositionalArguments as PositionalArgumentsKind, Private as PrivateKind, Script as ScriptKind, Unix as UnixKind, Windows as WindowsKind, WorkingDirectory as WorkingDirectoryKind}
 use Rattle.just_attribute_tree.specs.declared.attribute.LongName.{LongName}

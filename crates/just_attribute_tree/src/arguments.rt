@@ -4,8 +4,7 @@ ghost use Rattle.just_attribute_tree.specs.Given as spec;
 
 use crate::argument_form::ArgumentForm;
 use crate::attribute::ArgumentOptions;
-use just_expression_tree::Expression;
-use just_strings::StringLiteral;
+use just_expression_tree::{Expression, StringLiteral};
 use just_text::Token;
 
 /// Arguments of an attribute as they are written.

@@ -5,8 +5,7 @@ ghost use Rattle.just_attribute_tree.specs.Attributes as spec;
 
 use crate::rows::{Elements, Strings};
 use crate::setting::Interpreter;
-use just_expression_tree::Expression;
-use just_strings::StringLiteral;
+use just_expression_tree::{Expression, StringLiteral};
 use std::fmt;
 
 /// Which attribute it is.

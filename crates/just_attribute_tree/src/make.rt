@@ -13,8 +13,7 @@ use crate::arguments::AttributeArguments;
 use crate::attribute::{Attribute, AttributeKind};
 use crate::kinds::kind_from_name;
 use crate::setting::Interpreter;
-use just_expression_tree::Expression;
-use just_strings::StringLiteral;
+use just_expression_tree::{Expression, StringLiteral};
 use just_text::{CompileError, CompileErrorKind, Name, Text, Token};
 use std::alloc::Global;
 

@@ -1,8 +1,7 @@
 //! Lists as they are printed.
 ghost use Rattle.std.specs.Prelude.{Some};
 
-use just_expression_tree::Expression;
-use just_strings::StringLiteral;
+use just_expression_tree::{Expression, StringLiteral};
 use std::fmt;
 
 /// Expressions, each behind a comma and a space.

@@ -3,8 +3,7 @@ ghost use Rattle.std.specs.Prelude.{Some};
 ghost use Rattle.just_attribute_tree.specs.Settings as spec;
 
 use crate::rows::Elements;
-use just_expression_tree::Expression;
-use just_strings::StringLiteral;
+use just_expression_tree::{Expression, StringLiteral};
 use std::fmt;
 
 /// A command and its arguments; `T` is what stands for a text.

@@ -8,7 +8,7 @@ use Rattle.std.proofs.lemmas.Bool.{cases_eq}
 use Rattle.std.proofs.lemmas.Grind.{get_or-set_at}
 use Rattle.std.proofs.lemmas.List.{get_or-set_other, length-set}
 use Rattle.just_text.specs.Tokens.{lexeme}
-use Rattle.just_strings.specs.declared.string_literal.StringLiteral.{StringLiteral}
+use Rattle.just_expression_tree.specs.declared.string_literal.StringLiteral.{StringLiteral}
 use Rattle.just_attribute_tree.specs.declared.attribute.ArgumentOptions.{ArgumentOptions}
 use Rattle.just_attribute_tree.specs.declared.attribute.LongName.{LongName}
 use Rattle.just_attribute_tree.specs.declared.attribute.LongName.TheVariants.{Absent, Named, OfParameter}

@@ -4,7 +4,7 @@ use Rattle.std.specs.Borrow.{Bor}
 use Rattle.std.specs.BTreeSet.{BTreeSet}
 use Rattle.just_text.specs.declared.compile_error.CompileErrorKind.{CompileErrorKind}
 use Rattle.just_text.specs.declared.compile_error.CompileErrorKind.TheVariants as kinds
-use Rattle.just_strings.specs.declared.string_literal.StringLiteral.{StringLiteral}
+use Rattle.just_expression_tree.specs.declared.string_literal.StringLiteral.{StringLiteral}
 use Rattle.just_attribute_tree.specs.declared.attribute.LongName.{LongName}
 use Rattle.just_attribute_tree.specs.declared.attribute.LongName.TheVariants.{Absent, Named, OfParameter}
 use Rattle.just_attribute_tree.specs.Attributes.{OptionsShape}

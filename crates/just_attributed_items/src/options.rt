@@ -16,7 +16,7 @@ ghost use Rattle.just_attributed_items.specs.Whole.{AreWholeOptions};
 
 use crate::places::Places;
 use just_attribute_tree::{ArgumentOptions, LongName};
-use just_strings::StringLiteral;
+use just_expression_tree::StringLiteral;
 use just_text::Text;
 use just_tree::Parameter;
 

@@ -5,8 +5,7 @@ ghost use Rattle.just_attribute_tree.specs.Attributes as tree;
 ghost use Rattle.just_attributes.specs.Arguments as spec;
 
 use just_attribute_tree::{Attribute, Elements, Interpreter, Strings};
-use just_expression_tree::Expression;
-use just_strings::StringLiteral;
+use just_expression_tree::{Expression, StringLiteral};
 use std::fmt;
 
 /// The arguments of an attribute without the parentheses, and nothing where it has none.

@@ -1,4 +1,5 @@
-//! Compiled justfiles: keys of files and tables by key, paths of modules, files, the modules that take\nthem, and why texts make none.
+//! Compiled justfiles: keys of files and tables by key, paths of modules, files, the modules that take
+//! them, and why texts make none.
 #![tactic(auto)]
 
 pub mod compilation;

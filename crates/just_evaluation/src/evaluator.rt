@@ -13,9 +13,8 @@ use crate::refusals::{condition_failed, internal, message_failed, not_const, unr
 use just_builtins::{
     CallSite, Error, ExecutionContext, Function, call_builtin, command_output, find_function,
 };
-use just_expression_tree::{ConditionalOperator, Expression, ListOperator};
+use just_expression_tree::{ConditionalOperator, Expression, ListOperator, StringLiteral};
 use just_host::{Config, Host, Pair, Recorded};
-use just_strings::StringLiteral;
 use just_text::{Name, Number, Text, Token};
 use just_tree::FunctionDefinition;
 use just_value::{ConstError, Scope, StringContext, Value};

@@ -4,9 +4,8 @@ ghost use Rattle.std.specs.String.{string_bytes};
 ghost use Rattle.just_value.specs.Values.{joined};
 
 use just_builtins::Error;
-use just_expression_tree::{ConditionalOperator, ListOperator};
+use just_expression_tree::{ConditionalOperator, ListOperator, unindent};
 use just_host::HostFault;
-use just_strings::unindent;
 use just_text::{Name, Text, Token};
 use just_value::{ConstEvalError, StringContext, Value};
 use std::alloc::{AllocError, Global};

@@ -1,2 +1,9 @@
 pub mod Printed
 pub mod TextsInRow
+mod Braces
+pub mod Cuts
+mod Lines
+mod Longest
+mod Meanings
+mod Turns
+mod Written

@@ -3,7 +3,7 @@ use Rattle.std.proofs.Common.{◌≡◌, ℕ, ◌+◌, ◌<◌, ◌≤◌, List,
 use Rattle.std.proofs.lemmas.List.{drop_all}
 use Rattle.std.specs.Global.{Box}
 use Rattle.just_text.specs.declared.name.Name.{Name}
-use Rattle.just_strings.specs.declared.string_literal.StringLiteral.{StringLiteral}
+use Rattle.just_expression_tree.specs.declared.string_literal.StringLiteral.{StringLiteral}
 use Rattle.just_expression_tree.specs.declared.expression.Expression.{Expression, Assert, Conditional, the_lemmas}
 use Rattle.just_expression_tree.specs.Shape.{shape_of, shapes_of, interpolations_of, inner_shape, written, assertion, assertion_alone, choice, choice_alone}
 use Rattle.just_expression_tree.specs.Printing.{text_of, text_of_all, text_of_message, text_of_other, text_of_others, text_of_interpolations, behind_else, braced}

@@ -3,3 +3,14 @@ pub mod Shape
 pub mod Printing
 pub mod FirstTokens
 pub mod Inside
+pub mod Answering
+pub mod Cooking
+pub mod Cutting
+pub mod Escaping
+pub mod Forms
+pub mod Indentation
+pub mod Kinds
+pub mod Literals
+pub mod Longest
+pub mod Meaning
+pub mod Parts

@@ -4,7 +4,7 @@ ghost use Rattle.just_expression_tree.specs.FirstTokens.{first_token_of};
 
 use crate::operator::ConditionalOperator;
 use crate::printing;
-use just_strings::StringLiteral;
+use crate::string_literal::StringLiteral;
 use just_text::{Name, Number, Text, Token};
 use std::fmt;
 

@@ -5,7 +5,7 @@ ghost use Rattle.just_expression_tree.specs.Printing.{text_of, text_of_all, text
 ghost use Rattle.just_expression_tree.specs.Shape.{shape_of, shapes_of, interpolations_of, inner_shape};
 
 use crate::expression::Expression;
-use just_strings::StringLiteral;
+use crate::string_literal::StringLiteral;
 use std::fmt;
 use std::fmt::{Formatter, Write};
 

@@ -5,7 +5,7 @@ use Rattle.std.specs.Str.{bytes_eq}
 use Rattle.just_text.specs.Tokens.{Word}
 use Rattle.just_text.specs.declared.token_kind.TokenKind.{TokenKind}
 use Rattle.just_text.specs.declared.token_kind.TokenKind.TheVariants.{Backtick, Bang, FormatStringStart, Identifier, ParenL, Slash, StringToken}
-use Rattle.just_strings.specs.Cooking.{cooked}
+use Rattle.just_expression_tree.specs.Cooking.{cooked}
 use Rattle.just_expression_tree.specs.Operators.{Binary}
 use Rattle.just_expression_tree.specs.Shape.{Shape, literal, variable}
 use Rattle.just_expressions.specs.Alone.{is_alone, is_end, goes_on}

@@ -3,10 +3,10 @@ use Rattle.std.proofs.Common.{◌≡◌, ℕ, suc, Bool, true, false, List, [], 
 use Rattle.std.specs.Global.{Vec}
 use Rattle.just_text.specs.Tokens.{word_of, lexeme}
 use Rattle.just_text.specs.declared.token.Token.{Token}
-use Rattle.just_strings.specs.declared.string_kind.StringKind.{StringKind}
-use Rattle.just_strings.specs.declared.string_literal.StringLiteral.{StringLiteral}
-use Rattle.just_strings.specs.Kinds.{kind_of}
-use Rattle.just_strings.specs.Parts.{cooked_part}
+use Rattle.just_expression_tree.specs.declared.string_kind.StringKind.{StringKind}
+use Rattle.just_expression_tree.specs.declared.string_literal.StringLiteral.{StringLiteral}
+use Rattle.just_expression_tree.specs.Kinds.{kind_of}
+use Rattle.just_expression_tree.specs.Parts.{cooked_part}
 use Rattle.just_expression_tree.specs.declared.expression.Expression.{Expression, FormatString, the_lemmas}
 use Rattle.just_expression_tree.specs.Shape.{format, shape_of, interpolations_of, written}
 use Rattle.just_expressions.specs.declared.fault.Fault.{Fault}

@@ -2,9 +2,9 @@
 use Rattle.std.proofs.Common.{◌≡◌, ℕ, suc, ◌-◌, ◌<◌, Bool, true, false, List, [], ◌∷◌, ◌++◌, length, map, Ok, Err, refl, sym, ap, subst, ◌∙◌, arith, append_assoc}
 use Rattle.just_text.specs.Tokens.{word_of}
 use Rattle.just_text.specs.declared.token.Token.{Token}
-use Rattle.just_strings.specs.declared.string_kind.StringKind.{StringKind}
-use Rattle.just_strings.specs.declared.string_literal.StringLiteral.{StringLiteral}
-use Rattle.just_strings.specs.Parts.{cooked_part}
+use Rattle.just_expression_tree.specs.declared.string_kind.StringKind.{StringKind}
+use Rattle.just_expression_tree.specs.declared.string_literal.StringLiteral.{StringLiteral}
+use Rattle.just_expression_tree.specs.Parts.{cooked_part}
 use Rattle.just_expression_tree.specs.declared.expression.Expression.{Expression}
 use Rattle.just_expression_tree.specs.Shape.{Interpolations, closed, interpolation, shape_of, interpolations_of, written}
 use Rattle.just_expressions.specs.declared.fault.Fault.{Fault}

@@ -4,10 +4,10 @@ use Rattle.std.specs.Str.{bytes_eq}
 use Rattle.just_text.specs.Tokens.{Word}
 use Rattle.just_text.specs.declared.token_kind.TokenKind.{TokenKind}
 use Rattle.just_text.specs.declared.token_kind.TokenKind.TheVariants.{Backtick, Bang, BraceL, BraceR, BracketL, Comma, FormatStringContinue, FormatStringEnd, FormatStringStart, Identifier, ParenL, ParenR, BracketR, Slash, StringToken}
-use Rattle.just_strings.specs.declared.string_kind.StringKind.{StringKind}
-use Rattle.just_strings.specs.Cooking.{cooked}
-use Rattle.just_strings.specs.Kinds.{kind_of}
-use Rattle.just_strings.specs.Parts.{cooked_part}
+use Rattle.just_expression_tree.specs.declared.string_kind.StringKind.{StringKind}
+use Rattle.just_expression_tree.specs.Cooking.{cooked}
+use Rattle.just_expression_tree.specs.Kinds.{kind_of}
+use Rattle.just_expression_tree.specs.Parts.{cooked_part}
 use Rattle.just_expression_tree.specs.Operators.{Binary}
 use Rattle.just_expression_tree.specs.Shape.{Shape, Shapes, Interpolations, literal, format, closed}
 use Rattle.just_expressions.specs.Words.{is_kind, if_keyword, else_keyword, assert_keyword}

@@ -6,9 +6,9 @@ use Rattle.just_text.specs.Tokens.{Word}
 use Rattle.just_text.specs.declared.compile_error.CompileErrorKind.TheVariants.{ParsingRecursionDepthExceeded}
 use Rattle.just_text.specs.declared.token_kind.TokenKind.{TokenKind}
 use Rattle.just_text.specs.declared.token_kind.TokenKind.TheVariants.{Backtick, BraceL, BracketL, BracketR, Comma, FormatStringStart, Identifier, ParenL, ParenR, StringToken}
-use Rattle.just_strings.specs.declared.string_kind.StringKind.{StringKind}
-use Rattle.just_strings.specs.Kinds.{kind_of}
-use Rattle.just_strings.specs.Parts.{cooked_part}
+use Rattle.just_expression_tree.specs.declared.string_kind.StringKind.{StringKind}
+use Rattle.just_expression_tree.specs.Kinds.{kind_of}
+use Rattle.just_expression_tree.specs.Parts.{cooked_part}
 use Rattle.just_expression_tree.specs.Shape.{Shape}
 use Rattle.just_expressions.specs.Words.{if_keyword, else_keyword, assert_keyword}
 use Rattle.just_expressions.specs.Operators.{right_rank}

@@ -7,10 +7,10 @@ use Rattle.just_text.specs.declared.compile_error.CompileErrorKind.TheVariants a
 use Rattle.just_text.specs.declared.token.Token.{Token}
 use Rattle.just_text.specs.declared.token_kind.TokenKind.{TokenKind}
 use Rattle.just_text.specs.declared.token_kind.TokenKind.TheVariants.{Backtick, Bang, BraceL, BraceR, BracketL, BracketR, Comma, FormatStringContinue, FormatStringEnd, FormatStringStart, Identifier, ParenL, ParenR, Slash, StringToken}
-use Rattle.just_strings.specs.declared.string_kind.StringKind.{StringKind}
-use Rattle.just_strings.specs.Cooking.{cooked}
-use Rattle.just_strings.specs.Kinds.{kind_of}
-use Rattle.just_strings.specs.Parts.{cooked_part}
+use Rattle.just_expression_tree.specs.declared.string_kind.StringKind.{StringKind}
+use Rattle.just_expression_tree.specs.Cooking.{cooked}
+use Rattle.just_expression_tree.specs.Kinds.{kind_of}
+use Rattle.just_expression_tree.specs.Parts.{cooked_part}
 use Rattle.just_expression_tree.specs.Operators.{Binary}
 use Rattle.just_expression_tree.specs.Shape.{Shape, Shapes, Interpolations, literal, command, format, variable, call, assertion, assertion_alone, group, listing, choice, choice_alone, negation, rooted, binary, end, more, closed, interpolation}
 use Rattle.just_expressions.specs.declared.fault.Fault.{Fault}

@@ -2,9 +2,9 @@
 use Rattle.std.specs.Prelude.{ℕ, ◌≡◌, ◌⊎◌, List, Ok}
 use Rattle.just_text.specs.Tokens.{Word}
 use Rattle.just_text.specs.declared.token_kind.TokenKind.TheVariants.{Comment, StringToken}
-use Rattle.just_strings.specs.declared.string_literal.StringLiteral.{StringLiteral}
-use Rattle.just_strings.specs.Cooking.{cooked}
-use Rattle.just_strings.specs.Kinds.{kind_of}
+use Rattle.just_expression_tree.specs.declared.string_literal.StringLiteral.{StringLiteral}
+use Rattle.just_expression_tree.specs.Cooking.{cooked}
+use Rattle.just_expression_tree.specs.Kinds.{kind_of}
 use Rattle.just_expression_tree.specs.Shape.{Shape, written}
 use Rattle.just_expressions.specs.Words.{Begins, Mark, Lacks}
 use Rattle.just_expressions.specs.Literals.{Expansion, Cooks}

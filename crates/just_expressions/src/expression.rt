@@ -11,8 +11,7 @@ use crate::cursor::Cursor;
 use crate::fault::Fault;
 use crate::literal::{format_part, is_open, string_literal};
 use crate::node::{assertion, binary, conditional, prefixed};
-use just_expression_tree::Expression;
-use just_strings::{StringKind, StringLiteral};
+use just_expression_tree::{Expression, StringKind, StringLiteral};
 use just_text::{CompileErrorKind, Expander, Name, Token, TokenKind, both};
 use std::alloc::Global;
 

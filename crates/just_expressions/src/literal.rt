@@ -2,9 +2,9 @@
 ghost use Rattle.std.specs.Prelude.{◌≡◌, ◌≢◌, [], ◌∷◌, IfOk, Ok};
 ghost use Rattle.just_text.specs.Tokens.{word_of, lexeme};
 ghost use Rattle.just_text.specs.declared.compile_error.CompileErrorKind.TheVariants as kinds;
-ghost use Rattle.just_strings.specs.Kinds.{kind_of};
-ghost use Rattle.just_strings.specs.Cooking.{cooked, command as cooked_command};
-ghost use Rattle.just_strings.specs.Parts.{cooked_part};
+ghost use Rattle.just_expression_tree.specs.Kinds.{kind_of};
+ghost use Rattle.just_expression_tree.specs.Cooking.{cooked, command as cooked_command};
+ghost use Rattle.just_expression_tree.specs.Parts.{cooked_part};
 ghost use Rattle.just_expressions.specs.declared.fault.Fault.TheVariants.{OutOfMemory, Refused};
 ghost use Rattle.just_expressions.specs.Literals.{held_by, is_open, of_command};
 ghost use Rattle.just_expressions.specs.Reading.{Gives, ahead, taken_if, command_at, part_at};
@@ -12,8 +12,9 @@ ghost use Rattle.just_expression_tree.specs.Shape.{command, shape_of, written};
 
 use crate::cursor::Cursor;
 use crate::fault::Fault;
-use just_expression_tree::Expression;
-use just_strings::{StringKind, StringLiteral, command_text, cook_part, is_shebang};
+use just_expression_tree::{
+    Expression, StringKind, StringLiteral, command_text, cook_part, is_shebang,
+};
 use just_text::{CompileError, CompileErrorKind, Expander, Token, TokenKind};
 use std::alloc::Global;
 

@@ -8,7 +8,7 @@ ghost use Rattle.just_expressions.specs.Strings.{IsCookedString, string_at};
 use crate::cursor::Cursor;
 use crate::fault::Fault;
 use crate::literal::string_literal;
-use just_strings::StringLiteral;
+use just_expression_tree::StringLiteral;
 use just_text::{Expander, TokenKind};
 
 impl<'t, 'src> Cursor<'t, 'src> {

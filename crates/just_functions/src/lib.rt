@@ -1,4 +1,5 @@
-//! The built-in functions: their names, how many arguments they take, and those that ask nothing;\nand what commands are told of the environment.
+//! The built-in functions: their names, how many arguments they take, and those that ask nothing;
+//! and what commands are told of the environment.
 #![tactic(auto)]
 
 pub mod cases;

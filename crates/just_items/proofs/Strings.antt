@@ -5,8 +5,8 @@ use Rattle.just_text.specs.declared.compile_error.CompileErrorKind.{CompileError
 use Rattle.just_text.specs.declared.compile_error.CompileErrorKind.TheVariants as kinds
 use Rattle.just_text.specs.declared.token.Token.{Token}
 use Rattle.just_text.specs.declared.token_kind.TokenKind.TheVariants.{ColonEquals, StringToken}
-use Rattle.just_strings.specs.Answering.{Answers}
-use Rattle.just_strings.specs.Cooking.{cooked}
+use Rattle.just_expression_tree.specs.Answering.{Answers}
+use Rattle.just_expression_tree.specs.Cooking.{cooked}
 use Rattle.just_expressions.specs.declared.fault.Fault.{Fault}
 use Rattle.just_expressions.specs.declared.fault.Fault.TheVariants as faults
 use Rattle.just_expressions.specs.Literals.{Expansion}

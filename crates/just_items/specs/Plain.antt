@@ -1,7 +1,7 @@
 -- What items have before their attributes are read.
 use Rattle.std.specs.Prelude.{ℕ, ◌≡◌, Bool, false, List, [], codes}
 use Rattle.just_text.specs.Tokens.{lexeme}
-use Rattle.just_strings.specs.Cutting.{begins}
+use Rattle.just_expression_tree.specs.Cutting.{begins}
 use Rattle.just_attributes.specs.Sets.{items_of}
 use Rattle.just_tree.specs.declared.ast.Item.{Item}
 use Rattle.just_tree.specs.declared.ast.Item.TheVariants.{Alias, Assignment, Module}

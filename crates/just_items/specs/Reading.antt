@@ -5,7 +5,7 @@ use Rattle.just_text.specs.Tokens.{Word, word_of}
 use Rattle.just_text.specs.declared.token.Token.{Token}
 use Rattle.just_text.specs.declared.compile_error.CompileErrorKind.TheVariants as kinds
 use Rattle.just_text.specs.declared.token_kind.TokenKind.TheVariants.{ColonEquals, Comma, Identifier, ParenL, ParenR, QuestionMark, StringToken}
-use Rattle.just_strings.specs.Cooking.{cooked}
+use Rattle.just_expression_tree.specs.Cooking.{cooked}
 use Rattle.just_attributes.specs.declared.item_kind.ItemKind.{ItemKind}
 use Rattle.just_attributes.specs.declared.item_kind.ItemKind.TheVariants.{Alias, Assignment, Function, Import, Module, Recipe, Set, Unexport}
 use Rattle.just_tree.specs.Files.{ItemShape, alias_item, assignment_item, function_item, import_item, module_item, unexport_item}

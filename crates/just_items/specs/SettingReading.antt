@@ -4,7 +4,7 @@ use Rattle.just_text.specs.Tokens.{Word}
 use Rattle.just_text.specs.declared.compile_error.CompileErrorKind.{CompileErrorKind}
 use Rattle.just_text.specs.declared.compile_error.CompileErrorKind.TheVariants as kinds
 use Rattle.just_text.specs.declared.token_kind.TokenKind.TheVariants.{BracketL, BracketR, ColonEquals, Comma, Identifier, StringToken}
-use Rattle.just_strings.specs.Cooking.{cooked}
+use Rattle.just_expression_tree.specs.Cooking.{cooked}
 use Rattle.just_attribute_tree.specs.Settings.{ValueShape, truth, expression, interpreter, string, SetShape, InterpreterShape}
 use Rattle.just_expression_tree.specs.Shape.{Shape, Shapes, end, more}
 use Rattle.just_expressions.specs.Literals.{Expansion}

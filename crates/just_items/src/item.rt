@@ -20,10 +20,9 @@ ghost use Rattle.just_items.specs.Reading.{alias_at, assignment_at, file_at, fun
 
 use crate::kind::is_named_value;
 use just_attributes::{AttributeSet, ItemKind};
-use just_expression_tree::Expression;
+use just_expression_tree::{Expression, StringLiteral};
 use just_expressions::{Cursor, Fault, end_of_line, ended};
 use just_recipes::{namepath, next_binding};
-use just_strings::StringLiteral;
 use just_text::{CompileErrorKind, Expander, Name, Namepath, Numerator, Text, TokenKind};
 use just_tree::{
     Alias, Assignment, Binding, FunctionDefinition, FunctionParameter, Import, Item, Module,

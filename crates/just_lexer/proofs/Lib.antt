@@ -6,3 +6,5 @@ pub mod OnLongest
 pub mod Ends
 pub mod Faults
 pub mod Loop
+pub mod Lines
+pub mod Widths

@@ -5,3 +5,5 @@ pub mod Longest
 pub mod Lexes
 pub mod Lexed
 pub mod Lexing
+pub mod Columns
+pub mod Excerpts

@@ -1,4 +1,5 @@
-//! Orders in which each thing stands behind all that it needs, and graphs of places: what is reached,\nwhich places reach each other.
+//! Orders in which each thing stands behind all that it needs, and graphs of places: what is reached,
+//! which places reach each other.
 #![tactic(auto)]
 
 pub mod component_search;

@@ -2,7 +2,7 @@
 use Rattle.std.specs.Prelude.{ℕ, List, [], ◌∷◌, ◌++◌, length, Option, Some, None}
 use Rattle.std.specs.Global.{Box}
 use Rattle.std.specs.List.{flat_map}
-use Rattle.just_strings.specs.declared.string_literal.StringLiteral.{StringLiteral}
+use Rattle.just_expression_tree.specs.declared.string_literal.StringLiteral.{StringLiteral}
 use Rattle.just_expression_tree.specs.declared.expression.Expression.{Expression, fold-Expression}
 use Rattle.just_expression_tree.specs.declared.expression.Expression.TheOpen.{Expression-F}
 use Rattle.just_references.specs.declared.references.Reference.{Reference}

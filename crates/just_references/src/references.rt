@@ -4,8 +4,7 @@ ghost use Rattle.std.specs.List.{flat_map};
 ghost use Rattle.just_references.specs.declared.references.Reference.TheVariants.{Call, Variable};
 ghost use Rattle.just_references.specs.References.{references_of, references_if_there, references_in_interpolation};
 
-use just_expression_tree::Expression;
-use just_strings::StringLiteral;
+use just_expression_tree::{Expression, StringLiteral};
 use just_text::{Name, Number};
 use std::alloc::{AllocError, Global};
 use std::{slice, vec};

@@ -4,7 +4,7 @@ use Rattle.std.specs.Global.{Box, Vec}
 use Rattle.std.proofs.lemmas.List.{map-append}
 use Rattle.just_text.specs.declared.name.Name.{Name}
 use Rattle.just_text.specs.declared.token.Token.{Token}
-use Rattle.just_strings.specs.declared.string_literal.StringLiteral.{StringLiteral}
+use Rattle.just_expression_tree.specs.declared.string_literal.StringLiteral.{StringLiteral}
 use Rattle.just_expression_tree.specs.declared.operator.ConditionalOperator.{ConditionalOperator}
 use Rattle.just_expression_tree.specs.declared.expression.Expression.{Expression, the_lemmas}
 use Rattle.just_expression_tree.specs.declared.expression.Expression as e

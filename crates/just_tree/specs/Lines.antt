@@ -7,7 +7,7 @@ use Rattle.just_tree.specs.declared.line.Fragment.{Fragment}
 use Rattle.just_tree.specs.declared.line.Fragment.TheVariants.{Interpolation, Text}
 use Rattle.just_tree.specs.declared.line.Line.{Line}
 use Rattle.just_tree.specs.declared.line.Sigils.{Sigils}
-use Rattle.just_strings.specs.Cutting.{begins}
+use Rattle.just_expression_tree.specs.Cutting.{begins}
 use Rattle.just_expression_tree.specs.Shape.{Shape, shape_of}
 use Rattle.just_expression_tree.specs.Printing.{text_of}
 

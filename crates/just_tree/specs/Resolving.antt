@@ -5,7 +5,7 @@ use Rattle.std.specs.List.{flat_map}
 use Rattle.std.specs.Option.{option_or}
 use Rattle.just_text.specs.Tokens.{lexeme}
 use Rattle.just_text.specs.declared.token.Token.{Token}
-use Rattle.just_strings.specs.declared.string_literal.StringLiteral.{StringLiteral}
+use Rattle.just_expression_tree.specs.declared.string_literal.StringLiteral.{StringLiteral}
 use Rattle.just_expression_tree.specs.declared.expression.Expression.{Expression, fold-Expression}
 use Rattle.just_expression_tree.specs.declared.expression.Expression.TheOpen.{Expression-F}
 use Rattle.just_expression_tree.specs.Shape.{shape_of}

@@ -4,8 +4,7 @@ ghost use Rattle.just_tree.specs.Items as spec;
 
 use crate::rows::{Names, Path};
 use just_attributes::AttributeSet;
-use just_expression_tree::Expression;
-use just_strings::StringLiteral;
+use just_expression_tree::{Expression, StringLiteral};
 use just_text::{Name, Namepath, Number};
 use std::fmt;
 use std::marker::Model;

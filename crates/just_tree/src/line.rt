@@ -3,8 +3,7 @@ ghost use Rattle.std.specs.Prelude.{◌≡◌, ◌-◌, length, slice_get, optio
 ghost use Rattle.just_tree.specs.Lines as spec;
 ghost use Rattle.just_tree.specs.Lines.{piece_of, piece_text, pieces_of, line_text, first_piece, last_piece, sigils_of, next_sigils, no_sigils, read_sigils, is_comment, is_continuation};
 
-use just_expression_tree::Expression;
-use just_strings::is_shebang;
+use just_expression_tree::{Expression, is_shebang};
 use just_text::Token;
 use std::fmt;
 

@@ -5,7 +5,7 @@ use Rattle.std.specs.Str.{trim}
 use Rattle.std.specs.String.{string_bytes}
 use Rattle.unicode_width.specs.Width.{str_width}
 use Rattle.just_text.specs.Tokens.{lexeme}
-use Rattle.just_strings.specs.Cutting.{without_front}
+use Rattle.just_expression_tree.specs.Cutting.{without_front}
 use Rattle.just_attribute_tree.specs.declared.attribute.Attribute.{Attribute}
 use Rattle.just_attribute_tree.specs.declared.attribute.Attribute.TheVariants.{Doc}
 use Rattle.just_attribute_tree.specs.declared.attribute.AttributeKind.TheVariants.{Doc as DocKind}

@@ -1,4 +1,5 @@
-//! Values of variables, parameters, constants and settings, all that an evaluation of a justfile rests\non, and bodies of recipes: their lines one by one or as one script, up to the first failure.
+//! Values of variables, parameters, constants and settings, all that an evaluation of a justfile rests
+//! on, and bodies of recipes: their lines one by one or as one script, up to the first failure.
 #![tactic(auto)]
 
 mod assignments;

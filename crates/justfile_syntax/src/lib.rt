@@ -21,12 +21,11 @@ pub use just_attributes::{
     AttributeItem, AttributeSet, Indentation, InvalidIndentation, ItemKind, PrintedArguments,
     is_private, may_carry,
 };
-pub use just_expression_tree::{ConditionalOperator, Expression, ListOperator};
-pub use just_lexer::Lexer;
-pub use just_strings::{
-    StringDelimiter, StringKind, StringLiteral, StringPrefix, command_text, cook_part, halve,
-    unindent,
+pub use just_expression_tree::{
+    ConditionalOperator, Expression, ListOperator, StringDelimiter, StringKind, StringLiteral,
+    StringPrefix, command_text, cook_part, halve, unindent,
 };
+pub use just_lexer::Lexer;
 pub use just_text::{
     CompileError, CompileErrorKind, Count, Delimiter, ExpandFault, Expander, Keyword, Name,
     Namepath, Number, Numerator, Os, Sequence, Text, Token, TokenKind,

@@ -1,26 +1,13 @@
-//! A justfile, words, and what comes of them.
-use crate::given::{Given, given_of};
+//! Files, words, and what comes of them.
+use crate::faltering::Faltering;
+use crate::given::Given;
 use crate::scripted::Scripted;
 use crate::told::told;
 use crate::way::{Telling, Way};
 use crate::whole::told_whole;
-use just_run::{Collected, Entry, Fault, Out, Outcome, Recorded, Trees, drive};
-use justfile_syntax::{ExpandFault, Expander, Text};
+use just_run::{Collected, Device, Entry, Fault, Out, Outcome, Recorded, Trees, drive};
 use std::alloc::{AllocError, Global};
-
-/// Gives each text as it is.
-#[derive(Drop)]
-struct Unchanged;
-
-impl Expander for Unchanged {
-    ghost use Rattle.std.specs.Prelude.{Ok};
-
-    ghost expansion = { λ _ text. Ok text };
-
-    fn expand(&self, alloc: Global, text: &str) -> Result<Text, ExpandFault> {
-        Ok(Text::from_text(alloc, text)?)
-    }
-}
+use told_files::Unchanged;
 
 /// What came of it, in words.
 fn answer_text(alloc: Global, answer: Result<Outcome, Fault>) -> Result<String, AllocError> {
@@ -38,7 +25,7 @@ fn answer_text(alloc: Global, answer: Result<Outcome, Fault>) -> Result<String, 
 fn told_entries(alloc: Global, telling: Telling, entries: &[Entry]) -> Result<String, AllocError> {
     match telling {
         Telling::Short => told(alloc, entries),
-        Telling::Whole => told_whole(alloc, entries),
+        _ => told_whole(alloc, entries),
     }
 }
 
@@ -47,18 +34,18 @@ fn told_of(
     alloc: Global,
     telling: Telling,
     host: &Recorded<Scripted>,
-    out: &Collected,
+    written: &[u8],
     answer: Result<Outcome, Fault>,
 ) -> Result<String, AllocError> {
     let answer = answer_text(alloc, answer)?;
     let mut text = told_entries(alloc, telling, host.entries())?;
-    text.push_str(std::str::from_utf8(out.bytes()).unwrap_or("not text"))?;
+    text.push_str(std::str::from_utf8(written).unwrap_or("not text"))?;
     text.push_str(answer.as_str())?;
     Ok(text)
 }
 
 /// What comes of the call with this output.
-pub fn drive_into<'g, O: Out>(
+fn drive_into<'g, O: Out>(
     alloc: Global,
     way: Way<'_>,
     given: &'g Given,
@@ -80,7 +67,7 @@ pub fn drive_into<'g, O: Out>(
 }
 
 /// A host that answers in this way.
-pub fn host<'a>(alloc: Global, way: Way<'a>) -> Recorded<Scripted<'a>> {
+fn host<'a>(alloc: Global, way: Way<'a>) -> Recorded<Scripted<'a>> {
     let scripted = Scripted {
         alloc,
         answers: way.answers,
@@ -92,57 +79,36 @@ pub fn host<'a>(alloc: Global, way: Way<'a>) -> Recorded<Scripted<'a>> {
     Recorded::new(alloc, scripted)
 }
 
-/// What is told of the justfile under these words.
-fn tell(alloc: Global, way: Way<'_>, given: &Given) -> Result<String, AllocError> {
+/// What is told where the output takes all.
+fn told_with_output(alloc: Global, way: Way<'_>, given: &Given) -> Result<String, AllocError> {
     let mut host = host(alloc, way);
     let mut out = Collected::new(alloc);
     let answer = drive_into(alloc, way, given, &mut host, &mut out);
-    told_of(alloc, way.telling, &host, &out, answer)
+    told_of(alloc, way.telling, &host, out.bytes(), answer)
 }
 
-/// What is told of the files under the words, as `given_of` takes them: what was asked and handed
-/// over, then what was written, then what came of it.
-pub fn driven(alloc: Global, way: Way<'_>, files: &str, words: &str) -> Result<String, AllocError> {
-    let given = given_of(alloc, way, files, words)?;
-    tell(alloc, way, &given)
-}
-
-/// Whether this is told of the files under the words.
-pub fn tells(
+/// What is told where the output fails behind so many writes.
+fn told_with_failing_output(
     alloc: Global,
     way: Way<'_>,
-    files: &str,
-    words: &str,
-    told: &str,
-) -> Result<bool, AllocError> {
-    Ok(driven(alloc, way, files, words)?.as_str() == told)
+    given: &Given,
+    writes: usize,
+) -> Result<String, AllocError> {
+    let mut host = host(alloc, way);
+    let mut out = Device::new(alloc, Faltering { left: writes });
+    let answer = drive_into(alloc, way, given, &mut host, &mut out);
+    told_of(alloc, way.telling, &host, out.bytes(), answer)
 }
 
-/// The place of the first row, its files, its words and what is told of it, that disagrees with what
-/// comes of it.
-pub fn first_wrong(
+/// What is told of the call: what was asked and handed over, then what was written, then what came of
+/// it.
+pub(crate) fn told_driven(
     alloc: Global,
     way: Way<'_>,
-    rows: &[(&str, &str, &str)],
-) -> Result<Option<usize>, AllocError> {
-    for (place, (files, words, told)) in rows.iter().enumerate() {
-        if !tells(alloc, way, files, words, told)? {
-            return Ok(Some(place));
-        }
+    given: &Given,
+) -> Result<String, AllocError> {
+    match way.writes {
+        Some(writes) => told_with_failing_output(alloc, way, given, writes),
+        None => told_with_output(alloc, way, given),
     }
-    Ok(None)
-}
-
-/// The same of rows without words.
-pub fn first_wrong_wordless(
-    alloc: Global,
-    way: Way<'_>,
-    rows: &[(&str, &str)],
-) -> Result<Option<usize>, AllocError> {
-    for (place, (files, told)) in rows.iter().enumerate() {
-        if !tells(alloc, way, files, "", told)? {
-            return Ok(Some(place));
-        }
-    }
-    Ok(None)
 }

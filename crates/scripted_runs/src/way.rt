@@ -7,14 +7,23 @@ use just_run::{Action, Config, Confirmation};
 use justfile_syntax::Os;
 use semver::Version;
 use std::alloc::{AllocError, Global};
+use told_files::Subject;
 
-/// How much is told of what was asked.
+/// What is told of a justfile, and how much.
 #[derive(Clone, Copy)]
 pub enum Telling {
     /// What was handed over, with its words and variables; of questions the commands alone.
     Short,
     /// All that was asked, handed over and shown, with what it runs under, one a line.
     Whole,
+    /// What the modules keep of the files; nothing is asked or handed over.
+    Modules,
+    /// What names, orders and constants come to; nothing is asked or handed over.
+    Resolved,
+    /// The root as it is printed; nothing is asked or handed over.
+    Printed,
+    /// The root's tokens; nothing is asked or handed over.
+    Tokens(Subject),
 }
 
 /// How a justfile is driven.
@@ -39,6 +48,8 @@ pub struct Way<'a> {
     /// The place of the question or event that fails, from 0; none does at the greatest place.
     pub failing_place: usize,
     pub failing: Failing,
+    /// The output takes at most two bytes a write, and fails behind so many writes.
+    pub writes: Option<usize>,
 }
 
 /// Runs, confirms all, and fails nothing.
@@ -57,6 +68,7 @@ pub const RUN: Way<'static> = Way {
     is_shallow: false,
     failing_place: usize::MAX,
     failing: Failing::NotStarted,
+    writes: None,
 };
 
 /// How deep calls of functions may lie in each other.

@@ -1,6 +1,6 @@
 //! Excerpts as they are printed.
 
-use just_excerpt::Excerpt;
+use just_lexer::Excerpt;
 use just_text::{Token, TokenKind};
 use std::alloc::Global;
 use std::test::Fail;

@@ -1,66 +1,9 @@
-//! Expressions as the values of assignments.
+//! Expressions inside one another, up to the deepest that is read.
 
-use crate::told::{tell, told};
+use crate::told::told;
 use justfile_syntax::Numerator;
 use std::alloc::{AllocError, Global};
 use std::test::Fail;
-
-#[test]
-fn reads_operators_and_calls(rt: HostRuntime) -> Result<(), Fail> {
-    const ROWS: &[(&str, &str)] = &[
-        ("x := 'a' + \"b\" / c", "x := 'a' + \"b\" / c\n"),
-        ("x := / a / b", "x := / a / b\n"),
-        ("x := ! a == b", "x := !a == b\n"),
-        ("x := f ( )", "x := f()\n"),
-        ("x := f(a, b,)", "x := f(a, b)\n"),
-        ("x := assert(a == b)", "x := assert(a == b)\n"),
-        ("x := assert(a,)", "x := assert(a)\n"),
-        ("x := assert(a, 'm')", "x := assert(a, 'm')\n"),
-        ("x := assert(a, 'm',)", "x := assert(a, 'm')\n"),
-    ];
-    tell(&rt, rt.alloc(), ROWS)
-}
-
-#[test]
-fn reads_brackets_and_strings(rt: HostRuntime) -> Result<(), Fail> {
-    const ROWS: &[(&str, &str)] = &[
-        ("x := []", "x := []\n"),
-        ("x := [a, 'b',]", "x := [a, 'b']\n"),
-        ("x := ( a )", "x := (a)\n"),
-        ("x := [a, / b]", "x := [a, / b]\n"),
-        ("x := if a { b }", "x := if a { b }\n"),
-        (
-            "x := if y == f(a, b) { !v } else if w { z }",
-            "x := if y == f(a, b) { !v } else if w { z }\n",
-        ),
-        (
-            "x := if a { b } else if c =~ d { e } else { g }",
-            "x := if a { b } else if c =~ d { e } else { g }\n",
-        ),
-        (
-            "x := f'a{{ x }}b{{ y + z }}c'",
-            "x := f'a{{x}}b{{y + z}}c'\n",
-        ),
-        ("x := `ls`", "x := `ls`\n"),
-    ];
-    tell(&rt, rt.alloc(), ROWS)
-}
-
-#[test]
-fn refuses(rt: HostRuntime) -> Result<(), Fail> {
-    const ROWS: &[(&str, &str)] = &[
-        ("x := a +", "unexpected token: `end of file`"),
-        ("x := if\n", "unexpected token: `end of line`"),
-        ("x := f(a b)", "unexpected token: `identifier`"),
-        ("x := [,]", "unexpected token: `','`"),
-        ("x := assert()", "unexpected token: `')'`"),
-        ("x := if a b", "unexpected token: `identifier`"),
-        ("x := if a { b } else c", "unexpected token: `identifier`"),
-        ("x := a == b == c", "unexpected token: `'=='`"),
-        ("x := `#!x`", "backtick shebang"),
-    ];
-    tell(&rt, rt.alloc(), ROWS)
-}
 
 /// An assignment of a variable behind so many exclamation marks.
 fn negated(alloc: Global, times: usize) -> Result<String, AllocError> {

@@ -1,23 +1,8 @@
-//! Whole files: blank lines, comments, a byte order mark, and numbers.
+//! Numbers of names and recipes in one file after another.
 
-use crate::told::{tell, told};
+use crate::told::told;
 use justfile_syntax::Numerator;
 use std::test::Fail;
-
-#[test]
-fn reads_files(rt: HostRuntime) -> Result<(), Fail> {
-    const ROWS: &[(&str, &str)] = &[
-        ("", ""),
-        ("\u{feff}a:\n", "a:\n"),
-        ("\n\n\n# one  \na := 'b'", "\n\n# one\na := 'b'\n"),
-        ("a:\n  b\n\n\n# c", "a:\n    b\n\n\n# c\n"),
-        (
-            "import 'b'\nmod? m\nunexport x\n",
-            "import 'b'\nmod? m\nunexport x\n",
-        ),
-    ];
-    tell(&rt, rt.alloc(), ROWS)
-}
 
 #[test]
 fn numbers_go_on_through_files(rt: HostRuntime) -> Result<(), Fail> {

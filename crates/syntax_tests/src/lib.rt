@@ -1,9 +1,7 @@
-//! Tests of small texts and names, strings, trees, variables, attributes and excerpts; and of the lexer and
-//! of the parser, by small texts and whole files.
+//! Tests of small texts and names, strings, trees, variables, attributes and excerpts; and of what `tests/scripted`
+//! does not ask of the lexer and the parser.
 #![tactic(auto)]
 
-#[cfg(test)]
-mod attribute_lines;
 #[cfg(test)]
 mod attributes;
 #[cfg(test)]
@@ -13,11 +11,7 @@ mod expressions;
 #[cfg(test)]
 mod files;
 #[cfg(test)]
-mod items;
-#[cfg(test)]
 mod lexer;
-#[cfg(test)]
-mod recipes;
 #[cfg(test)]
 mod strings;
 #[cfg(test)]

@@ -1,7 +1,7 @@
 //! What strings, parts of format strings and commands stand for.
 
 use crate::tokens::token;
-use just_strings::{
+use just_expression_tree::{
     StringDelimiter, StringKind, StringLiteral, StringPrefix, command_text, cook_part, is_shebang,
     unindent,
 };

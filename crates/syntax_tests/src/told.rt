@@ -3,8 +3,6 @@
 use justfile_syntax::{ExpandFault, Expander, Numerator, Parser, Text};
 use semver::Version;
 use std::alloc::{AllocError, Global};
-use std::process::Abort;
-use std::test::Fail;
 
 /// Gives each text as it is.
 pub(crate) struct Same;
@@ -30,17 +28,4 @@ pub(crate) fn told(
         Ok(file) => file.to_string(alloc),
         Err(error) => error.kind.to_string(alloc),
     }
-}
-
-fn tells(alloc: Global, src: &str, want: &str) -> Result<bool, AllocError> {
-    let mut numerator = Numerator::new(29);
-    Ok(told(alloc, &mut numerator, src)?.as_str() == want)
-}
-
-/// Holds each file to what is told of it.
-pub(crate) fn tell(rt: &impl Abort, alloc: Global, rows: &[(&str, &str)]) -> Result<(), Fail> {
-    for (src, want) in rows {
-        assert!(rt; tells(alloc, src, want)?, "in {src:?}");
-    }
-    Ok(())
 }

@@ -1,4 +1,5 @@
-//! Tests of values, lists, paths, words and constants, of hosts over records, of orders and of graphs.
+//! Tests of values, lists, paths, words and constants, of keys of files and paths of modules, of hosts over
+//! records, of orders and of graphs.
 #![tactic(auto)]
 
 #[cfg(test)]
@@ -7,6 +8,8 @@ mod constants;
 mod faults;
 #[cfg(test)]
 mod graphs;
+#[cfg(test)]
+mod keys;
 #[cfg(test)]
 mod lists;
 #[cfg(test)]

@@ -5,7 +5,7 @@ mod replace;
 mod switch;
 
 use anyhow::{Context, Result, bail};
-use just_excerpt::Excerpt;
+use just_lexer::Excerpt;
 use just_run::{Config, Device, Fault, Outcome, Recorded, Trees, drive};
 use just_system::{Environment, Shell, base_folder, find_root, load};
 use just_value::Positional;

@@ -3,8 +3,7 @@ ghost use Rattle.std.specs.Prelude.{◌≡◌};
 ghost use Rattle.just_tree.specs.Resolving as spec;
 
 use crate::variables::context::ExpressionContext;
-use just_expression_tree::Expression;
-use just_strings::StringLiteral;
+use just_expression_tree::{Expression, StringLiteral};
 use just_text::{Name, Number, Token, TokenKind};
 use std::mem;
 

@@ -3,8 +3,8 @@ use Rattle.std.proofs.Common.{◌≡◌, ◌≢◌, ◌∙◌, ◌∷◌, ◌++�
 use Rattle.std.proofs.lemmas.Result.{err_from_is_err_and}
 use Rattle.just_text.specs.Tokens.{word_of, lexeme}
 use Rattle.just_text.specs.declared.token_kind.TokenKind.TheVariants.{Comma}
-use Rattle.just_strings.specs.Kinds.{kind_of}
-use Rattle.just_strings.specs.Parts.{cooked_part}
+use Rattle.just_expression_tree.specs.Kinds.{kind_of}
+use Rattle.just_expression_tree.specs.Parts.{cooked_part}
 use Rattle.just_expression_tree.specs.declared.expression.Expression.{Expression}
 use Rattle.just_expression_tree.specs.Shape.{Shape, shape_of, written}
 use Rattle.just_expressions.specs.Literals.{is_open}

@@ -1,7 +1,0 @@
-mod Braces
-pub mod Cuts
-mod Lines
-mod Longest
-mod Meanings
-mod Turns
-mod Written

@@ -1,0 +1,70 @@
+//! A call as words and files say it.
+use crate::directives::{answers, call_words, overrides, pairs, table, way_of};
+use crate::driver::told_driven;
+use crate::given::{Given, given_of};
+use crate::way::{RUN, Telling, Way};
+use std::alloc::{AllocError, Global};
+use told_files::{root_of, told_modules, told_printed, told_resolved, told_tokens};
+
+/// The first word that says nothing, if there is one.
+pub fn first_unknown(words: &[String]) -> Option<&str> {
+    way_of(words).err()
+}
+
+/// What names, orders and constants come to, with the texts for variables of the words.
+fn told_with_overrides(
+    alloc: Global,
+    given: &Given,
+    words: &[String],
+    root: &str,
+) -> Result<String, AllocError> {
+    let pairs = pairs(alloc, words, "override")?;
+    let overrides = overrides(alloc, pairs.as_slice())?;
+    told_resolved(
+        alloc,
+        &given.config,
+        &given.sources,
+        root,
+        overrides.as_slice(),
+    )
+}
+
+fn told_in(
+    alloc: Global,
+    way: Way<'_>,
+    words: &[String],
+    files: &str,
+) -> Result<String, AllocError> {
+    let given = given_of(alloc, way, files, call_words(words))?;
+    let (root, text) = root_of(files);
+    match way.telling {
+        Telling::Short | Telling::Whole => told_driven(alloc, way, &given),
+        Telling::Modules => told_modules(alloc, &given.config, &given.sources, root),
+        Telling::Resolved => told_with_overrides(alloc, &given, words, root),
+        Telling::Printed => told_printed(alloc, text),
+        Telling::Tokens(subject) => told_tokens(alloc, subject, text),
+    }
+}
+
+/// The pairs, or the others where there are none.
+fn pairs_or<'a>(
+    pairs: &'a [(&'a str, &'a str)],
+    others: &'a [(&'a str, &'a str)],
+) -> &'a [(&'a str, &'a str)] {
+    if pairs.is_empty() { others } else { pairs }
+}
+
+/// What is told of the files, driven as the words say. Each file is its name, a line end and its text;
+/// a byte 0 parts them, and the first is the root. Where one of the words says nothing, the files are
+/// run as `RUN` has it.
+pub fn tell(alloc: Global, words: &[String], files: &str) -> Result<String, AllocError> {
+    let table = table(alloc, words)?;
+    let pairs = pairs(alloc, words, "pair")?;
+    let said = way_of(words).unwrap_or(RUN);
+    let way = Way {
+        answers: answers(words, table.as_slice()),
+        pairs: pairs_or(pairs.as_slice(), said.pairs),
+        ..said
+    };
+    told_in(alloc, way, words, files)
+}
