@@ -2,6 +2,7 @@
 use crate::directives::{answers, call_words, overrides, pairs, table, way_of};
 use crate::driver::told_driven;
 use crate::given::{Given, given_of};
+use crate::plain::told_plain;
 use crate::way::{RUN, Telling, Way};
 use std::alloc::{AllocError, Global};
 use told_files::{root_of, told_modules, told_printed, told_resolved, told_tokens};
@@ -39,6 +40,7 @@ fn told_in(
     let (root, text) = root_of(files);
     match way.telling {
         Telling::Short | Telling::Whole => told_driven(alloc, way, &given),
+        Telling::Plain => told_plain(alloc, way, &given),
         Telling::Modules => told_modules(alloc, &given.config, &given.sources, root),
         Telling::Resolved => told_with_overrides(alloc, &given, words, root),
         Telling::Printed => told_printed(alloc, text),

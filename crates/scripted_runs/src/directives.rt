@@ -16,6 +16,7 @@ fn find_telling(value: &str) -> Option<Telling> {
     match value {
         "short" => Some(Telling::Short),
         "whole" => Some(Telling::Whole),
+        "plain" => Some(Telling::Plain),
         "modules" => Some(Telling::Modules),
         "resolved" => Some(Telling::Resolved),
         "printed" => Some(Telling::Printed),
@@ -81,6 +82,14 @@ fn flagged<'a>(way: Way<'a>, flag: &str) -> Option<Way<'a>> {
         }),
         "yes" => Some(Way { yes: true, ..way }),
         "quiet" => Some(Way { quiet: true, ..way }),
+        "loquacious" => Some(Way {
+            loquacious: true,
+            ..way
+        }),
+        "no-dependencies" => Some(Way {
+            no_dependencies: true,
+            ..way
+        }),
         "shallow" => Some(Way {
             is_shallow: true,
             ..way

@@ -67,7 +67,7 @@ fn drive_into<'g, O: Out>(
 }
 
 /// A host that answers in this way.
-fn host<'a>(alloc: Global, way: Way<'a>) -> Recorded<Scripted<'a>> {
+pub(crate) fn host<'a>(alloc: Global, way: Way<'a>) -> Recorded<Scripted<'a>> {
     let scripted = Scripted {
         alloc,
         answers: way.answers,

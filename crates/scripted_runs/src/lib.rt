@@ -8,6 +8,7 @@ mod directives;
 mod driver;
 mod faltering;
 mod given;
+mod plain;
 mod questions;
 mod scripted;
 mod told;

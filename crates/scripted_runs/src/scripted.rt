@@ -59,8 +59,9 @@ fn text(alloc: Global) -> Text {
 }
 
 /// Answers questions by `answers` and each prompt with `confirmation`, and fails the question or event
-/// at one place. The command `false` ends with code 1, `kill` by signal 9, `missing` doesn't start, and
-/// all others end with code 0. Files of variables give `pairs`, unless they are required.
+/// at one place. The command `false` ends with code 1, `kill` by signal 9, `kill 200` by signal 200,
+/// `missing` doesn't start, and all others end with code 0. Files of variables give `pairs`, unless they
+/// are required.
 #[derive(Drop)]
 pub struct Scripted<'a> {
     pub alloc: Global,
@@ -87,6 +88,7 @@ fn status(command: &str) -> Status {
     match command {
         "false" => Status::Code(1),
         "kill" => Status::Signal(9),
+        "kill 200" => Status::Signal(200),
         "missing" => Status::NotStarted,
         _ => Status::Code(0),
     }

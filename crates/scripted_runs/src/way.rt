@@ -16,6 +16,8 @@ pub enum Telling {
     Short,
     /// All that was asked, handed over and shown, with what it runs under, one a line.
     Whole,
+    /// What the driver of plain recipes hands over and shows, and its answer with the status.
+    Plain,
     /// What the modules keep of the files; nothing is asked or handed over.
     Modules,
     /// What names, orders and constants come to; nothing is asked or handed over.
@@ -38,6 +40,8 @@ pub struct Way<'a> {
     pub dry_run: bool,
     pub yes: bool,
     pub quiet: bool,
+    pub loquacious: bool,
+    pub no_dependencies: bool,
     pub jobs: Option<u32>,
     /// The shell in place of the justfile's.
     pub shell: Option<&'a str>,
@@ -62,6 +66,8 @@ pub const RUN: Way<'static> = Way {
     dry_run: false,
     yes: false,
     quiet: false,
+    loquacious: false,
+    no_dependencies: false,
     jobs: None,
     shell: None,
     shell_arg: None,
@@ -88,9 +94,9 @@ fn without_shell(alloc: Global, way: Way<'_>) -> Result<Config, AllocError> {
         invocation_directory: String::from_str(alloc, "/started")?,
         dry_run: way.dry_run,
         yes: way.yes,
-        no_dependencies: false,
+        no_dependencies: way.no_dependencies,
         quiet: way.quiet,
-        loquacious: false,
+        loquacious: way.loquacious,
         unstable: false,
         jobs: way.jobs,
         shell: None,

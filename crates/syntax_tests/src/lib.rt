@@ -1,5 +1,5 @@
-//! Tests of small texts and names, strings, trees, variables, attributes and excerpts; and of what `tests/scripted`
-//! does not ask of the lexer and the parser.
+//! Tests of small texts and names, strings, trees, variables, attributes and excerpts, of the order of plain recipes and
+//! of outputs; and of what `tests/scripted` does not ask of the lexer and the parser.
 #![tactic(auto)]
 
 #[cfg(test)]
@@ -12,6 +12,10 @@ mod expressions;
 mod files;
 #[cfg(test)]
 mod lexer;
+#[cfg(test)]
+mod order;
+#[cfg(test)]
+mod output;
 #[cfg(test)]
 mod strings;
 #[cfg(test)]

@@ -1,23 +1,12 @@
 //! Orders of recipes, and the rules that they break.
 
+use crate::tokens::name;
 use just_plain_run::{Order, OrderFault};
+use justfile_syntax::Name;
 use justfile_syntax::plain_files::Recipe;
-use justfile_syntax::{Name, Token, TokenKind};
 use std::alloc::{AllocError, Global};
 use std::process::Abort;
 use std::test::Fail;
-
-fn name(text: &str) -> Name<'_> {
-    Name::from_token(Token {
-        column: 0,
-        kind: TokenKind::Identifier,
-        length: text.len(),
-        line: 0,
-        offset: 0,
-        path: "",
-        src: text,
-    })
-}
 
 /// A recipe for each line, with the words behind the colon as its dependencies.
 fn recipes(alloc: Global, text: &str) -> Result<Vec<Recipe<'_>>, AllocError> {
