@@ -1,5 +1,5 @@
 //! A call as words and files say it.
-use crate::directives::{answers, call_words, overrides, pairs, table, way_of};
+use crate::directives::{answers, call_words, pairs, table, way_of};
 use crate::driver::told_driven;
 use crate::given::{Given, given_of};
 use crate::plain::told_plain;
@@ -10,24 +10,6 @@ use told_files::{root_of, told_modules, told_printed, told_resolved, told_tokens
 /// The first word that says nothing, if there is one.
 pub fn first_unknown(words: &[String]) -> Option<&str> {
     way_of(words).err()
-}
-
-/// What names, orders and constants come to, with the texts for variables of the words.
-fn told_with_overrides(
-    alloc: Global,
-    given: &Given,
-    words: &[String],
-    root: &str,
-) -> Result<String, AllocError> {
-    let pairs = pairs(alloc, words, "override")?;
-    let overrides = overrides(alloc, pairs.as_slice())?;
-    told_resolved(
-        alloc,
-        &given.config,
-        &given.sources,
-        root,
-        overrides.as_slice(),
-    )
 }
 
 fn told_in(
@@ -42,7 +24,7 @@ fn told_in(
         Telling::Short | Telling::Whole => told_driven(alloc, way, &given),
         Telling::Plain => told_plain(alloc, way, &given),
         Telling::Modules => told_modules(alloc, &given.config, &given.sources, root),
-        Telling::Resolved => told_with_overrides(alloc, &given, words, root),
+        Telling::Resolved => told_resolved(alloc, &given.config, &given.sources, root),
         Telling::Printed => told_printed(alloc, text),
         Telling::Tokens(subject) => told_tokens(alloc, subject, text),
     }

@@ -2,8 +2,7 @@
 use crate::answers::{Answers, Reply};
 use crate::scripted::Failing;
 use crate::way::{RUN, Telling, Way};
-use just_run::{Action, Confirmation, Override};
-use justfile_syntax::Text;
+use just_run::{Action, Confirmation};
 use std::alloc::{AllocError, Global};
 use told_files::Subject;
 
@@ -147,7 +146,7 @@ fn is_read_elsewhere(name: &str, value: &str) -> bool {
         "words" => true,
         "answer" => answer(value).is_some(),
         "always" => reply(value).is_some(),
-        "pair" | "override" => value.split_once('=').is_some(),
+        "pair" => value.split_once('=').is_some(),
         _ => false,
     }
 }
@@ -163,7 +162,7 @@ fn directed<'a>(way: Way<'a>, word: &'a str) -> Option<Way<'a>> {
     chosen(way, name, value)
 }
 
-/// How the words say that files are driven, but for answers, pairs and overrides; or the first word
+/// How the words say that files are driven, but for answers and pairs; or the first word
 /// that says nothing.
 pub(crate) fn way_of(words: &[String]) -> Result<Way<'_>, &str> {
     let mut way = RUN;
@@ -286,23 +285,4 @@ pub(crate) fn pairs<'a>(
         }
     }
     Ok(pairs)
-}
-
-fn override_of(alloc: Global, name: &str, value: &str) -> Result<Override, AllocError> {
-    Ok(Override {
-        name: Text::from_text(alloc, name)?,
-        value: Text::from_text(alloc, value)?,
-    })
-}
-
-/// The texts for variables that the pairs give.
-pub(crate) fn overrides(
-    alloc: Global,
-    pairs: &[(&str, &str)],
-) -> Result<Vec<Override>, AllocError> {
-    let mut overrides = Vec::new(alloc);
-    for (name, value) in pairs {
-        overrides.push(override_of(alloc, name, value)?)?;
-    }
-    Ok(overrides)
 }

@@ -20,7 +20,7 @@ pub enum Telling {
     Plain,
     /// What the modules keep of the files; nothing is asked or handed over.
     Modules,
-    /// What names, orders and constants come to; nothing is asked or handed over.
+    /// Whether names, orders and constants resolve; nothing is asked or handed over.
     Resolved,
     /// The root as it is printed; nothing is asked or handed over.
     Printed,

@@ -1,7 +1,7 @@
 -- A text may be cut at both its ends.
 use Rattle.std.proofs.Common.{◌≡◌, ◌+◌, length, arith}
 use Rattle.std.proofs.lemmas.Str.{IsCharBoundary-start, IsCharBoundary-end}
-use Rattle.syntax_tests.proofs.tokens.token.Goals as goal
+use Rattle.unit_tests.proofs.tokens.token.Goals as goal
 
 pub invariant_of-result : goal.invariant_of-result
 invariant_of-result c =

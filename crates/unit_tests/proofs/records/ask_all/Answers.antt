@@ -1,5 +1,5 @@
 use Rattle.just_host.specs.Steps.{then}
-use Rattle.value_tests.proofs.records.ask_all.Goals as goal
+use Rattle.unit_tests.proofs.records.ask_all.Goals as goal
 
 pub returns-clause-followed : goal.returns-clause-followed
 returns-clause-followed g c =

@@ -1,7 +1,6 @@
-//! Keywords, counts and refusals as they are printed.
+//! Keywords and counts as they are printed.
 
-use just_text::{CompileErrorKind, Count, Keyword, Text};
-use std::alloc::{AllocError, Global};
+use just_text::{Count, Keyword};
 use std::test::Fail;
 
 #[test]
@@ -40,34 +39,5 @@ fn prints_one_and_many(rt: HostRuntime) -> Result<(), Fail> {
     for (count, expected) in cases {
         assert_eq!(rt; format!(in rt.alloc(); "{count}")?.as_str(), expected);
     }
-    Ok(())
-}
-
-fn prints(alloc: Global, refusal: CompileErrorKind, expected: &str) -> Result<bool, AllocError> {
-    Ok(format!(in alloc; "{refusal}")?.as_str() == expected)
-}
-
-#[test]
-fn prints_names(rt: HostRuntime) -> Result<(), Fail> {
-    let alloc = rt.alloc();
-    assert!(rt; prints(alloc, CompileErrorKind::TwoStars, "two stars")?);
-    assert!(rt; prints(alloc, CompileErrorKind::BacktickShebang, "backtick shebang")?);
-    Ok(())
-}
-
-#[test]
-fn prints_a_field(rt: HostRuntime) -> Result<(), Fail> {
-    let name = Text::from_text(rt.alloc(), "nope")?;
-    let refusal = CompileErrorKind::UnknownSetting(name);
-    assert!(rt; prints(rt.alloc(), refusal, "unknown setting: `nope`")?);
-    Ok(())
-}
-
-#[test]
-fn prints_two_fields(rt: HostRuntime) -> Result<(), Fail> {
-    let name = Text::from_text(rt.alloc(), "group")?;
-    let refusal = CompileErrorKind::AttributeArgumentCount(name, 10);
-    let expected = "attribute argument count: `group`, `10`";
-    assert!(rt; prints(rt.alloc(), refusal, expected)?);
     Ok(())
 }

@@ -1,6 +1,7 @@
-//! Tokens and names of whole texts.
+//! Tokens and names of whole texts, and lists of texts.
 
 use just_text::{Name, Token, TokenKind};
+use std::alloc::{AllocError, Global};
 
 /// The token of a whole text.
 pub(crate) fn token(src: &str, kind: TokenKind) -> Token<'_> {
@@ -18,4 +19,14 @@ pub(crate) fn token(src: &str, kind: TokenKind) -> Token<'_> {
 /// The name of a whole text.
 pub(crate) fn name(src: &str) -> Name<'_> {
     Name::from_token(token(src, TokenKind::Identifier))
+}
+
+/// Texts that each end with a semicolon.
+pub(crate) fn texts(alloc: Global, listed: &str) -> Result<Vec<String>, AllocError> {
+    let mut texts = Vec::new(alloc);
+    for text in listed.split(';') {
+        texts.push(String::from_str(alloc, text)?)?;
+    }
+    let _behind = texts.pop();
+    Ok(texts)
 }
