@@ -1,5 +1,5 @@
 -- Items that were read before those that still follow.
-use Rattle.std.proofs.Common.{◌≡◌, ℕ, suc, ◌-◌, ◌<◌, Bool, true, false, List, [], ◌∷◌, ◌++◌, length, map, Ok, Err, zero, refl, sym, ap, subst, ◌∙◌, arith, append_assoc}
+use Rattle.std.proofs.Common.{◌≡◌, ℕ, suc, ◌-◌, ◌<◌, Bool, true, false, List, [], ◌∷◌, ◌++◌, length, map, Result, Ok, Err, ◌⊎◌, inl, inr, zero, refl, sym, ap, subst, ◌∙◌, arith, append_assoc}
 use Rattle.std.proofs.lemmas.List.{map-append, append-nil}
 use Rattle.std.proofs.lemmas.List.Elements.{All-append}
 use Rattle.std.specs.List.{All}
@@ -7,7 +7,7 @@ use Rattle.just_text.specs.Tokens.{word_of}
 use Rattle.just_text.specs.declared.token.Token.{Token}
 use Rattle.just_expressions.specs.declared.fault.Fault.{Fault}
 use Rattle.just_expressions.specs.declared.fault.Fault.TheVariants as faults
-use Rattle.just_expressions.specs.Reading.{◌>>=◌, Read, Fails}
+use Rattle.just_expressions.specs.Reading.{◌>>=◌, Read, Fails, Gives}
 use Rattle.just_attribute_lines.specs.Reading.{follow_at}
 
 module _ {X A : Type 0} (view : X → A) where
@@ -34,6 +34,13 @@ all_none P fs none = rw none (λ k d h. absurd (omega arith))
 
 pub all_more : {X : Type 0} (P : X → Type 0) (fs : List X) (x : X) → All P fs → P x → All P (fs ++ x ∷ [])
 all_more P fs x these this = All-append P fs (x ∷ []) these (all_one P x this)
+
+-- ---- what is refused
+
+-- What was read and then put behind others is refused where reading is, or memory ran out.
+pub refused_so : {X A : Type 0} (view : X → A × List Token) (r : Result X Fault) (read : Read Token A) (e : Fault) → Gives view r read → (r ≡ Err e) ⊎ (e ≡ faults.OutOfMemory) → Fails e read
+refused_so view r read e gives (inl same) = rw same at gives
+refused_so view r read e gives (inr out) = rw out tt
 
 -- ---- turns
 

@@ -1,12 +1,12 @@
 //! What the options of `arg` say of a parameter.
-ghost use Rattle.std.specs.Prelude.{◌≡◌, IfSome, Some, map, option_map, true};
+ghost use Rattle.std.specs.Prelude.{◌≡◌, IfSome, map, option_map};
 ghost use Rattle.std.specs.List.{All, list_all};
-ghost use Rattle.just_attribute_tree.specs.Attributes.{long_shape, options_shape};
+ghost use Rattle.just_attribute_tree.specs.Attributes.{options_shape};
 ghost use Rattle.just_expression_tree.specs.Shape.{written};
 ghost use Rattle.just_expressions.specs.Literals.{Expansion};
 ghost use Rattle.just_expressions.specs.Strings.{IsCookedString};
-ghost use Rattle.just_attribute_lines.specs.Cooked.{AreCookedOptions, IsCookedName};
-ghost use Rattle.just_attribute_lines.specs.Held.{IsCookedGiven, IsCookedOption, added, given_shape, may_add, option_shape, with_given};
+ghost use Rattle.just_attribute_lines.specs.Cooked.{AreCookedOptions};
+ghost use Rattle.just_attribute_lines.specs.Held.{IsCookedGiven, IsCookedOption, given_shape, may_add, option_shape, with_given};
 ghost use Rattle.just_attribute_lines.specs.Options.{is_count, is_digit, is_short, is_whole, options_of, with_all, with_option, without_options};
 
 use crate::parameter_option::OptionRead;
@@ -74,55 +74,17 @@ fn may_add(options: &ArgumentOptions, option: &OptionRead) -> bool
     }
 }
 
-/// The name behind two dashes.
-fn long_name<'src>(name: Option<StringLiteral<'src>>) -> LongName<'src>
-    ensures shape { long_shape result ≡ Some (option_map written name.entry) }
-    ensures cooked { (expansion : Expansion) → IfSome name.entry (IsCookedString expansion) → IsCookedName expansion result }
-{
-    match name {
-        Some(name) => LongName::Named(name),
-        None => LongName::OfParameter,
-    }
-}
-
-/// Puts a value there, in place of what was there.
-fn put<T: Drop>(place: &mut Option<T>, value: T)
-    ensures { place.new ≡ Some value }
-{
-    *place = Some(value);
-}
-
-/// The options with that one.
-fn added<'src>(
-    mut options: ArgumentOptions<'src>,
-    option: OptionRead<'src>,
-) -> ArgumentOptions<'src>
-    ensures shape { options_shape result ≡ added (options_shape options.entry) (option_shape option.entry) }
-    ensures cooked { (expansion : Expansion) → AreCookedOptions expansion options.entry → IsCookedOption expansion option.entry → AreCookedOptions expansion result }
-{
-    match option {
-        OptionRead::Flag => options.flag = true,
-        OptionRead::Multiple => options.multiple = true,
-        OptionRead::Long(name) => options.long = long_name(name),
-        OptionRead::Help(text) => put(&mut options.help, text),
-        OptionRead::Max(text) => put(&mut options.max, text),
-        OptionRead::Min(text) => put(&mut options.min, text),
-        OptionRead::Short(text) => put(&mut options.short, text),
-        OptionRead::Value(value) => put(&mut options.value, value),
-    }
-    options
-}
-
 /// The options with that one, if it may be added.
 fn with_option<'src>(
-    options: ArgumentOptions<'src>,
+    mut options: ArgumentOptions<'src>,
     option: OptionRead<'src>,
 ) -> Option<ArgumentOptions<'src>>
     ensures shape { (expansion : Expansion) → IsCookedOption expansion option.entry → option_map options_shape result ≡ with_option expansion (options_shape options.entry) (option_shape option.entry) }
     ensures cooked { (expansion : Expansion) → AreCookedOptions expansion options.entry → IsCookedOption expansion option.entry → IfSome result (AreCookedOptions expansion) }
 {
     if may_add(&options, &option) {
-        Some(added(options, option))
+        option.add_to(&mut options);
+        Some(options)
     } else {
         drop(options);
         drop(option);

@@ -6,11 +6,14 @@ ghost use Rattle.just_expression_tree.specs.Shape.{shape_of, written};
 ghost use Rattle.just_expressions.specs.Literals.{AreCooked, Expansion};
 ghost use Rattle.just_expressions.specs.Reading.{Gives, ahead};
 ghost use Rattle.just_expressions.specs.Strings.{IsCookedString};
-ghost use Rattle.just_attribute_lines.specs.Arguments.{count, lone, sort_of};
+ghost use Rattle.just_attribute_lines.specs.Arguments.{count, lone, of_expressions, of_parameter, of_strings, sort_of};
 ghost use Rattle.just_attribute_lines.specs.Held.{IsCookedArguments, IsCookedGiven, arguments_shape, given_shape, is_of_sort};
 ghost use Rattle.just_attribute_lines.specs.Reading.{arguments_at, inside_at, option_at, others_at, text_at, whole_at};
 
+mod make;
+
 use crate::parameter_option::{OptionRead, option};
+use crate::pushing::push_read;
 use just_attribute_tree::ArgumentForm;
 use just_expression_tree::{Expression, StringLiteral};
 use just_expressions::{Cursor, Fault, is_more};
@@ -18,7 +21,6 @@ use just_text::{Expander, TokenKind, both};
 use std::alloc::Global;
 
 /// Arguments as they are written.
-#[derive(Drop)]
 pub(crate) enum ArgumentsRead<'src> {
     Nothing,
     Strings {
@@ -34,6 +36,26 @@ pub(crate) enum ArgumentsRead<'src> {
         name: StringLiteral<'src>,
         options: Vec<Option<OptionRead<'src>>>,
     },
+}
+
+impl Drop for ArgumentsRead<'_> {
+    fn drop(self) {
+        match self {
+            ArgumentsRead::Nothing => {}
+            ArgumentsRead::Strings {
+                first: _first,
+                others: _others,
+            } => {}
+            ArgumentsRead::Expressions {
+                first: _first,
+                others: _others,
+            } => {}
+            ArgumentsRead::Parameter {
+                name: _name,
+                options: _options,
+            } => {}
+        }
+    }
 }
 
 impl ArgumentsRead<'_> {
@@ -61,7 +83,7 @@ fn strings<'src, E: Expander>(
 {
     let mut strings = Vec::new(alloc);
     while is_more(cursor, TokenKind::ParenR)? {
-        strings.push(cursor.string(expander)?)?;
+        push_read(&mut strings, cursor.string(expander))?;
     }
     Ok(strings)
 }
@@ -77,7 +99,7 @@ fn expressions<'src, E: Expander>(
 {
     let mut expressions = Vec::new(alloc);
     while is_more(cursor, TokenKind::ParenR)? {
-        expressions.push(cursor.expression(expander)?)?;
+        push_read(&mut expressions, cursor.expression(expander))?;
     }
     Ok(expressions)
 }
@@ -93,13 +115,65 @@ fn options<'src, E: Expander>(
 {
     let mut options = Vec::new(alloc);
     while is_more(cursor, TokenKind::ParenR)? {
-        options.push(option(cursor, expander)?)?;
+        push_read(&mut options, option(cursor, expander))?;
     }
     Ok(options)
 }
 
-/// Arguments of that form, one or more, and a closing parenthesis.
+/// One or more strings, and a closing parenthesis.
 #[tactic(auto, unfolding(crate::specs::Reading::inside_at))]
+fn strings_inside<'src, E: Expander>(
+    alloc: Global,
+    cursor: &mut Cursor<'_, 'src>,
+    expander: &E,
+) -> Result<ArgumentsRead<'src>, Fault<'src>>
+    ensures gives { Gives (λ a. (arguments_shape a, ahead cursor.new)) result (inside_at word_of (E.expansion expander.now) of_strings (ahead cursor.old)) }
+    ensures cooked { IfOk result (IsCookedArguments (E.expansion expander.now)) }
+    ensures sort { IfOk result (λ a. is_of_sort of_strings (arguments_shape a) ≡ true) }
+{
+    let first = cursor.string(expander)?;
+    let (first, others) = both(first, strings(alloc, cursor, expander))?;
+    Ok(ArgumentsRead::Strings { first, others })
+}
+
+/// One or more expressions, and a closing parenthesis.
+#[tactic(auto, unfolding(crate::specs::Reading::inside_at))]
+fn expressions_inside<'src, E: Expander>(
+    alloc: Global,
+    cursor: &mut Cursor<'_, 'src>,
+    expander: &E,
+) -> Result<ArgumentsRead<'src>, Fault<'src>>
+    ensures gives { Gives (λ a. (arguments_shape a, ahead cursor.new)) result (inside_at word_of (E.expansion expander.now) of_expressions (ahead cursor.old)) }
+    ensures cooked { IfOk result (IsCookedArguments (E.expansion expander.now)) }
+    ensures sort { IfOk result (λ a. is_of_sort of_expressions (arguments_shape a) ≡ true) }
+{
+    let first = cursor.expression(expander)?;
+    match expressions(alloc, cursor, expander) {
+        Ok(others) => Ok(ArgumentsRead::Expressions { first, others }),
+        Err(fault) => {
+            drop(first);
+            Err(fault)
+        }
+    }
+}
+
+/// The name of a parameter, its options, and a closing parenthesis.
+#[tactic(auto, unfolding(crate::specs::Reading::inside_at))]
+fn parameter_inside<'src, E: Expander>(
+    alloc: Global,
+    cursor: &mut Cursor<'_, 'src>,
+    expander: &E,
+) -> Result<ArgumentsRead<'src>, Fault<'src>>
+    ensures gives { Gives (λ a. (arguments_shape a, ahead cursor.new)) result (inside_at word_of (E.expansion expander.now) of_parameter (ahead cursor.old)) }
+    ensures cooked { IfOk result (IsCookedArguments (E.expansion expander.now)) }
+    ensures sort { IfOk result (λ a. is_of_sort of_parameter (arguments_shape a) ≡ true) }
+{
+    let name = cursor.string(expander)?;
+    let (name, options) = both(name, options(alloc, cursor, expander))?;
+    Ok(ArgumentsRead::Parameter { name, options })
+}
+
+/// Arguments of that form, one or more, and a closing parenthesis.
 fn inside<'src, E: Expander>(
     alloc: Global,
     cursor: &mut Cursor<'_, 'src>,
@@ -112,25 +186,10 @@ fn inside<'src, E: Expander>(
 {
     match form {
         ArgumentForm::OneString | ArgumentForm::OptionalString | ArgumentForm::Strings => {
-            let first = cursor.string(expander)?;
-            let (first, others) = both(first, strings(alloc, cursor, expander))?;
-            Ok(ArgumentsRead::Strings { first, others })
+            strings_inside(alloc, cursor, expander)
         }
-        ArgumentForm::Parameter => {
-            let name = cursor.string(expander)?;
-            let (name, options) = both(name, options(alloc, cursor, expander))?;
-            Ok(ArgumentsRead::Parameter { name, options })
-        }
-        _ => {
-            let first = cursor.expression(expander)?;
-            match expressions(alloc, cursor, expander) {
-                Ok(others) => Ok(ArgumentsRead::Expressions { first, others }),
-                Err(fault) => {
-                    drop(first);
-                    Err(fault)
-                }
-            }
-        }
+        ArgumentForm::Parameter => parameter_inside(alloc, cursor, expander),
+        _ => expressions_inside(alloc, cursor, expander),
     }
 }
 

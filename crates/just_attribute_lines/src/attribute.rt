@@ -1,12 +1,9 @@
 //! The attributes before an item.
-ghost use Rattle.std.specs.Prelude.{◌≡◌, IfOk, IfSome, List, Ok, Some, option_map, true};
+ghost use Rattle.std.specs.Prelude.{◌≡◌, IfOk, IfSome, List, Ok, Some, [], true};
 ghost use Rattle.just_text.specs.Tokens.{lexeme, word_of};
 ghost use Rattle.just_text.specs.declared.compile_error.CompileErrorKind.TheVariants as kinds;
 ghost use Rattle.just_text.specs.declared.token.Token.{Token};
-ghost use Rattle.just_attribute_tree.specs.Attributes.{options_shape};
 ghost use Rattle.just_attribute_tree.specs.Forms.{form_of, takes};
-ghost use Rattle.just_attribute_tree.specs.declared.attribute.AttributeKind.TheVariants.{Arg};
-ghost use Rattle.just_expressions.specs.Literals.{Expansion};
 ghost use Rattle.just_expressions.specs.Reading.{Gives, ahead};
 ghost use Rattle.just_attribute_lines.specs.Arguments.{Arguments, count, made, sort_of};
 ghost use Rattle.just_attribute_lines.specs.Cooked.{AreCookedOptions};
@@ -14,10 +11,9 @@ ghost use Rattle.just_attribute_lines.specs.Held.{GivesOptions, IsCookedArgument
 ghost use Rattle.just_attribute_lines.specs.Reading.{arguments_at, attribute_at, attributes_at, kind_named, known_at};
 ghost use Rattle.just_attribute_lines.specs.Seen.{AreWholeReads, IsWholeRead, options_in, read_shape, read_shapes};
 
-use crate::argument_options::options_of;
 use crate::arguments::{ArgumentsRead, arguments};
 use crate::between::is_another;
-use crate::make::made;
+use crate::pushing::push_read;
 use just_attribute_tree::{
     ArgumentForm, ArgumentOptions, Attribute, AttributeKind, kind_from_name,
 };
@@ -76,20 +72,6 @@ fn counted<'src, E: Expander>(
     Err(Fault::Refused(name.token, fault))
 }
 
-/// What the arguments say of a parameter, if they are those of an `arg`.
-fn parameter_options<'src>(arguments: ArgumentsRead<'src>) -> Option<ArgumentOptions<'src>>
-    ensures shape { (expansion : Expansion) → IsCookedArguments expansion arguments.entry → option_map options_shape result ≡ options_in (made expansion Arg (arguments_shape arguments.entry)) }
-    ensures cooked { (expansion : Expansion) → IsCookedArguments expansion arguments.entry → IfSome result (AreCookedOptions expansion) }
-{
-    match arguments {
-        ArgumentsRead::Parameter { name, options } => options_of(name, options),
-        others => {
-            drop(others);
-            None
-        }
-    }
-}
-
 /// What the arguments that stand here say of a parameter, if they are those of an `arg`.
 fn options_again<'src, E: Expander>(
     alloc: Global,
@@ -104,7 +86,7 @@ fn options_again<'src, E: Expander>(
     match kind {
         AttributeKind::Arg => {
             let arguments = arguments(alloc, &mut cursor, expander, ArgumentForm::Parameter)?;
-            Ok(parameter_options(arguments))
+            Ok(arguments.parameter_options())
         }
         _ => Ok(None),
     }
@@ -125,7 +107,7 @@ fn known<'src, E: Expander>(
     let arguments = counted(alloc, cursor, expander, name, kind)?;
     let options = options_again(alloc, again, expander, kind);
     let (arguments, options) = both(arguments, options)?;
-    let attribute = made(kind, arguments);
+    let attribute = arguments.made(kind);
     Ok(AttributeRead {
         attribute,
         name,
@@ -159,6 +141,27 @@ fn kind_named(name: &str) -> Option<AttributeKind>
     kind_from_name(name)
 }
 
+/// Takes the lines of attributes that stand here, and puts the attributes there, where none are yet.
+fn read_all<'src, E: Expander>(
+    alloc: Global,
+    cursor: &mut Cursor<'_, 'src>,
+    expander: &E,
+    attributes: &mut Vec<AttributeRead<'src>>,
+) -> Result<(), Fault<'src>>
+    requires fresh { attributes.old.items ≡ [] }
+    ensures gives { Gives (λ _. (read_shapes attributes.new.items, ahead cursor.new)) result (attributes_at word_of (E.expansion expander.now) (ahead cursor.old)) }
+    ensures whole { IfOk result (λ _. AreWholeReads (E.expansion expander.now) attributes.new.items) }
+{
+    if cursor.accept(TokenKind::BracketL).is_none() {
+        return Ok(());
+    }
+    push_read(attributes, attribute(alloc, cursor, expander))?;
+    while is_another(cursor)? {
+        push_read(attributes, attribute(alloc, cursor, expander))?;
+    }
+    Ok(())
+}
+
 /// Takes the lines of attributes that stand here, perhaps none, and the comment lines behind each.
 ///
 /// Refused where an attribute has a name that none has, where it has more or fewer arguments than it
@@ -175,12 +178,6 @@ pub fn attributes<'src, E: Expander>(
     ensures whole { IfOk result (λ xs. AreWholeReads (E.expansion expander.now) xs.items) }
 {
     let mut attributes = Vec::new(alloc);
-    if cursor.accept(TokenKind::BracketL).is_none() {
-        return Ok(attributes);
-    }
-    attributes.push(attribute(alloc, cursor, expander)?)?;
-    while is_another(cursor)? {
-        attributes.push(attribute(alloc, cursor, expander)?)?;
-    }
+    read_all(alloc, cursor, expander, &mut attributes)?;
     Ok(attributes)
 }

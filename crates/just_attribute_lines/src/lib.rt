@@ -6,7 +6,7 @@ mod arguments;
 mod attribute;
 mod between;
 pub mod law;
-mod make;
 mod parameter_option;
+mod pushing;
 
 pub use attribute::{AttributeRead, attributes};

@@ -8,12 +8,13 @@ ghost use Rattle.just_expressions.specs.Strings.{IsCookedString};
 ghost use Rattle.just_attribute_lines.specs.Held.{IsCookedOption, option_shape};
 ghost use Rattle.just_attribute_lines.specs.Reading.{assigned_at, long_at, named_at, option_at, unknown_at, value_at};
 
+mod adding;
+
 use just_expression_tree::{Expression, StringLiteral};
 use just_expressions::{Cursor, Fault};
 use just_text::{Expander, TokenKind};
 
 /// An option as it is written.
-#[derive(Drop)]
 pub(crate) enum OptionRead<'src> {
     Flag,
     Multiple,
@@ -24,6 +25,20 @@ pub(crate) enum OptionRead<'src> {
     Min(StringLiteral<'src>),
     Short(StringLiteral<'src>),
     Value(Expression<'src>),
+}
+
+impl Drop for OptionRead<'_> {
+    fn drop(self) {
+        match self {
+            OptionRead::Flag | OptionRead::Multiple => {}
+            OptionRead::Long(_name) => {}
+            OptionRead::Help(_text)
+            | OptionRead::Max(_text)
+            | OptionRead::Min(_text)
+            | OptionRead::Short(_text) => {}
+            OptionRead::Value(_value) => {}
+        }
+    }
 }
 
 /// `=` and a string.

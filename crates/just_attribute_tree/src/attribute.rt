@@ -216,7 +216,6 @@ impl fmt::Display for ArgumentOptions<'_> {
 }
 
 /// An attribute and its arguments.
-#[derive(Drop)]
 pub enum Attribute<'src> {
     Android,
     Arg(ArgumentOptions<'src>),
@@ -252,6 +251,46 @@ pub enum Attribute<'src> {
     Unix,
     Windows,
     WorkingDirectory(StringLiteral<'src>),
+}
+
+impl Drop for Attribute<'_> {
+    fn drop(self) {
+        match self {
+            Attribute::Android
+            | Attribute::Cache
+            | Attribute::Default
+            | Attribute::Dragonfly
+            | Attribute::ExitMessage
+            | Attribute::Freebsd
+            | Attribute::Linux
+            | Attribute::Macos
+            | Attribute::Netbsd
+            | Attribute::NoCd
+            | Attribute::NoExitMessage
+            | Attribute::NoQuiet
+            | Attribute::Openbsd
+            | Attribute::Parallel
+            | Attribute::PositionalArguments
+            | Attribute::Private
+            | Attribute::Unix
+            | Attribute::Windows => {}
+            Attribute::Arg(_value) => {}
+            Attribute::Confirm(_value) => {}
+            Attribute::Doc(_value) => {}
+            Attribute::Env {
+                key: _key,
+                value: _value,
+            } => {}
+            Attribute::Extension(_value)
+            | Attribute::Group(_value)
+            | Attribute::WorkingDirectory(_value) => {}
+            Attribute::Metadata {
+                first: _first,
+                others: _others,
+            } => {}
+            Attribute::Script(_value) => {}
+        }
+    }
 }
 
 impl Attribute<'_> {

@@ -7,10 +7,18 @@ use just_expression_tree::{Expression, StringLiteral};
 use std::fmt;
 
 /// A command and its arguments; `T` is what stands for a text.
-#[derive(Drop)]
 pub struct Interpreter<T> {
     pub arguments: Vec<T>,
     pub command: T,
+}
+
+impl<T: Drop> Drop for Interpreter<T> {
+    fn drop(self) {
+        let Interpreter {
+            arguments: _arguments,
+            command: _command,
+        } = self;
+    }
 }
 
 impl<'src> fmt::Display for Interpreter<Expression<'src>> {
@@ -25,7 +33,6 @@ impl<'src> fmt::Display for Interpreter<Expression<'src>> {
 
 /// A setting and its value: a truth value, an expression, a list of one or more expressions, or a
 /// string.
-#[derive(Drop)]
 pub enum Setting<'src> {
     AllowDuplicateRecipes(bool),
     AllowDuplicateVariables(bool),
@@ -60,41 +67,77 @@ pub enum Setting<'src> {
     WorkingDirectory(Expression<'src>),
 }
 
+impl Drop for Setting<'_> {
+    fn drop(self) {
+        match self {
+            Setting::AllowDuplicateRecipes(_value)
+            | Setting::AllowDuplicateVariables(_value)
+            | Setting::DefaultList(_value)
+            | Setting::DefaultScript(_value)
+            | Setting::DotenvLoad(_value)
+            | Setting::DotenvOverride(_value)
+            | Setting::DotenvRequired(_value)
+            | Setting::Export(_value)
+            | Setting::Fallback(_value)
+            | Setting::Guards(_value)
+            | Setting::IgnoreComments(_value)
+            | Setting::Lazy(_value)
+            | Setting::Lists(_value)
+            | Setting::NoCd(_value)
+            | Setting::NoExitMessage(_value)
+            | Setting::PositionalArguments(_value)
+            | Setting::Quiet(_value)
+            | Setting::Unstable(_value)
+            | Setting::WindowsPowershell(_value) => {}
+            Setting::DotenvCommand(_value)
+            | Setting::DotenvFilename(_value)
+            | Setting::DotenvPath(_value)
+            | Setting::Tempdir(_value)
+            | Setting::WorkingDirectory(_value) => {}
+            Setting::Indentation(_value) | Setting::MinimumVersion(_value) => {}
+            Setting::ScriptInterpreter(_value)
+            | Setting::Shell(_value)
+            | Setting::WindowsShell(_value) => {}
+        }
+    }
+}
+
 /// Prints the value.
 impl fmt::Display for Setting<'_> {
     ghost output = { λ setting. Some (spec.value_text (spec.value_shape setting)) };
 
     fn fmt<W: fmt::Write>(&self, f: &mut fmt::Formatter<W>) -> fmt::Result {
         match self {
-            Setting::AllowDuplicateRecipes(value) => write!(f, "{value}"),
-            Setting::AllowDuplicateVariables(value) => write!(f, "{value}"),
-            Setting::DefaultList(value) => write!(f, "{value}"),
-            Setting::DefaultScript(value) => write!(f, "{value}"),
-            Setting::DotenvCommand(value) => write!(f, "{value}"),
-            Setting::DotenvFilename(value) => write!(f, "{value}"),
-            Setting::DotenvLoad(value) => write!(f, "{value}"),
-            Setting::DotenvOverride(value) => write!(f, "{value}"),
-            Setting::DotenvPath(value) => write!(f, "{value}"),
-            Setting::DotenvRequired(value) => write!(f, "{value}"),
-            Setting::Export(value) => write!(f, "{value}"),
-            Setting::Fallback(value) => write!(f, "{value}"),
-            Setting::Guards(value) => write!(f, "{value}"),
-            Setting::IgnoreComments(value) => write!(f, "{value}"),
-            Setting::Indentation(value) => f.write_str(value.token.lexeme()),
-            Setting::Lazy(value) => write!(f, "{value}"),
-            Setting::Lists(value) => write!(f, "{value}"),
-            Setting::MinimumVersion(value) => f.write_str(value.token.lexeme()),
-            Setting::NoCd(value) => write!(f, "{value}"),
-            Setting::NoExitMessage(value) => write!(f, "{value}"),
-            Setting::PositionalArguments(value) => write!(f, "{value}"),
-            Setting::Quiet(value) => write!(f, "{value}"),
-            Setting::ScriptInterpreter(value) => write!(f, "{value}"),
-            Setting::Shell(value) => write!(f, "{value}"),
-            Setting::Tempdir(value) => write!(f, "{value}"),
-            Setting::Unstable(value) => write!(f, "{value}"),
-            Setting::WindowsPowershell(value) => write!(f, "{value}"),
-            Setting::WindowsShell(value) => write!(f, "{value}"),
-            Setting::WorkingDirectory(value) => write!(f, "{value}"),
+            Setting::AllowDuplicateRecipes(value)
+            | Setting::AllowDuplicateVariables(value)
+            | Setting::DefaultList(value)
+            | Setting::DefaultScript(value)
+            | Setting::DotenvLoad(value)
+            | Setting::DotenvOverride(value)
+            | Setting::DotenvRequired(value)
+            | Setting::Export(value)
+            | Setting::Fallback(value)
+            | Setting::Guards(value)
+            | Setting::IgnoreComments(value)
+            | Setting::Lazy(value)
+            | Setting::Lists(value)
+            | Setting::NoCd(value)
+            | Setting::NoExitMessage(value)
+            | Setting::PositionalArguments(value)
+            | Setting::Quiet(value)
+            | Setting::Unstable(value)
+            | Setting::WindowsPowershell(value) => fmt::Display::fmt(value, f),
+            Setting::DotenvCommand(value)
+            | Setting::DotenvFilename(value)
+            | Setting::DotenvPath(value)
+            | Setting::Tempdir(value)
+            | Setting::WorkingDirectory(value) => fmt::Display::fmt(value, f),
+            Setting::Indentation(value) | Setting::MinimumVersion(value) => f.write_str(
+                value.token.lexeme(),
+            ),
+            Setting::ScriptInterpreter(value)
+            | Setting::Shell(value)
+            | Setting::WindowsShell(value) => fmt::Display::fmt(value, f),
         }
     }
 }

@@ -7,20 +7,30 @@ ghost use Rattle.std.proofs.Common.{rules};
 ghost use Rattle.just_attribute_tree.specs.Attributes.{attribute_shape};
 ghost use Rattle.just_attributes.specs.Arguments.{arguments_text};
 
-use crate::numbering::{NumberVariables, number_attribute};
+use crate::numbering::number_attribute;
 use crate::printed_arguments::PrintedArguments;
 use just_attribute_tree::{Attribute, AttributeKind};
+use just_expression_tree::VariableNumbers;
 use just_text::{Name, Text};
 use std::alloc::{AllocError, Global};
 use std::cmp::Ordering;
 
 /// An attribute, its name where it is written, and its arguments as they are printed.
-#[derive(Drop)]
 pub struct AttributeItem<'src> {
     pub attribute: Attribute<'src>,
     pub name: Name<'src>,
     arguments: Text,
     ghost printed: { arguments ≡ arguments_text (attribute_shape attribute) },
+}
+
+impl Drop for AttributeItem<'_> {
+    fn drop(self) {
+        let AttributeItem {
+            attribute: _attribute,
+            name: _name,
+            arguments: _arguments,
+        } = self;
+    }
 }
 
 /// Prints the arguments of an attribute, without parentheses.
@@ -75,7 +85,7 @@ impl<'src> AttributeItem<'src> {
 
     /// Gives the variables in the attribute their numbers, those of an `env` the environment's. Takes
     /// no memory.
-    pub(crate) fn number_variables<N: NumberVariables>(&mut self, numbers: &N, environment: &N)
+    pub(crate) fn number_variables<N: VariableNumbers>(&mut self, numbers: &N, environment: &N)
         ensures { written_item self.new ≡ written_item self.old }
     {
         number_attribute(&mut self.attribute, numbers, environment);

@@ -10,19 +10,24 @@ ghost use Rattle.just_text.specs.declared.compile_error.CompileErrorKind.TheVari
 
 use crate::attribute_item::AttributeItem;
 use crate::item_kind::ItemKind;
-use crate::numbering::NumberVariables;
 use crate::systems::{is_system, kind_for, may_carry};
 use just_attribute_tree::{Attribute, AttributeKind};
+use just_expression_tree::VariableNumbers;
 use just_text::{CompileError, CompileErrorKind, Name, Os, Text};
 use std::alloc::{AllocError, Global};
 use std::{fmt, slice, vec};
 
 /// The attributes of an item in their order: by name, then by printed arguments, then as they were
 /// given.
-#[derive(Drop)]
 pub struct AttributeSet<'src> {
     items: Vec<AttributeItem<'src>>,
     ghost in_order: { IsSorted item_cmp items.items },
+}
+
+impl Drop for AttributeSet<'_> {
+    fn drop(self) {
+        let AttributeSet { items: _items } = self;
+    }
 }
 
 impl<'src> AttributeSet<'src> {
@@ -103,7 +108,7 @@ impl<'src> AttributeSet<'src> {
 
     /// Gives the variables in the attributes their numbers, those of an `env` the environment's. Takes
     /// no memory.
-    pub fn number_variables<N: NumberVariables>(&mut self, numbers: &N, environment: &N)
+    pub fn number_variables<N: VariableNumbers>(&mut self, numbers: &N, environment: &N)
         ensures { map spec.written_item (items_of self.new) ≡ map spec.written_item (items_of self.old) }
     {
         for index in 0..self.items.len() {
@@ -243,7 +248,7 @@ impl<'src> IntoIterator for AttributeSet<'src> {
     ghost into_iter_gives = { λ set items. into_iter_items items ≡ items_of set };
 
     fn into_iter(self) -> vec::IntoIter<AttributeItem<'src>> {
-        self.items.into_iter()
+        self.into_items().into_iter()
     }
 }
 

@@ -14,6 +14,5 @@ pub use attribute_item::AttributeItem;
 pub use attribute_set::AttributeSet;
 pub use indentation::{Indentation, InvalidIndentation};
 pub use item_kind::ItemKind;
-pub use numbering::NumberVariables;
 pub use printed_arguments::PrintedArguments;
 pub use systems::{is_private, may_carry};

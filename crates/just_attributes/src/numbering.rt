@@ -5,21 +5,11 @@ ghost use Rattle.just_attribute_tree.specs.Attributes.{attribute_shape, interpre
 ghost use Rattle.just_expression_tree.specs.Shape.{shape_of};
 
 use just_attribute_tree::{Attribute, Interpreter};
-use just_expression_tree::Expression;
-
-/// Who knows the numbers of variables.
-pub trait NumberVariables {
-    ghost use Rattle.std.specs.Prelude.{◌≡◌};
-    ghost use Rattle.just_expression_tree.specs.Shape.{shape_of};
-
-    /// Gives the variables of the expression their numbers; it is written as before.
-    fn number(&self, expression: &mut Expression)
-        ensures { shape_of expression.new ≡ shape_of expression.old };
-}
+use just_expression_tree::{Expression, VariableNumbers};
 
 /// Gives the variables of the expressions in the attribute their numbers, those of an `env` the
 /// environment's.
-pub fn number_attribute<N: NumberVariables>(attribute: &mut Attribute, numbers: &N, environment: &N)
+pub fn number_attribute<N: VariableNumbers>(attribute: &mut Attribute, numbers: &N, environment: &N)
     ensures { attribute_shape attribute.new ≡ attribute_shape attribute.old }
 {
     number_front(attribute, numbers, environment);
@@ -27,49 +17,49 @@ pub fn number_attribute<N: NumberVariables>(attribute: &mut Attribute, numbers: 
 }
 
 /// The same of all expressions but the value of an `env`.
-fn number_front<N: NumberVariables>(attribute: &mut Attribute, numbers: &N, environment: &N)
+fn number_front<N: VariableNumbers>(attribute: &mut Attribute, numbers: &N, environment: &N)
     ensures { attribute_shape attribute.new ≡ attribute_shape attribute.old }
 {
     match attribute {
         Attribute::Arg(options) => number_if_there(&mut options.value, numbers),
         Attribute::Confirm(prompt) => number_if_there(prompt, numbers),
-        Attribute::Env { key, .. } => environment.number(key),
+        Attribute::Env { key, .. } => key.resolve_variables(environment),
         Attribute::Script(Some(interpreter)) => number_interpreter(interpreter, numbers),
         _ => {}
     }
 }
 
 /// The same of the value of an `env`.
-fn number_value<N: NumberVariables>(attribute: &mut Attribute, numbers: &N)
+fn number_value<N: VariableNumbers>(attribute: &mut Attribute, numbers: &N)
     ensures { attribute_shape attribute.new ≡ attribute_shape attribute.old }
 {
     if let Attribute::Env { value, .. } = attribute {
-        numbers.number(value);
+        value.resolve_variables(numbers);
     }
 }
 
 /// The same of an expression, if it is there.
-fn number_if_there<N: NumberVariables>(expression: &mut Option<Expression>, numbers: &N)
+fn number_if_there<N: VariableNumbers>(expression: &mut Option<Expression>, numbers: &N)
     ensures { option_map shape_of expression.new ≡ option_map shape_of expression.old }
 {
     if let Some(expression) = expression {
-        numbers.number(expression);
+        expression.resolve_variables(numbers);
     }
 }
 
 /// The same of a command and its arguments.
-fn number_interpreter<N: NumberVariables>(interpreter: &mut Interpreter<Expression>, numbers: &N)
+fn number_interpreter<N: VariableNumbers>(interpreter: &mut Interpreter<Expression>, numbers: &N)
     ensures { interpreter_shape interpreter.new ≡ interpreter_shape interpreter.old }
 {
-    numbers.number(&mut interpreter.command);
+    interpreter.command.resolve_variables(numbers);
     number_row(&mut interpreter.arguments, numbers);
 }
 
 /// The same of a row of expressions.
-fn number_row<N: NumberVariables>(expressions: &mut Vec<Expression>, numbers: &N)
+fn number_row<N: VariableNumbers>(expressions: &mut Vec<Expression>, numbers: &N)
     ensures { map shape_of expressions.new.items ≡ map shape_of expressions.old.items }
 {
     for index in 0..expressions.len() {
-        numbers.number(&mut expressions[index]);
+        expressions[index].resolve_variables(numbers);
     }
 }

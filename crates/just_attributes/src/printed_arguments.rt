@@ -17,8 +17,8 @@ impl fmt::Display for PrintedArguments<'_, '_> {
 
     fn fmt<W: fmt::Write>(&self, f: &mut fmt::Formatter<W>) -> fmt::Result {
         match self.0 {
-            Attribute::Arg(options) => write!(f, "{options}"),
-            Attribute::Confirm(Some(prompt)) => write!(f, "{prompt}"),
+            Attribute::Arg(options) => fmt::Display::fmt(options, f),
+            Attribute::Confirm(Some(prompt)) => fmt::Display::fmt(prompt, f),
             Attribute::Env { key, value } => write!(f, "{key}, {value}"),
             Attribute::Doc(Some(text))
             | Attribute::Extension(text)

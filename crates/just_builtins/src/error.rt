@@ -81,7 +81,7 @@ impl fmt::Display for Error<'_> {
     fn fmt<W: fmt::Write>(&self, f: &mut fmt::Formatter<W>) -> fmt::Result {
         match self {
             Error::OutOfMemory => f.write_str("out of memory"),
-            Error::Const(error) => write!(f, "{error}"),
+            Error::Const(error) => fmt::Display::fmt(error, f),
             Error::Backtick { fault, .. } => write!(f, "backtick: `{fault}`"),
             Error::FunctionCall { name, message } => {
                 write!(f, "function `{name}` failed: {message}")

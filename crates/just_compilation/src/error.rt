@@ -159,7 +159,7 @@ impl Error<'_> {
     {
         match self {
             Error::OutOfMemory => Ok(()),
-            Error::Syntax(error) => write!(f, "{error}"),
+            Error::Syntax(error) => fmt::Display::fmt(error, f),
             Error::MissingRoot(key) => write!(f, ": `{key}`"),
             Error::MissingImport(key) => write!(f, ": `{key}`"),
             Error::CircularImport { current, import } => write!(f, ": `{current}`, `{import}`"),

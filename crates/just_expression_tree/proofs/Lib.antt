@@ -7,3 +7,5 @@ mod Longest
 mod Meanings
 mod Turns
 mod Written
+mod Numbered
+mod NumberedRows

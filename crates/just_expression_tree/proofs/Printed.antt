@@ -1,34 +1,10 @@
--- The texts of expressions whose last part may be absent, and of rows from a place on.
-use Rattle.std.proofs.Common.{◌≡◌, ℕ, ◌+◌, ◌<◌, ◌≤◌, List, [], ◌∷◌, ◌++◌, length, get_or, drop, Option, Some, None, codes, refl, ap, rules, append_assoc, append-nil, add-one, drop-cons}
+-- The texts of rows and interpolations from a place on.
+use Rattle.std.proofs.Common.{◌≡◌, ℕ, ◌+◌, ◌<◌, ◌≤◌, List, [], ◌∷◌, ◌++◌, length, get_or, drop, codes, refl, ap, append_assoc, append-nil, add-one, drop-cons}
 use Rattle.std.proofs.lemmas.List.{drop_all}
-use Rattle.std.specs.Global.{Box}
-use Rattle.just_text.specs.declared.name.Name.{Name}
 use Rattle.just_expression_tree.specs.declared.string_literal.StringLiteral.{StringLiteral}
-use Rattle.just_expression_tree.specs.declared.expression.Expression.{Expression, Assert, Conditional, the_lemmas}
-use Rattle.just_expression_tree.specs.Shape.{shape_of, shapes_of, interpolations_of, inner_shape, written, assertion, assertion_alone, choice, choice_alone}
-use Rattle.just_expression_tree.specs.Printing.{text_of, text_of_all, text_of_message, text_of_other, text_of_others, text_of_interpolations, behind_else, braced}
-
--- a call of `assert` is its condition and the rest
-pub printed_assert : (c : Box Expression) (m : Option (Box Expression)) (name : Name)
-    → text_of (shape_of (Assert c m name)) ≡ codes "assert(" ++ text_of (shape_of c.value) ++ text_of_message (inner_shape m)
-unfolding text_of
-printed_assert c None name =
-    let e : shape_of (Assert c None name) ≡ assertion_alone (shape_of c.value) = search (rules, the_lemmas) in
-    rw e
-printed_assert c (Some m) name =
-    let e : shape_of (Assert c (Some m) name) ≡ assertion (shape_of c.value) (shape_of m.value) = search (rules, the_lemmas) in
-    rw e (simp append_assoc)
-
--- a conditional is its condition, what it gives, and the rest
-pub printed_conditional : (c t : Box Expression) (o : Option (Box Expression))
-    → text_of (shape_of (Conditional c t o)) ≡ codes "if " ++ text_of (shape_of c.value) ++ codes " " ++ braced (text_of (shape_of t.value)) ++ text_of_other (inner_shape o)
-unfolding text_of
-printed_conditional c t None =
-    let e : shape_of (Conditional c t None) ≡ choice_alone (shape_of c.value) (shape_of t.value) = search (rules, the_lemmas) in
-    rw (e, append-nil)
-printed_conditional c t (Some o) =
-    let e : shape_of (Conditional c t (Some o)) ≡ choice (shape_of c.value) (shape_of t.value) (shape_of o.value) = search (rules, the_lemmas) in
-    rw e (append_assoc (codes "if " ++ text_of (shape_of c.value) ++ codes " " ++ braced (text_of (shape_of t.value))) (codes " else ") (behind_else (shape_of o.value) (text_of (shape_of o.value))))
+use Rattle.just_expression_tree.specs.declared.expression.Expression.{Expression}
+use Rattle.just_expression_tree.specs.Shape.{shape_of, shapes_of, interpolations_of, written}
+use Rattle.just_expression_tree.specs.Printing.{text_of, text_of_all, text_of_others, text_of_interpolations}
 
 -- what is written of a row goes on by one element
 pub others_next : (xs : List Expression) (i : ℕ) (x : Expression) (done all : List ℕ) → i < length xs → x ≡ get_or xs i x

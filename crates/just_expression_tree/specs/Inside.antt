@@ -1,5 +1,5 @@
 -- What the expressions inside an expression have.
-use Rattle.std.specs.Prelude.{List, [], ◌++◌, Option, Some, None}
+use Rattle.std.specs.Prelude.{List, [], ◌++◌, Some, None}
 use Rattle.std.specs.List.{flat_map}
 use Rattle.just_expression_tree.specs.declared.expression.Expression.TheOpen.{Expression-F}
 

@@ -1,6 +1,7 @@
 pub mod Operators
 pub mod Shape
 pub mod Printing
+pub mod Layouts
 pub mod FirstTokens
 pub mod Inside
 pub mod Answering
@@ -14,3 +15,4 @@ pub mod Literals
 pub mod Longest
 pub mod Meaning
 pub mod Parts
+pub mod Numbering

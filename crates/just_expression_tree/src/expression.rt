@@ -2,14 +2,16 @@
 ghost use Rattle.std.specs.Prelude.{◌≡◌, Some};
 ghost use Rattle.just_expression_tree.specs.FirstTokens.{first_token_of};
 
+mod numbering;
+
 use crate::operator::ConditionalOperator;
 use crate::printing;
 use crate::string_literal::StringLiteral;
 use just_text::{Name, Number, Text, Token};
+pub use numbering::VariableNumbers;
 use std::fmt;
 
 /// An expression as it is written.
-#[derive(Drop)]
 pub enum Expression<'src> {
     /// `lhs && rhs`
     And {
@@ -94,6 +96,80 @@ pub enum Expression<'src> {
         name: Name<'src>,
         number: Option<Number>,
     },
+}
+
+/// What an expression holds is dropped here, so that whatever drops one elsewhere is proved by this alone.
+impl Drop for Expression<'_> {
+    fn drop(self) {
+        match self {
+            Expression::And {
+                lhs: _lhs,
+                rhs: _rhs,
+            } => {}
+            Expression::Assert {
+                condition: _condition,
+                message: _message,
+                name: _name,
+            } => {}
+            Expression::Backtick {
+                contents: _contents,
+                token: _token,
+            } => {}
+            Expression::Call {
+                name: _name,
+                arguments: _arguments,
+            } => {}
+            Expression::Comparison {
+                lhs: _lhs,
+                operator: _operator,
+                rhs: _rhs,
+                token: _token,
+            } => {}
+            Expression::Concatenation {
+                lhs: _lhs,
+                operator: _operator,
+                rhs: _rhs,
+            } => {}
+            Expression::Conditional {
+                condition: _condition,
+                then: _then,
+                otherwise: _otherwise,
+            } => {}
+            Expression::FormatString {
+                start: _start,
+                expressions: _expressions,
+            } => {}
+            Expression::Group {
+                contents: _contents,
+            } => {}
+            Expression::Join {
+                lhs: _lhs,
+                operator: _operator,
+                rhs: _rhs,
+            } => {}
+            Expression::List {
+                elements: _elements,
+                token: _token,
+            } => {}
+            Expression::ListConcatenation {
+                lhs: _lhs,
+                operator: _operator,
+                rhs: _rhs,
+            } => {}
+            Expression::Not { operand: _operand } => {}
+            Expression::Or {
+                lhs: _lhs,
+                rhs: _rhs,
+            } => {}
+            Expression::StringLiteral {
+                string_literal: _string_literal,
+            } => {}
+            Expression::Variable {
+                name: _name,
+                number: _number,
+            } => {}
+        }
+    }
 }
 
 impl<'src> Expression<'src> {

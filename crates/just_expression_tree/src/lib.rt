@@ -1,5 +1,5 @@
-//! What the strings, format strings and commands of a justfile stand for, and expressions as trees with their
-//! printed texts.
+//! What the strings, format strings and commands of a justfile stand for, expressions as trees with their
+//! printed texts, and numbers for their variables.
 #![tactic(auto)]
 
 mod command;
@@ -15,7 +15,7 @@ mod string_kind;
 mod string_literal;
 
 pub use command::{command_text, is_shebang};
-pub use expression::Expression;
+pub use expression::{Expression, VariableNumbers};
 pub use format_part::{cook_part, halve};
 pub use indentation::unindent;
 pub use operator::{ConditionalOperator, ListOperator};

@@ -1,63 +1,133 @@
 //! How expressions are printed.
-ghost use Rattle.std.specs.Prelude.{◌≡◌, ◌++◌, codes};
+ghost use Rattle.std.specs.Prelude.{◌≡◌, ◌<◌, ◌++◌, codes};
 ghost use Rattle.std.specs.Fmt.{WritesOnOk};
-ghost use Rattle.just_expression_tree.specs.Printing.{text_of, text_of_all, text_of_interpolations, text_of_message, text_of_other};
-ghost use Rattle.just_expression_tree.specs.Shape.{shape_of, shapes_of, interpolations_of, inner_shape};
+ghost use Rattle.just_expression_tree.specs.Layouts.{layout_text, layout_size, choice_text, mark_between};
+ghost use Rattle.just_expression_tree.specs.Printing.{text_of, text_of_all, text_of_interpolations, behind_else};
+ghost use Rattle.just_expression_tree.specs.Shape.{shape_of, shapes_of, interpolations_of};
+ghost use Rattle.just_expression_tree.specs.declared.expression.Expression.{size-Expression};
 
 use crate::expression::Expression;
 use crate::string_literal::StringLiteral;
+use just_text::Name;
 use std::fmt;
 use std::fmt::{Formatter, Write};
 
-/// Writes an expression.
-#[cycle(print)]
-#[tactic(auto, using(crate::proofs::Printed::printed_assert, crate::proofs::Printed::printed_conditional), unfolding(crate::specs::Printing::text_of))]
-pub fn print<W: Write>(f: &mut Formatter<W>, expression: &Expression) -> fmt::Result
-    ensures { WritesOnOk W.write_str_gives f.old result (text_of (shape_of expression.now)) f.new }
+/// What is printed for an expression, with the expressions inside it.
+enum Layout<'e, 'src> {
+    /// A text alone.
+    Text(&'e str),
+    /// The two sides of an operator, and the operator between them.
+    Sides(&'e Expression<'src>, &'e str, &'e Expression<'src>),
+    /// An expression between two texts.
+    Between(&'e str, &'e Expression<'src>, &'e str),
+    /// Two expressions: a text before them, one between them and one behind them.
+    Pair(&'e str, &'e Expression<'src>, &'e str, &'e Expression<'src>, &'e str),
+    /// The condition of a conditional, and what it gives in either case.
+    Choice(&'e Expression<'src>, &'e Expression<'src>, &'e Expression<'src>),
+    /// A name, which may be empty, and a row between two marks.
+    Row(&'e str, &'e str, &'e [Expression<'src>], &'e str),
+    /// The first part of a format string, and interpolations with the parts behind them.
+    Interpolations(&'e str, &'e [(Expression<'src>, StringLiteral<'src>)]),
+}
+
+/// The operator that an expression has between two sides, and the one of a join without a left side;
+/// empty for any other form.
+fn mark(expression: &Expression) -> &'static str
+    ensures { result.now ≡ mark_between (shape_of expression.now) }
 {
     match expression {
-        Expression::Or { lhs, rhs } => print_sides(f, lhs, "||", rhs),
-        Expression::And { lhs, rhs } => print_sides(f, lhs, "&&", rhs),
-        Expression::Comparison {
-            lhs,
-            operator,
-            rhs,
-            ..
-        } => print_sides(f, lhs, operator.mark(), rhs),
-        Expression::ListConcatenation { lhs, rhs, .. } => print_sides(f, lhs, "++", rhs),
-        Expression::Concatenation { lhs, rhs, .. } => print_sides(f, lhs, "+", rhs),
-        Expression::Join {
+        Expression::Or { .. } => "||",
+        Expression::And { .. } => "&&",
+        Expression::Comparison { operator, .. } => operator.mark(),
+        Expression::ListConcatenation { .. } => "++",
+        Expression::Concatenation { .. } => "+",
+        Expression::Join { .. } => "/",
+        _ => "",
+    }
+}
+
+/// What is printed for an expression.
+#[tactic(auto, unfolding(crate::specs::Printing::text_of))]
+fn layout_of<'e, 'src>(expression: &'e Expression<'src>) -> Layout<'e, 'src>
+    ensures text { layout_text result ≡ text_of (shape_of expression.now) }
+    ensures smaller { layout_size result < size-Expression expression.now }
+{
+    match expression {
+        Expression::Or { lhs, rhs }
+        | Expression::And { lhs, rhs }
+        | Expression::Comparison { lhs, rhs, .. }
+        | Expression::ListConcatenation { lhs, rhs, .. }
+        | Expression::Concatenation { lhs, rhs, .. }
+        | Expression::Join {
             lhs: Some(lhs),
             rhs,
             ..
-        } => print_sides(f, lhs, "/", rhs),
-        Expression::Join { lhs: None, rhs, .. } => print_between(f, "/ ", rhs, ""),
-        Expression::Not { operand } => print_between(f, "!", operand, ""),
-        Expression::StringLiteral { string_literal } => f.write_str(string_literal.token.lexeme()),
-        Expression::FormatString { start, expressions } => {
-            print_interpolations(f, start.token.lexeme(), expressions)
-        }
-        Expression::Backtick { token, .. } => f.write_str(token.lexeme()),
-        Expression::Variable { name, .. } => f.write_str(name.lexeme()),
-        Expression::Call { name, arguments } => print_call(f, name.lexeme(), arguments),
+        } => Layout::Sides(lhs, mark(expression), rhs),
+        Expression::Join { lhs: None, rhs, .. } => Layout::Between("/ ", rhs, ""),
+        Expression::Not { operand } => Layout::Between("!", operand, ""),
+        Expression::Group { contents } => Layout::Between("(", contents, ")"),
         Expression::Assert {
             condition,
-            message,
+            message: None,
             ..
-        } => {
-            print_between(f, "assert(", condition, "")?;
-            print_message(f, message)
-        }
-        Expression::Group { contents } => print_between(f, "(", contents, ")"),
-        Expression::List { elements, .. } => print_row(f, "[", elements, "]"),
+        } => Layout::Between("assert(", condition, ")"),
+        Expression::Assert {
+            condition,
+            message: Some(message),
+            ..
+        } => Layout::Pair("assert(", condition, ", ", message, ")"),
         Expression::Conditional {
             condition,
             then,
-            otherwise,
-        } => {
-            print_between(f, "if ", condition, " ")?;
-            print_between(f, "{ ", then, " }")?;
-            print_otherwise(f, otherwise)
+            otherwise: None,
+        } => Layout::Pair("if ", condition, " { ", then, " }"),
+        Expression::Conditional {
+            condition,
+            then,
+            otherwise: Some(otherwise),
+        } => Layout::Choice(condition, then, otherwise),
+        Expression::StringLiteral {
+            string_literal: StringLiteral { token, .. },
+        }
+        | Expression::Backtick { token, .. }
+        | Expression::Variable {
+            name: Name { token },
+            ..
+        } => Layout::Text(token.lexeme()),
+        Expression::Call { name, arguments } => Layout::Row(name.lexeme(), "(", arguments, ")"),
+        Expression::List { elements, .. } => Layout::Row("", "[", elements, "]"),
+        Expression::FormatString { start, expressions } => {
+            Layout::Interpolations(start.token.lexeme(), expressions)
+        }
+    }
+}
+
+/// The marks around what stands behind `else`: none around a conditional.
+fn braces(other: &Expression) -> (&'static str, &'static str)
+    ensures { result.0.now ++ text_of (shape_of other.now) ++ result.1.now ≡ behind_else (shape_of other.now) (text_of (shape_of other.now)) }
+{
+    match other {
+        Expression::Conditional { .. } => ("", ""),
+        _ => ("{ ", " }"),
+    }
+}
+
+/// Writes an expression.
+#[cycle(print)]
+pub fn print<W: Write>(f: &mut Formatter<W>, expression: &Expression) -> fmt::Result
+    ensures { WritesOnOk W.write_str_gives f.old result (text_of (shape_of expression.now)) f.new }
+{
+    match layout_of(expression) {
+        Layout::Text(text) => f.write_str(text),
+        Layout::Sides(lhs, mark, rhs) => print_sides(f, lhs, mark, rhs),
+        Layout::Between(before, inner, behind) => print_between(f, before, inner, behind),
+        Layout::Pair(before, first, between, second, behind) => {
+            print_pair(f, before, first, between, second, behind)
+        }
+        Layout::Choice(condition, then, other) => print_choice(f, condition, then, other),
+        Layout::Row(name, before, elements, behind) => print_row(f, name, before, elements, behind),
+        Layout::Interpolations(start, interpolations) => {
+            print_interpolations(f, start, interpolations)
         }
     }
 }
@@ -77,15 +147,7 @@ fn print_sides<W: Write>(
     print(f, rhs)
 }
 
-/// A name, and arguments in parentheses.
-#[cycle(print)]
-fn print_call<W: Write>(f: &mut Formatter<W>, name: &str, arguments: &[Expression]) -> fmt::Result
-    ensures { WritesOnOk W.write_str_gives f.old result (name.now ++ codes "(" ++ text_of_all (shapes_of arguments.now) ++ codes ")") f.new }
-{
-    f.write_str(name)?;
-    print_row(f, "(", arguments, ")")
-}
-
+/// An expression between two texts.
 #[cycle(print)]
 fn print_between<W: Write>(
     f: &mut Formatter<W>,
@@ -100,46 +162,51 @@ fn print_between<W: Write>(
     f.write_str(behind)
 }
 
-/// The rest of a call of `assert`.
+/// Two expressions: a text before them, one between them and one behind them.
 #[cycle(print)]
-fn print_message<W: Write>(f: &mut Formatter<W>, message: &Option<Box<Expression>>) -> fmt::Result
-    ensures { WritesOnOk W.write_str_gives f.old result (text_of_message (inner_shape message.now)) f.new }
-{
-    match message {
-        None => f.write_str(")"),
-        Some(message) => print_between(f, ", ", message, ")"),
-    }
-}
-
-/// The rest of a conditional.
-#[cycle(print)]
-fn print_otherwise<W: Write>(
+fn print_pair<W: Write>(
     f: &mut Formatter<W>,
-    otherwise: &Option<Box<Expression>>,
+    before: &str,
+    first: &Expression,
+    between: &str,
+    second: &Expression,
+    behind: &str,
 ) -> fmt::Result
-    ensures { WritesOnOk W.write_str_gives f.old result (text_of_other (inner_shape otherwise.now)) f.new }
+    ensures { WritesOnOk W.write_str_gives f.old result (before.now ++ text_of (shape_of first.now) ++ between.now ++ text_of (shape_of second.now) ++ behind.now) f.new }
 {
-    let Some(other) = otherwise else {
-        return Ok(());
-    };
-    if let Expression::Conditional { .. } = &**other {
-        return print_between(f, " else ", other, "");
-    }
-    print_between(f, " else { ", other, " }")
+    print_between(f, before, first, between)?;
+    print_between(f, "", second, behind)
 }
 
-/// A row between two marks.
+/// A conditional with both cases.
+#[cycle(print)]
+fn print_choice<W: Write>(
+    f: &mut Formatter<W>,
+    condition: &Expression,
+    then: &Expression,
+    other: &Expression,
+) -> fmt::Result
+    ensures { WritesOnOk W.write_str_gives f.old result (choice_text condition.now then.now other.now) f.new }
+{
+    print_pair(f, "if ", condition, " { ", then, " } else ")?;
+    let (opening, closing) = braces(other);
+    print_between(f, opening, other, closing)
+}
+
+/// A name, and a row between two marks.
 #[cycle(print)]
 fn print_row<W: Write>(
     f: &mut Formatter<W>,
+    name: &str,
     before: &str,
-    expressions: &[Expression],
+    elements: &[Expression],
     behind: &str,
 ) -> fmt::Result
-    ensures { WritesOnOk W.write_str_gives f.old result (before.now ++ text_of_all (shapes_of expressions.now) ++ behind.now) f.new }
+    ensures { WritesOnOk W.write_str_gives f.old result (name.now ++ before.now ++ text_of_all (shapes_of elements.now) ++ behind.now) f.new }
 {
+    f.write_str(name)?;
     f.write_str(before)?;
-    print_all(f, expressions)?;
+    print_all(f, elements)?;
     f.write_str(behind)
 }
 

@@ -12,11 +12,9 @@ use crate::fault::Fault;
 use crate::literal::{format_part, is_open, string_literal};
 use crate::node::{assertion, binary, conditional, prefixed};
 use just_expression_tree::{Expression, StringKind, StringLiteral};
-use just_text::{CompileErrorKind, Expander, Name, Token, TokenKind, both};
+use just_text::{CompileErrorKind, Expander, Name, Token, TokenKind, both, nesting_limit};
 use std::alloc::Global;
 
-/// How deep expressions may nest.
-const LEVELS: u16 = 256;
 /// The rank of a whole expression.
 const WHOLE: u8 = 6;
 /// The rank of what stands alone or in brackets.
@@ -34,7 +32,7 @@ impl<'t, 'src> Cursor<'t, 'src> {
         ensures gives { Gives (λ e. (shape_of e, ahead self.new)) result (expression_at word_of (E.expansion expander.now) 256 6 (ahead self.old)) }
         ensures cooked { IfOk result (IsCooked (E.expansion expander.now)) }
     {
-        self.ranked(expander, WHOLE, LEVELS)
+        self.ranked(expander, WHOLE, nesting_limit())
     }
 
     /// Takes the expression that stands here, without operators outside of brackets: of `a + b`
@@ -48,7 +46,7 @@ impl<'t, 'src> Cursor<'t, 'src> {
         ensures gives { Gives (λ e. (shape_of e, ahead self.new)) result (expression_at word_of (E.expansion expander.now) 256 0 (ahead self.old)) }
         ensures cooked { IfOk result (IsCooked (E.expansion expander.now)) }
     {
-        self.ranked(expander, PRIMARY, LEVELS)
+        self.ranked(expander, PRIMARY, nesting_limit())
     }
 
     /// Takes expressions up to the closing mark, and the mark: a comma stands behind each but the
@@ -63,7 +61,7 @@ impl<'t, 'src> Cursor<'t, 'src> {
         ensures gives { Gives (λ es. (shapes_of es.items, ahead self.new)) result (elements_at word_of (E.expansion expander.now) (expression_at word_of (E.expansion expander.now) 256) (suc (length (ahead self.old))) close (ahead self.old)) }
         ensures cooked { IfOk result (λ es. AreCooked (E.expansion expander.now) es.items) }
     {
-        self.elements(expander, close, LEVELS)
+        self.elements(expander, close, nesting_limit())
     }
 
     // What stands in the way where no level is left.

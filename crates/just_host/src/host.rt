@@ -192,7 +192,7 @@ impl fmt::Display for HostFault {
             HostFault::Signal(signal) => write!(f, "signal {signal}"),
             HostFault::NotStarted => write!(f, "could not start"),
             HostFault::NotUnicode(_) => write!(f, "not unicode"),
-            HostFault::Io(text) => write!(f, "{text}"),
+            HostFault::Io(text) => fmt::Display::fmt(text, f),
             HostFault::Memory => write!(f, "out of memory"),
         }
     }

@@ -110,7 +110,7 @@ impl fmt::Display for Fault<'_> {
             Fault::OutOfMemory => write!(f, "out of memory"),
             Fault::NoRootForWord(word) => write!(f, "no root for word: `{word}`"),
             Fault::MissingRoot(path) => write!(f, "missing root: `{path}`"),
-            Fault::Syntax(error) => write!(f, "{error}"),
+            Fault::Syntax(error) => fmt::Display::fmt(error, f),
             Fault::NotYet(path) => write!(f, "not yet: `{path}`"),
             Fault::Redefinition(name) => write!(f, "redefinition: `{name}`"),
             Fault::UnknownDependency { recipe, dependency } => {

@@ -55,8 +55,8 @@ impl Error<'_> {
     {
         match self {
             Error::OutOfMemory => Ok(()),
-            Error::Compile(error) => write!(f, "{error}"),
-            Error::ConstEval(error) => write!(f, "{error}"),
+            Error::Compile(error) => fmt::Display::fmt(error, f),
+            Error::ConstEval(error) => fmt::Display::fmt(error, f),
             Error::CircularVariable(names) | Error::CircularRecipe(names) => {
                 write_names(f, names.as_slice())
             }

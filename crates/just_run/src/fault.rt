@@ -116,7 +116,7 @@ fn write_failure<W: fmt::Write>(f: &mut fmt::Formatter<W>, fault: &Fault) -> fmt
         }
         Fault::CouldNotStart(recipe) => write!(f, "recipe `{recipe}` could not start its command"),
         Fault::NotConfirmed(recipe) => write!(f, "recipe `{recipe}` was not confirmed"),
-        Fault::Command(fault) => write!(f, "{fault}"),
+        Fault::Command(fault) => fmt::Display::fmt(fault, f),
         _ => Ok(()),
     }
 }
@@ -124,9 +124,9 @@ fn write_failure<W: fmt::Write>(f: &mut fmt::Formatter<W>, fault: &Fault) -> fmt
 /// Writes which rule is broken, nothing of other faults.
 fn write_rule<W: fmt::Write>(f: &mut fmt::Formatter<W>, fault: &Fault) -> fmt::Result {
     match fault {
-        Fault::Plain(fault) => write!(f, "{fault}"),
-        Fault::Justfile(error) => write!(f, "{error}"),
-        Fault::Words(fault) => write!(f, "{fault}"),
+        Fault::Plain(fault) => fmt::Display::fmt(fault, f),
+        Fault::Justfile(error) => fmt::Display::fmt(error, f),
+        Fault::Words(fault) => fmt::Display::fmt(fault, f),
         Fault::NoRootForWord(word) => write!(f, "no root for word: `{word}`"),
         Fault::NotPrintable(path) => write!(f, "not printable: `{path}`"),
         _ => Ok(()),

@@ -3,5 +3,3 @@ pub mod RowText
 pub mod Filed
 pub mod First
 pub mod PathNames
-pub mod Numbered
-pub mod NumberedRows

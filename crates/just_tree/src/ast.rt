@@ -89,16 +89,16 @@ impl<'src> Item<'src> {
         ensures { WritesOnOk W.write_str_gives f.old result (spec.bare_text indentation.now (spec.item_shape self.now)) f.new }
     {
         match self {
-            Item::Alias(alias) => write!(f, "{alias}"),
-            Item::Assignment(assignment) => write!(f, "{assignment}"),
+            Item::Alias(alias) => fmt::Display::fmt(alias, f),
+            Item::Assignment(assignment) => fmt::Display::fmt(assignment, f),
             Item::Comment(text) => f.write_str(text),
-            Item::Function(function) => write!(f, "{function}"),
-            Item::Import(import) => write!(f, "{import}"),
-            Item::Module(module) => write!(f, "{module}"),
+            Item::Function(function) => fmt::Display::fmt(function, f),
+            Item::Import(import) => fmt::Display::fmt(import, f),
+            Item::Module(module) => fmt::Display::fmt(module, f),
             Item::Newline => Ok(()),
             Item::Recipe(recipe) => recipe.print(f, indentation),
-            Item::Set(set) => write!(f, "{set}"),
-            Item::Unexport(unexport) => write!(f, "{unexport}"),
+            Item::Set(set) => fmt::Display::fmt(set, f),
+            Item::Unexport(unexport) => fmt::Display::fmt(unexport, f),
         }
     }
 }
@@ -159,10 +159,18 @@ impl fmt::Display for ListFeature {
 }
 
 /// A file: its items in order, and the features that it uses.
-#[derive(Drop)]
 pub struct Ast<'src> {
     pub items: Vec<Item<'src>>,
     pub unstable_features: Vec<UnstableFeature>,
+}
+
+impl Drop for Ast<'_> {
+    fn drop(self) {
+        let Ast {
+            items: _items,
+            unstable_features: _unstable_features,
+        } = self;
+    }
 }
 
 /// Blank lines, two at most.

@@ -113,11 +113,20 @@ impl<'src> FunctionParameter<'src> {
 }
 
 /// A function that the file defines.
-#[derive(Drop)]
 pub struct FunctionDefinition<'src> {
     pub body: Expression<'src>,
     pub name: Name<'src>,
     pub parameters: Vec<FunctionParameter<'src>>,
+}
+
+impl Drop for FunctionDefinition<'_> {
+    fn drop(self) {
+        let FunctionDefinition {
+            body: _body,
+            name: _name,
+            parameters: _parameters,
+        } = self;
+    }
 }
 
 impl fmt::Display for FunctionDefinition<'_> {
@@ -132,11 +141,19 @@ impl fmt::Display for FunctionDefinition<'_> {
 }
 
 /// The file whose items stand here too.
-#[derive(Drop)]
 pub struct Import<'src> {
     /// `?`: the file may be missing.
     pub optional: bool,
     pub path: StringLiteral<'src>,
+}
+
+impl Drop for Import<'_> {
+    fn drop(self) {
+        let Import {
+            optional: _optional,
+            path: _path,
+        } = self;
+    }
 }
 
 impl fmt::Display for Import<'_> {

@@ -8,11 +8,21 @@ use just_text::Token;
 use std::fmt;
 
 /// A part of a body line.
-#[derive(Drop)]
 pub enum Fragment<'src> {
     /// `{{ expression }}`
     Interpolation { expression: Expression<'src> },
     Text { token: Token<'src> },
+}
+
+impl Drop for Fragment<'_> {
+    fn drop(self) {
+        match self {
+            Fragment::Interpolation {
+                expression: _expression,
+            } => {}
+            Fragment::Text { token: _token } => {}
+        }
+    }
 }
 
 impl fmt::Display for Fragment<'_> {
@@ -27,9 +37,16 @@ impl fmt::Display for Fragment<'_> {
 }
 
 /// A line of a body, without its indentation; a blank line has no fragments.
-#[derive(Drop)]
 pub struct Line<'src> {
     pub fragments: Vec<Fragment<'src>>,
+}
+
+impl Drop for Line<'_> {
+    fn drop(self) {
+        let Line {
+            fragments: _fragments,
+        } = self;
+    }
 }
 
 /// The marks at the front of a line.

@@ -44,7 +44,6 @@ impl ParameterKind {
 }
 
 /// A parameter of a recipe, with the options that attributes give it.
-#[derive(Drop)]
 pub struct Parameter<'src> {
     pub default: Option<Expression<'src>>,
     /// Whether it is exported to the environment.
@@ -69,6 +68,26 @@ pub struct Parameter<'src> {
     pub value: Option<Expression<'src>>,
 }
 
+impl Drop for Parameter<'_> {
+    fn drop(self) {
+        let Parameter {
+            default: _default,
+            export: _export,
+            flag: _flag,
+            help: _help,
+            kind: _kind,
+            long: _long,
+            max: _max,
+            min: _min,
+            multiple: _multiple,
+            name: _name,
+            number: _number,
+            short: _short,
+            value: _value,
+        } = self;
+    }
+}
+
 impl fmt::Display for Parameter<'_> {
     ghost output = { λ parameter. Some (spec.parameter_text (spec.parameter_shape parameter)) };
 
@@ -84,11 +103,19 @@ impl fmt::Display for Parameter<'_> {
 }
 
 /// An argument of a dependency.
-#[derive(Drop)]
 pub struct DependencyArgument<'src> {
     pub expression: Expression<'src>,
     /// `*`: the dependency runs once for each element.
     pub starred: bool,
+}
+
+impl Drop for DependencyArgument<'_> {
+    fn drop(self) {
+        let DependencyArgument {
+            expression: _expression,
+            starred: _starred,
+        } = self;
+    }
 }
 
 impl fmt::Display for DependencyArgument<'_> {
@@ -102,10 +129,18 @@ impl fmt::Display for DependencyArgument<'_> {
 }
 
 /// A dependency as it is written.
-#[derive(Drop)]
 pub struct UnresolvedDependency<'src> {
     pub arguments: Vec<DependencyArgument<'src>>,
     pub recipe: Namepath<'src>,
+}
+
+impl Drop for UnresolvedDependency<'_> {
+    fn drop(self) {
+        let UnresolvedDependency {
+            arguments: _arguments,
+            recipe: _recipe,
+        } = self;
+    }
 }
 
 impl fmt::Display for UnresolvedDependency<'_> {

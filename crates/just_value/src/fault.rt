@@ -191,7 +191,7 @@ impl fmt::Display for ConstEvalError<'_> {
     fn fmt<W: fmt::Write>(&self, f: &mut fmt::Formatter<W>) -> fmt::Result {
         match self {
             ConstEvalError::Assert { message, .. } => write!(f, "assert failed: {message}"),
-            ConstEvalError::Const(error) => write!(f, "{error}"),
+            ConstEvalError::Const(error) => fmt::Display::fmt(error, f),
             ConstEvalError::EmptyInterpreter { setting } => {
                 write!(
                     f,
@@ -222,8 +222,8 @@ impl fmt::Display for ValueFault<'_> {
     fn fmt<W: fmt::Write>(&self, f: &mut fmt::Formatter<W>) -> fmt::Result {
         match self {
             ValueFault::OutOfMemory => f.write_str("out of memory"),
-            ValueFault::Const(error) => write!(f, "{error}"),
-            ValueFault::Path(text) => write!(f, "{text}"),
+            ValueFault::Const(error) => fmt::Display::fmt(error, f),
+            ValueFault::Path(text) => fmt::Display::fmt(text, f),
         }
     }
 }

@@ -2,7 +2,7 @@
 use crate::files::Unchanged;
 use just_lexer::Lexer;
 use just_text::{CompileError, Token, TokenKind};
-use justfile_syntax::{Numerator, Parser};
+use justfile_syntax::{Ast, Numerator, Parser};
 use semver::Version;
 use std::alloc::{AllocError, Global};
 
@@ -96,6 +96,11 @@ pub fn told_tokens(alloc: Global, subject: Subject, text: &str) -> Result<String
     }
 }
 
+/// The file as it is printed.
+fn printed(alloc: Global, file: Ast) -> Result<String, AllocError> {
+    file.to_string(alloc)
+}
+
 /// The file as it is printed, or its refusal.
 pub fn told_printed(alloc: Global, text: &str) -> Result<String, AllocError> {
     let version = Version::new(1, 58, 0);
@@ -108,7 +113,7 @@ pub fn told_printed(alloc: Global, text: &str) -> Result<String, AllocError> {
         &version,
         &mut numerator,
     ) {
-        Ok(file) => file.to_string(alloc),
+        Ok(file) => printed(alloc, file),
         Err(error) => error.kind.to_string(alloc),
     }
 }

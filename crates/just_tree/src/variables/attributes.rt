@@ -3,15 +3,8 @@ ghost use Rattle.std.specs.Prelude.{◌≡◌, map};
 ghost use Rattle.just_attributes.specs.Sets.{items_of, written_item};
 
 use crate::variables::context::ExpressionContext;
-use crate::variables::resolving::{Scope, resolve_in_place};
-use just_attributes::{AttributeSet, NumberVariables};
-use just_expression_tree::Expression;
-
-impl NumberVariables for Scope<'_, '_> {
-    fn number(&self, expression: &mut Expression) {
-        resolve_in_place(expression, self);
-    }
-}
+use crate::variables::resolving::Scope;
+use just_attributes::AttributeSet;
 
 /// Gives each variable in the expressions of these attributes the context's number for its name, or
 /// the environment's in an `env`, else the bindings' number, else none. Nothing else changes. Takes no

@@ -9,9 +9,14 @@ use std::alloc::{AllocError, Global};
 use std::collections::BTreeMap;
 
 /// Names, each with the number of what it stands for.
-#[derive(Drop)]
 pub struct ExpressionContext<'src> {
     numbers: BTreeMap<&'src str, Number>,
+}
+
+impl Drop for ExpressionContext<'_> {
+    fn drop(self) {
+        let ExpressionContext { numbers: _numbers } = self;
+    }
 }
 
 impl<'src> ExpressionContext<'src> {

@@ -6,7 +6,7 @@ use Rattle.just_attribute_lines.proofs.Adding.{may_so, may_not_so}
 use Rattle.just_attribute_lines.proofs.argument_options.with_option.Goals as goal
 
 pub returns-then-may_add-clause-shape : goal.returns-then-may_add-clause-shape
-returns-then-may_add-clause-shape c = λ x cooked. rw c.added.ensures.shape (sym (may_so x (options_shape c.args.options) (option_shape c.args.option) (sym (c.may_add.ensures x cooked) ∙ c.if-may_add.true)))
+returns-then-may_add-clause-shape c = λ x cooked. rw c.add_to.ensures.shape (sym (may_so x (options_shape c.args.options) (option_shape c.args.option) (sym (c.may_add.ensures x cooked) ∙ c.if-may_add.true)))
 
 pub returns-else-may_add-clause-shape : goal.returns-else-may_add-clause-shape
 returns-else-may_add-clause-shape c = λ x cooked. sym (may_not_so x (options_shape c.args.options) (option_shape c.args.option) (sym (c.may_add.ensures x cooked) ∙ c.if-may_add.false))

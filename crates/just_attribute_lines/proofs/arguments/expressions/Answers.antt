@@ -1,15 +1,16 @@
 -- Each turn reads an expression.
-use Rattle.std.proofs.Common.{◌≡◌, ◌-◌, ◌++◌, ◌∷◌, [], Ok, true, false, rules, arith}
+use Rattle.std.proofs.Common.{◌≡◌, ◌-◌, Ok, refl, true, false, arith}
 use Rattle.std.proofs.lemmas.Result.{err_from_is_err_and}
 use Rattle.just_text.specs.Tokens.{word_of}
 use Rattle.just_text.specs.declared.token_kind.TokenKind.TheVariants.{ParenR}
 use Rattle.just_expression_tree.specs.Shape.{shape_of}
+use Rattle.just_expressions.specs.Literals.{IsCooked}
 use Rattle.just_expressions.specs.Reading.{ahead}
 use Rattle.just_attribute_lines.specs.Reading.{whole_at}
 use Rattle.just_expressions.specs.Rows.{more_at}
 use Rattle.just_attribute_lines.proofs.Fewer.{whole_shorter}
 use Rattle.just_expressions.proofs.Rows.{more_shorter}
-use Rattle.just_attribute_lines.proofs.Follow.{at_end, goes_on, no_item, untold}
+use Rattle.just_attribute_lines.proofs.Follow.{at_end, goes_on, no_item, refused_so, untold}
 use Rattle.just_attribute_lines.proofs.arguments.expressions.Goals as goal
 use Rattle.just_expressions.proofs.Elements.{one_more_cooked}
 
@@ -21,22 +22,26 @@ returns-in_err-is_more-clause-gives g c =
     let p = err_from_is_err_and c.from_residual.result c.from_residual.ensures.1 in
     rw (p.1, p.2) (untold shape_of (whole_at word_of x) (more_at word_of ParenR) l.expressions.items i.turns (ahead l.cursor) _ i.fuel i.so_far c.in_err-is_more.field-0.0 c.in_err-is_more.ensures)
 
-pub returns-in_err-expression-clause-gives : goal.returns-in_err-expression-clause-gives
-returns-in_err-expression-clause-gives g c =
+pub returns-in_err-push_read-clause-gives : goal.returns-in_err-push_read-clause-gives
+returns-in_err-push_read-clause-gives g c =
     let l = c.loop-expressions in
     let i = l.invariant in
     let x = g.E.Expander.expansion c.args.expander.now in
     let comes : more_at word_of ParenR (ahead l.cursor) ≡ Ok (true, ahead c.is_more.new.cursor) = rw c.if-branch.true at c.in_ok-is_more.ensures in
-    let p = err_from_is_err_and c.from_residual-in_err-expression.result c.from_residual-in_err-expression.ensures.1 in
-    rw (p.1, p.2) (no_item shape_of (whole_at word_of x) (more_at word_of ParenR) l.expressions.items i.turns (ahead l.cursor) _ i.fuel i.so_far (ahead c.is_more.new.cursor) comes c.in_err-expression.field-0.0 c.in_err-expression.ensures.gives)
+    let p = err_from_is_err_and c.from_residual-in_err-push_read.result c.from_residual-in_err-push_read.ensures.1 in
+    let e = c.in_err-push_read.field-0.0 in
+    let fails = refused_so _ c.expression.result (whole_at word_of x (ahead c.is_more.new.cursor)) e c.expression.ensures.gives (c.in_err-push_read.ensures.refused e refl) in
+    rw (p.1, p.2) (no_item shape_of (whole_at word_of x) (more_at word_of ParenR) l.expressions.items i.turns (ahead l.cursor) _ i.fuel i.so_far (ahead c.is_more.new.cursor) comes e fails)
 
 pub loop-expressions-smaller : goal.loop-expressions-smaller
 loop-expressions-smaller g c =
     let l = c.loop-expressions in
     let x = g.E.Expander.expansion c.args.expander.now in
     let comes : more_at word_of ParenR (ahead l.cursor) ≡ Ok (true, ahead c.is_more.new.cursor) = rw c.if-branch.true at c.in_ok-is_more.ensures in
+    let s = c.in_ok-push_read.ensures.stored in
+    let gives : whole_at word_of x (ahead c.is_more.new.cursor) ≡ Ok (shape_of s.0, ahead c.expression.new.self) = rw s.1 at c.expression.ensures.gives in
     let less = more_shorter word_of ParenR (ahead l.cursor) (true, ahead c.is_more.new.cursor) comes in
-    let fewer = whole_shorter word_of x (ahead c.is_more.new.cursor) (shape_of c.in_ok-expression.field-0, ahead c.expression.new.self) c.in_ok-expression.ensures.gives in
+    let fewer = whole_shorter word_of x (ahead c.is_more.new.cursor) (shape_of s.0, ahead c.expression.new.self) gives in
     omega (arith, less, fewer)
 
 pub loop-expressions-preserved : goal.loop-expressions-preserved
@@ -45,14 +50,16 @@ loop-expressions-preserved g c =
     let i = l.invariant in
     let x = g.E.Expander.expansion c.args.expander.now in
     let comes : more_at word_of ParenR (ahead l.cursor) ≡ Ok (true, ahead c.is_more.new.cursor) = rw c.if-branch.true at c.in_ok-is_more.ensures in
+    let s = c.in_ok-push_read.ensures.stored in
+    let gives : whole_at word_of x (ahead c.is_more.new.cursor) ≡ Ok (shape_of s.0, ahead c.expression.new.self) = rw s.1 at c.expression.ensures.gives in
     let less = more_shorter word_of ParenR (ahead l.cursor) (true, ahead c.is_more.new.cursor) comes in
-    let fewer = whole_shorter word_of x (ahead c.is_more.new.cursor) (shape_of c.in_ok-expression.field-0, ahead c.expression.new.self) c.in_ok-expression.ensures.gives in
-    let pushed : c.push.new.self.items ≡ l.expressions.items ++ c.in_ok-expression.field-0 ∷ [] = search rules in
+    let fewer = whole_shorter word_of x (ahead c.is_more.new.cursor) (shape_of s.0, ahead c.expression.new.self) gives in
+    let cooked : IsCooked x s.0 = rw s.1 at c.expression.ensures.cooked in
     record {
       turns = i.turns - 1;
       fuel = omega (arith, less, fewer, i.fuel);
-      so_far = rw pushed (goes_on shape_of (whole_at word_of x) (more_at word_of ParenR) l.expressions.items i.turns (ahead l.cursor) _ i.fuel i.so_far (ahead c.is_more.new.cursor) comes c.in_ok-expression.field-0 (ahead c.expression.new.self) c.in_ok-expression.ensures.gives);
-      cooked = rw pushed (one_more_cooked x l.expressions.items c.in_ok-expression.field-0 i.cooked c.in_ok-expression.ensures.cooked);
+      so_far = rw s.2 (goes_on shape_of (whole_at word_of x) (more_at word_of ParenR) l.expressions.items i.turns (ahead l.cursor) _ i.fuel i.so_far (ahead c.is_more.new.cursor) comes s.0 (ahead c.expression.new.self) gives);
+      cooked = rw s.2 (one_more_cooked x l.expressions.items s.0 i.cooked cooked);
     }
 
 pub returns-clause-gives : goal.returns-clause-gives

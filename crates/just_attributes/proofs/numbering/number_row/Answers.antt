@@ -6,5 +6,5 @@ use Rattle.just_attributes.proofs.numbering.number_row.Goals as goal
 
 pub loop-index-preserved : goal.loop-index-preserved
 loop-index-preserved g c =
-    map-set_same shape_of c.loop-index.expressions.items c.loop-index.index c.number.new.expression c.index_mut.result.now (c.number.ensures ∙ ap shape_of c.index_mut.ensures.value)
+    map-set_same shape_of c.loop-index.expressions.items c.loop-index.index c.resolve_variables.new.self c.index_mut.result.now (c.resolve_variables.ensures.shape ∙ ap shape_of c.index_mut.ensures.value)
     ∙ c.loop-index.invariant

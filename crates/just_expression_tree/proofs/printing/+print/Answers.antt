@@ -1,7 +1,6 @@
--- The elements of a row, and interpolations, are written whole, and the sides of an operator lie below it.
-use Rattle.std.proofs.Common.{◌≡◌, max, ◌<◌, ◌≤◌, [], ◌∷◌, ◌++◌, length, rules, arith, codes}
+-- The elements of a row, and interpolations, are written whole.
+use Rattle.std.proofs.Common.{◌≡◌, ◌<◌, ◌≤◌, [], ◌∷◌, ◌++◌, length, rules, arith, codes}
 use Rattle.std.proofs.Output.{has_written_append, has_written_of_eq}
-use Rattle.just_expression_tree.specs.declared.expression.Expression.{size-Expression, the_lemmas}
 use Rattle.just_expression_tree.specs.Shape.{shape_of}
 use Rattle.just_expression_tree.specs.Printing.{text_of}
 use Rattle.just_expression_tree.proofs.Printed.{others_next, row_end, interpolations_next, interpolations_end}
@@ -37,33 +36,3 @@ print_interpolations-returns g t c plain ok =
     let (done, wrote, more) = c.loop-expression.invariant one.plain in
     let le : length c.args.interpolations.now ≤ c.loop-expression.expression-index = omega arith in
     has_written_of_eq _ _ _ _ _ (interpolations_end c.args.interpolations.now c.loop-expression.expression-index c.args.start.now done _ le more) (has_written_append _ _ _ _ _ _ one wrote)
-
-pub print-print_sides-requires : goal.print-print_sides-requires
-print-print_sides-requires g t c κs within =
-    let below : max (size-Expression c.deref.result.now) (size-Expression c.deref-in-Or.result.now) < size-Expression c.args.expression.now = rw (c.deref.ensures, c.deref-in-Or.ensures, c.in-Or.is) (grind (arith, the_lemmas)) in
-    (omega (arith, below, c.decreases), within)
-
-pub print-print_sides-requires-in-And : goal.print-print_sides-requires-in-And
-print-print_sides-requires-in-And g t c κs within =
-    let below : max (size-Expression c.deref-in-And.result.now) (size-Expression c.deref-in-And-2.result.now) < size-Expression c.args.expression.now = rw (c.deref-in-And.ensures, c.deref-in-And-2.ensures, c.in-And.is) (grind (arith, the_lemmas)) in
-    (omega (arith, below, c.decreases), within)
-
-pub print-print_sides-requires-in-Comparison : goal.print-print_sides-requires-in-Comparison
-print-print_sides-requires-in-Comparison g t c κs within =
-    let below : max (size-Expression c.deref-in-Comparison.result.now) (size-Expression c.deref-in-Comparison-2.result.now) < size-Expression c.args.expression.now = rw (c.deref-in-Comparison.ensures, c.deref-in-Comparison-2.ensures, c.in-Comparison.is) (grind (arith, the_lemmas)) in
-    (omega (arith, below, c.decreases), within)
-
-pub print-print_sides-requires-in-ListConcatenation : goal.print-print_sides-requires-in-ListConcatenation
-print-print_sides-requires-in-ListConcatenation g t c κs within =
-    let below : max (size-Expression c.deref-in-ListConcatenation.result.now) (size-Expression c.deref-in-ListConcatenation-2.result.now) < size-Expression c.args.expression.now = rw (c.deref-in-ListConcatenation.ensures, c.deref-in-ListConcatenation-2.ensures, c.in-ListConcatenation.is) (grind (arith, the_lemmas)) in
-    (omega (arith, below, c.decreases), within)
-
-pub print-print_sides-requires-in-Concatenation : goal.print-print_sides-requires-in-Concatenation
-print-print_sides-requires-in-Concatenation g t c κs within =
-    let below : max (size-Expression c.deref-in-Concatenation.result.now) (size-Expression c.deref-in-Concatenation-2.result.now) < size-Expression c.args.expression.now = rw (c.deref-in-Concatenation.ensures, c.deref-in-Concatenation-2.ensures, c.in-Concatenation.is) (grind (arith, the_lemmas)) in
-    (omega (arith, below, c.decreases), within)
-
-pub print-print_sides-requires-in-Join-Some-default-default : goal.print-print_sides-requires-in-Join-Some-default-default
-print-print_sides-requires-in-Join-Some-default-default g t c κs within =
-    let below : max (size-Expression c.deref-in-Join-Some-default-default.result.now) (size-Expression c.deref-in-Join-Some-default-default-2.result.now) < size-Expression c.args.expression.now = rw (c.deref-in-Join-Some-default-default.ensures, c.deref-in-Join-Some-default-default-2.ensures, c.in-Join-Some-default-default.is) (grind (arith, the_lemmas, c.in-Join-Some-default-default.lhs-is)) in
-    (omega (arith, below, c.decreases), within)

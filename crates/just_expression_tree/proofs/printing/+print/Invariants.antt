@@ -22,17 +22,14 @@ decreases-print g l = 6 * goal.size-print g l
 abbrev pub decreases-print_sides : goal.decreases-print_sides
 decreases-print_sides g l = 6 * max (size-Expression l.lhs.now) (size-Expression l.rhs.now) + 1
 
-abbrev pub decreases-print_call : goal.decreases-print_call
-decreases-print_call g l = 6 * goal.size-print_call g l + 4
-
 abbrev pub decreases-print_between : goal.decreases-print_between
 decreases-print_between g l = 6 * goal.size-print_between g l + 1
 
-abbrev pub decreases-print_message : goal.decreases-print_message
-decreases-print_message g l = 6 * goal.size-print_message g l + 2
+abbrev pub decreases-print_pair : goal.decreases-print_pair
+decreases-print_pair g l = 6 * max (size-Expression l.first.now) (size-Expression l.second.now) + 2
 
-abbrev pub decreases-print_otherwise : goal.decreases-print_otherwise
-decreases-print_otherwise g l = 6 * goal.size-print_otherwise g l + 2
+abbrev pub decreases-print_choice : goal.decreases-print_choice
+decreases-print_choice g l = 6 * max (size-Expression l.condition.now) (max (size-Expression l.then.now) (size-Expression l.other.now)) + 3
 
 abbrev pub decreases-print_row : goal.decreases-print_row
 decreases-print_row g l = 6 * goal.size-print_row g l + 3

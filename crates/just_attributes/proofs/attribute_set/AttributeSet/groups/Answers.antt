@@ -1,5 +1,5 @@
 -- Each item adds its group, if it is one.
-use Rattle.std.proofs.Common.{◌+◌, ◌<◌, length, arith}
+use Rattle.std.proofs.Common.{◌<◌, length, arith}
 use Rattle.just_attributes.proofs.Groups.{group_pushed, group_passed}
 use Rattle.just_attributes.proofs.attribute_set.AttributeSet.groups.Goals as goal
 use Rattle.just_attributes.proofs.attribute_set.AttributeSet.groups.Goals.{in-Some+in_ok-push-in-Some, in-None}

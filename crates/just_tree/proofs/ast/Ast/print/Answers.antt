@@ -1,5 +1,5 @@
 -- Each item is written behind the blank lines that wait, and a blank line waits.
-use Rattle.std.proofs.Common.{◌≡◌, ◌+◌, ◌<◌, ◌≤◌, [], ◌++◌, length, arith, rules, refl, sym, ap, ◌∙◌}
+use Rattle.std.proofs.Common.{◌≡◌, ◌<◌, ◌≤◌, [], ◌++◌, length, arith, rules, refl, sym, ap, ◌∙◌}
 use Rattle.std.proofs.Output.{has_written_append, has_written_of_eq}
 use Rattle.just_tree.specs.Files.{item_shape, item_shapes, text_behind, file_text}
 use Rattle.just_tree.proofs.Filed.{blank_waits, item_behind, file_end}

@@ -5,7 +5,7 @@ use Rattle.just_expressions.specs.Reading.{ahead}
 use Rattle.just_attribute_lines.specs.Reading.{another_at, attribute_at, attributes_at, follow_at}
 use Rattle.just_attribute_lines.specs.Seen.{AreWholeReads, read_shape}
 use Rattle.just_attribute_lines.proofs.Follow.{before}
-use Rattle.just_attribute_lines.proofs.attribute.attributes.Given as goal
+use Rattle.just_attribute_lines.proofs.attribute.read_all.Given as goal
 
 abbrev pub invariant-loop-attributes : goal.invariant-loop-attributes
 invariant-loop-attributes g l = record {

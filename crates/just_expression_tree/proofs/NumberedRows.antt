@@ -5,7 +5,7 @@ use Rattle.std.proofs.lemmas.List.{map-append}
 use Rattle.just_expression_tree.specs.declared.string_literal.StringLiteral.{StringLiteral}
 use Rattle.just_expression_tree.specs.declared.expression.Expression.{Expression}
 use Rattle.just_expression_tree.specs.Shape.{shape_of}
-use Rattle.just_tree.specs.Resolving.{IsNumbered, AreNumbered, AreInterpolationsNumbered, beside, numbers_of, variables_of, tokens_of, texts_of, literals_of}
+use Rattle.just_expression_tree.specs.Numbering.{IsNumbered, AreNumbered, AreInterpolationsNumbered, beside, numbers_of, variables_of, tokens_of, texts_of, literals_of}
 
 -- two views agree on two rows where they agree on each pair
 views_agree : {A B : Type 0} (f g : A → B) (old new : List A) → length new ≡ length old → ((k : ℕ) (d : A) → k < length old → f (get_or new k d) ≡ g (get_or old k d)) → map f new ≡ map g old

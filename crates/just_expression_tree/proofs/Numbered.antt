@@ -8,8 +8,8 @@ use Rattle.just_expression_tree.specs.declared.string_literal.StringLiteral.{Str
 use Rattle.just_expression_tree.specs.declared.operator.ConditionalOperator.{ConditionalOperator}
 use Rattle.just_expression_tree.specs.declared.expression.Expression.{Expression, the_lemmas}
 use Rattle.just_expression_tree.specs.declared.expression.Expression as e
-use Rattle.just_tree.specs.Resolving.{IsNumbered, IsNumberedIfThere, AreNumbered, AreInterpolationsNumbered}
-use Rattle.just_tree.proofs.NumberedRows.{numbers_of_row, numbers_of_interpolations}
+use Rattle.just_expression_tree.specs.Numbering.{IsNumbered, IsNumberedIfThere, AreNumbered, AreInterpolationsNumbered}
+use Rattle.just_expression_tree.proofs.NumberedRows.{numbers_of_row, numbers_of_interpolations}
 
 -- the numbers of two expressions, one behind the other
 two : (number : List ℕ → Option ℕ) (xs ys : List (List ℕ)) (ns ms : List (Option ℕ)) → ns ≡ map number xs → ms ≡ map number ys → ns ++ ms ≡ map number (xs ++ ys)

@@ -1,12 +1,12 @@
 -- The attribute is what its arguments make, and holds what their strings stand for.
 use Rattle.std.proofs.Common.{◌≡◌, Some, refl, ap, rules}
 use Rattle.just_attribute_lines.proofs.Making.{any_token, expressions_cooked, expressions_made, plain_cooked, strings_cooked, strings_made}
-use Rattle.just_attribute_lines.proofs.make.made.Goals.{in-Nothing, in-Strings, in-Expressions, in-Parameter+in_ok-options_of-in-Parameter}
-use Rattle.just_attribute_lines.proofs.make.made.Goals as goal
+use Rattle.just_attribute_lines.proofs.arguments.ArgumentsRead.made.Goals.{in-Nothing, in-Strings, in-Expressions, in-Parameter+in_ok-options_of-in-Parameter}
+use Rattle.just_attribute_lines.proofs.arguments.ArgumentsRead.made.Goals as goal
 
 pub returns-clause-shape : goal.returns-clause-shape
 returns-clause-shape c expansion cooked =
-    elim c.match-arguments.branch [
+    elim c.match-self.branch [
       | in-Nothing w ↦ search rules
       | in-Strings w ↦ let whole = strings_made w.with_strings.result w.in-Strings.first w.in-Strings.others w.with_strings.ensures.held in let told = rw w.with_strings.ensures.kind at whole in rw (w.in-Strings.is, w.result-is) (ap Some told)
       | in-Expressions w ↦
@@ -17,7 +17,7 @@ returns-clause-shape c expansion cooked =
 
 pub returns-clause-cooked : goal.returns-clause-cooked
 returns-clause-cooked c expansion cooked =
-    elim c.match-arguments.branch [
+    elim c.match-self.branch [
       | in-Nothing w ↦ rw w.result-is (plain_cooked expansion w.without_arguments.result c.args.kind w.without_arguments.ensures)
       | in-Strings w ↦ let held = rw w.in-Strings.is at cooked in rw w.result-is (strings_cooked expansion w.with_strings.result w.in-Strings.first w.in-Strings.others w.with_strings.ensures.held held.0 held.1)
       | in-Expressions w ↦
