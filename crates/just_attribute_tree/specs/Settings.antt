@@ -4,7 +4,7 @@ use Rattle.std.specs.List.{flat_map}
 use Rattle.just_expression_tree.specs.declared.expression.Expression.{Expression}
 use Rattle.just_attribute_tree.specs.declared.setting.Interpreter.{Interpreter}
 use Rattle.just_attribute_tree.specs.declared.setting.Setting.{Setting}
-use Rattle.just_attribute_tree.specs.declared.setting.Setting.TheVariants.{AllowDuplicateRecipes, AllowDuplicateVariables, DefaultList, DefaultScript, DotenvCommand, DotenvFilename, DotenvLoad, DotenvOverride, DotenvPath, DotenvRequired, Export, Fallback, Guards, IgnoreComments, Indentation, Lazy, Lists, MinimumVersion, NoCd, NoExitMessage, PositionalArguments, Quiet, ScriptInterpreter, Shell, Tempdir, Unstable, WindowsPowershell, WindowsShell, WorkingDirectory}
+use Rattle.just_attribute_tree.specs.declared.setting.Setting.TheVariants.{AllowDuplicateRecipes, AllowDuplicateVariables, DefaultList, DefaultScript, DotenvCommand, DotenvFilename, DotenvLoad, DotenvOverride, DotenvPath, DotenvRequired, Export, Fallback, Guards, IgnoreComments, Indentation, Lazy, Lists, MinimumVersion, NoCd, NoExitMessage, PositionalArguments, Quiet, ScriptInterpreter, ShareSubsequents, Shell, Tempdir, Unstable, WindowsPowershell, WindowsShell, WorkingDirectory}
 use Rattle.just_expression_tree.specs.Shape.{Shape, shape_of, written}
 use Rattle.just_expression_tree.specs.Printing.{text_of}
 
@@ -58,6 +58,7 @@ value_shape (NoExitMessage value) = truth value
 value_shape (PositionalArguments value) = truth value
 value_shape (Quiet value) = truth value
 value_shape (ScriptInterpreter value) = interpreter (interpreter_shape value)
+value_shape (ShareSubsequents value) = truth value
 value_shape (Shell value) = interpreter (interpreter_shape value)
 value_shape (Tempdir value) = expression (shape_of value)
 value_shape (Unstable value) = truth value

@@ -59,6 +59,7 @@ pub enum Setting<'src> {
     PositionalArguments(bool),
     Quiet(bool),
     ScriptInterpreter(Interpreter<Expression<'src>>),
+    ShareSubsequents(bool),
     Shell(Interpreter<Expression<'src>>),
     Tempdir(Expression<'src>),
     Unstable(bool),
@@ -87,6 +88,7 @@ impl Drop for Setting<'_> {
             | Setting::NoExitMessage(_value)
             | Setting::PositionalArguments(_value)
             | Setting::Quiet(_value)
+            | Setting::ShareSubsequents(_value)
             | Setting::Unstable(_value)
             | Setting::WindowsPowershell(_value) => {}
             Setting::DotenvCommand(_value)
@@ -125,6 +127,7 @@ impl fmt::Display for Setting<'_> {
             | Setting::NoExitMessage(value)
             | Setting::PositionalArguments(value)
             | Setting::Quiet(value)
+            | Setting::ShareSubsequents(value)
             | Setting::Unstable(value)
             | Setting::WindowsPowershell(value) => fmt::Display::fmt(value, f),
             Setting::DotenvCommand(value)

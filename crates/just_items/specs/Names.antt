@@ -2,7 +2,7 @@
 use Rattle.std.specs.Prelude.{ℕ, List, [], ◌∷◌, Option, Some, None, codes, if◌then◌else◌}
 use Rattle.std.specs.Str.{bytes_eq}
 use Rattle.just_attribute_tree.specs.declared.setting.Setting.{Setting}
-use Rattle.just_attribute_tree.specs.declared.setting.Setting.TheVariants.{AllowDuplicateRecipes, AllowDuplicateVariables, DefaultList, DefaultScript, DotenvCommand, DotenvFilename, DotenvLoad, DotenvOverride, DotenvPath, DotenvRequired, Export, Fallback, Guards, IgnoreComments, Indentation as IndentationSetting, Lazy, Lists, MinimumVersion, NoCd, NoExitMessage, PositionalArguments, Quiet, ScriptInterpreter, Shell, Tempdir, Unstable, WindowsPowershell, WindowsShell, WorkingDirectory}
+use Rattle.just_attribute_tree.specs.declared.setting.Setting.TheVariants.{AllowDuplicateRecipes, AllowDuplicateVariables, DefaultList, DefaultScript, DotenvCommand, DotenvFilename, DotenvLoad, DotenvOverride, DotenvPath, DotenvRequired, Export, Fallback, Guards, IgnoreComments, Indentation as IndentationSetting, Lazy, Lists, MinimumVersion, NoCd, NoExitMessage, PositionalArguments, Quiet, ScriptInterpreter, ShareSubsequents, Shell, Tempdir, Unstable, WindowsPowershell, WindowsShell, WorkingDirectory}
 use Rattle.just_items.specs.declared.form.Form.{Form}
 use Rattle.just_items.specs.declared.form.Form.TheVariants.{Indentation, Interpreter, Truth, Value, Version}
 
@@ -31,6 +31,7 @@ setting_name (NoExitMessage value) = codes "no-exit-message"
 setting_name (PositionalArguments value) = codes "positional-arguments"
 setting_name (Quiet value) = codes "quiet"
 setting_name (ScriptInterpreter value) = codes "script-interpreter"
+setting_name (ShareSubsequents value) = codes "share-subsequents"
 setting_name (Shell value) = codes "shell"
 setting_name (Tempdir value) = codes "tempdir"
 setting_name (Unstable value) = codes "unstable"
@@ -64,6 +65,7 @@ forms =
     (codes "positional-arguments", Truth) ∷
     (codes "quiet", Truth) ∷
     (codes "script-interpreter", Interpreter) ∷
+    (codes "share-subsequents", Truth) ∷
     (codes "shell", Interpreter) ∷
     (codes "tempdir", Value) ∷
     (codes "unstable", Truth) ∷

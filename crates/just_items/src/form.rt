@@ -45,6 +45,7 @@ pub fn form_named(name: &str) -> Option<Form>
         "positional-arguments" => Some(Form::Truth),
         "quiet" => Some(Form::Truth),
         "script-interpreter" => Some(Form::Interpreter),
+        "share-subsequents" => Some(Form::Truth),
         "shell" => Some(Form::Interpreter),
         "tempdir" => Some(Form::Value),
         "unstable" => Some(Form::Truth),

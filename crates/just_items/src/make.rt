@@ -35,6 +35,7 @@ pub(crate) fn truth_setting<'src>(name: &str, value: bool) -> Setting<'src>
         "no-exit-message" => Setting::NoExitMessage(value),
         "positional-arguments" => Setting::PositionalArguments(value),
         "quiet" => Setting::Quiet(value),
+        "share-subsequents" => Setting::ShareSubsequents(value),
         "unstable" => Setting::Unstable(value),
         "windows-powershell" => Setting::WindowsPowershell(value),
         _ => unreachable!(),

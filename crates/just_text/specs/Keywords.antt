@@ -1,7 +1,7 @@
 -- The words that the grammar knows.
 use Rattle.std.specs.Prelude.{ℕ, List, codes}
 use Rattle.just_text.specs.declared.keyword.Keyword.{Keyword}
-use Rattle.just_text.specs.declared.keyword.Keyword.TheVariants.{Alias, AllowDuplicateRecipes, AllowDuplicateVariables, Assert, DefaultList, DefaultScript, DotenvCommand, DotenvFilename, DotenvLoad, DotenvOverride, DotenvPath, DotenvRequired, Eager, Else, Export, F, Fallback, False, Guards, If, IgnoreComments, Import, Indentation, Lazy, Lists, MinimumVersion, Mod, NoCd, NoExitMessage, PositionalArguments, Quiet, ScriptInterpreter, Set, Shell, Tempdir, True, Unexport, Unstable, WindowsPowershell, WindowsShell, WorkingDirectory, X}
+use Rattle.just_text.specs.declared.keyword.Keyword.TheVariants.{Alias, AllowDuplicateRecipes, AllowDuplicateVariables, Assert, DefaultList, DefaultScript, DotenvCommand, DotenvFilename, DotenvLoad, DotenvOverride, DotenvPath, DotenvRequired, Eager, Else, Export, F, Fallback, False, Guards, If, IgnoreComments, Import, Indentation, Lazy, Lists, MinimumVersion, Mod, NoCd, NoExitMessage, PositionalArguments, Quiet, ScriptInterpreter, Set, ShareSubsequents, Shell, Tempdir, True, Unexport, Unstable, WindowsPowershell, WindowsShell, WorkingDirectory, X}
 
 -- a keyword as it is written
 abbrev pub keyword_text : Keyword → List ℕ
@@ -38,6 +38,7 @@ keyword_text PositionalArguments = codes "positional-arguments"
 keyword_text Quiet = codes "quiet"
 keyword_text ScriptInterpreter = codes "script-interpreter"
 keyword_text Set = codes "set"
+keyword_text ShareSubsequents = codes "share-subsequents"
 keyword_text Shell = codes "shell"
 keyword_text Tempdir = codes "tempdir"
 keyword_text True = codes "true"
