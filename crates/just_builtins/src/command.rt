@@ -8,37 +8,35 @@ ghost use Rattle.just_builtins.specs.Asking.{Asks};
 use crate::asked::ask_text;
 use crate::context::ExecutionContext;
 use just_functions::JobEnvironment;
-use just_host::{CommandJob, Host, HostFault, Pair, Question, Recorded};
+use just_host::{CommandJob, Host, HostFault, JobTemplate, Pair, Question, Recorded, Shared};
 use just_text::{Sequence, Text};
 use just_value::Scope;
 use std::alloc::{AllocError, Global};
 
-/// The job that hands the command to the module's shell, in this folder, with the environment of
-/// the frames around the scope's innermost one. Refused only where memory is.
-pub fn line_job(
+/// What commands in this folder have in common: the module's shell, these words, and the
+/// environment of the frames around the scope's innermost one. Refused only where memory is.
+pub fn job_template(
     alloc: Global,
     context: &ExecutionContext,
     env: &[Pair],
     scope: &Scope,
     folder: Option<&str>,
-    command: &str,
     positional: &[String],
-) -> Result<CommandJob, AllocError>
-    ensures shell { IfOk result (λ job. job.shell ≡ shell_words (option_map string_bytes context.now.config.now.shell) (option_map (λ arguments. map string_bytes arguments.items) context.now.config.now.shell_args) (option_map (λ i. i.command ∷ i.arguments.items) context.now.module.now.settings.now.shell)) }
-    ensures command { IfOk result (λ job. job.command ≡ command.now) }
-    ensures positional { IfOk result (λ job. job.positional ≡ map string_bytes positional.now) }
-    ensures folder { IfOk result (λ job. job.folder ≡ option_map (λ f. f.now) folder.entry) }
-    ensures quiet { IfOk result (λ job. job.quiet ≡ context.now.config.now.quiet) }
-    ensures environment { IfOk result (λ job. IsEnvironmentIn context.now env.now scope.now job.pairs job.removed) }
+) -> Result<JobTemplate, AllocError>
+    ensures shell { IfOk result (λ template. template.shell ≡ shell_words (option_map string_bytes context.now.config.now.shell) (option_map (λ arguments. map string_bytes arguments.items) context.now.config.now.shell_args) (option_map (λ i. i.command ∷ i.arguments.items) context.now.module.now.settings.now.shell)) }
+    ensures positional { IfOk result (λ template. template.positional ≡ map string_bytes positional.now) }
+    ensures folder { IfOk result (λ template. template.folder ≡ option_map (λ f. f.now) folder.entry) }
+    ensures quiet { IfOk result (λ template. template.quiet ≡ context.now.config.now.quiet) }
+    ensures environment { IfOk result (λ template. IsEnvironmentIn context.now env.now scope.now template.pairs template.removed) }
 {
     let JobEnvironment { pairs, removed } = context.job_environment(alloc, env, scope)?;
-    Ok(CommandJob {
-        shell: context.module.settings.shell(alloc, context.config)?,
-        command: Text::from_text(alloc, command)?,
-        positional: copied(alloc, positional)?,
-        pairs,
-        removed,
-        folder: optional(alloc, folder)?,
+    let shell = context.module.settings.shell(alloc, context.config)?;
+    Ok(JobTemplate {
+        shell: Shared::new(alloc, shell)?,
+        positional: Shared::new(alloc, copied(alloc, positional)?)?,
+        pairs: Shared::new(alloc, pairs)?,
+        removed: Shared::new(alloc, removed)?,
+        folder: Shared::new(alloc, optional(alloc, folder)?)?,
         quiet: context.config.quiet,
     })
 }
@@ -73,7 +71,8 @@ fn expression_job(
 ) -> Result<CommandJob, AllocError> {
     let folder = context.working_directory(alloc)?;
     let folder = Some(folder.as_str());
-    line_job(alloc, context, env, scope, folder, command, positional)
+    let template = job_template(alloc, context, env, scope, folder, positional)?;
+    template.job(Text::from_text(alloc, command)?)
 }
 
 /// The text without one line end at its end.

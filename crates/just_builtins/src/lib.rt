@@ -15,7 +15,7 @@ pub mod site;
 mod variable;
 
 pub use call::call_builtin;
-pub use command::{command_output, line_job, run_command};
+pub use command::{command_output, job_template, run_command};
 pub use context::{AssignmentRef, ExecutionContext, FunctionRef, ModuleView, find_function};
 pub use error::Error;
 pub use just_functions::{

@@ -1,6 +1,7 @@
 //! The commands, the scripts and the files of variables that a run asks for.
-ghost use Rattle.std.specs.Prelude.{◌≡◌};
+ghost use Rattle.std.specs.Prelude.{◌≡◌, IfOk};
 
+use crate::shared::Shared;
 use just_text::{Sequence, Text};
 use std::alloc::AllocError;
 
@@ -11,20 +12,37 @@ pub struct Pair {
     pub value: Text,
 }
 
+/// What the commands of a body have in common: a job but for its command.
+#[derive(Drop)]
+pub struct JobTemplate {
+    /// The shell and its words, which a command stands behind.
+    pub shell: Shared<Sequence<Text>>,
+    /// The words behind a command.
+    pub positional: Shared<Sequence<Text>>,
+    /// The variables of the environment, of which a later one of a name counts.
+    pub pairs: Shared<Sequence<Pair>>,
+    /// The names that the environment lacks.
+    pub removed: Shared<Sequence<Text>>,
+    /// The folder that a command runs in, where one is given.
+    pub folder: Shared<Option<Text>>,
+    /// Whether what a command prints is dropped: of an event all, of a question its errors.
+    pub quiet: bool,
+}
+
 /// A command, with what it runs under.
 #[derive(Drop)]
 pub struct CommandJob {
     /// The shell and its words, which the command stands behind.
-    pub shell: Sequence<Text>,
+    pub shell: Shared<Sequence<Text>>,
     pub command: Text,
     /// The words behind the command.
-    pub positional: Sequence<Text>,
+    pub positional: Shared<Sequence<Text>>,
     /// The variables of the environment, of which a later one of a name counts.
-    pub pairs: Sequence<Pair>,
+    pub pairs: Shared<Sequence<Pair>>,
     /// The names that the environment lacks.
-    pub removed: Sequence<Text>,
+    pub removed: Shared<Sequence<Text>>,
     /// The folder that the command runs in, where one is given.
-    pub folder: Option<Text>,
+    pub folder: Shared<Option<Text>>,
     /// Whether what the command prints is dropped: of an event all, of a question its errors.
     pub quiet: bool,
 }
@@ -78,10 +96,35 @@ impl Clone for Pair {
     }
 }
 
+impl JobTemplate {
+    /// The job of the command, which shares what it runs under with the template. Refused only
+    /// where memory is.
+    pub fn job(&self, command: Text) -> Result<CommandJob, AllocError>
+        ensures { IfOk result (λ job. job ≡ record { shell = self.now.shell; command = command; positional = self.now.positional; pairs = self.now.pairs; removed = self.now.removed; folder = self.now.folder; quiet = self.now.quiet }) }
+    {
+        let JobTemplate {
+            shell,
+            positional,
+            pairs,
+            removed,
+            folder,
+            quiet,
+        } = self;
+        Ok(CommandJob {
+            shell: shell.clone()?,
+            command,
+            positional: positional.clone()?,
+            pairs: pairs.clone()?,
+            removed: removed.clone()?,
+            folder: folder.clone()?,
+            quiet: *quiet,
+        })
+    }
+}
+
 impl Clone for CommandJob {
     ghost is_clone = { λ s t. t ≡ s };
 
-    #[tactic(auto, using(crate::proofs::Cloned::same_elements))]
     fn clone(&self) -> Result<CommandJob, AllocError> {
         Ok(CommandJob {
             shell: self.shell.clone()?,

@@ -6,9 +6,11 @@ pub mod entry;
 pub mod host;
 pub mod job;
 pub mod recorded;
+pub mod shared;
 
 pub use config::Config;
 pub use entry::Entry;
 pub use host::{Answer, Confirmation, Host, HostFault, MachineFact, Question, RunHost, Status};
-pub use job::{CommandJob, DotenvRequest, Pair, ScriptJob};
+pub use job::{CommandJob, DotenvRequest, JobTemplate, Pair, ScriptJob};
 pub use recorded::Recorded;
+pub use shared::Shared;

@@ -20,7 +20,7 @@ pub use driver::{drive, run_file};
 pub use fault::Fault;
 pub use just_host::{
     Answer, CommandJob, Config, Confirmation, DotenvRequest, Entry, Host, HostFault, MachineFact,
-    Pair, Question, Recorded, RunHost, ScriptJob, Status,
+    Pair, Question, Recorded, RunHost, ScriptJob, Shared, Status,
 };
 pub use just_value::{Override, Positional};
 pub use order::{Order, OrderFault, Planned};

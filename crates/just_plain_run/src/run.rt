@@ -14,7 +14,7 @@ ghost use Rattle.just_plain_run.specs.declared.run.RunFault.TheVariants.{OutOfMe
 use crate::frame::Frame;
 use crate::order::Planned;
 use crate::stack::Stack;
-use just_host::{CommandJob, Config, Recorded, RunHost, Status};
+use just_host::{CommandJob, Config, Recorded, RunHost, Shared, Status};
 use justfile_syntax::plain_files::Line;
 use justfile_syntax::{Name, Sequence, Text};
 use std::alloc::{AllocError, AllocFailed, Global};
@@ -75,13 +75,14 @@ fn shell(alloc: Global, config: &Config) -> Result<Sequence<Text>, AllocError>
 fn make_job(alloc: Global, config: &Config, command: &str) -> Result<CommandJob, AllocError>
     ensures { IfOk result (λ job. job ≡ job_of (setup_of config.now) command.now) }
 {
+    let folder = Text::from_text(alloc, config.working_directory.as_str())?;
     Ok(CommandJob {
-        shell: shell(alloc, config)?,
+        shell: Shared::new(alloc, shell(alloc, config)?)?,
         command: Text::from_text(alloc, command)?,
-        positional: Sequence::new(alloc),
-        pairs: Sequence::new(alloc),
-        removed: Sequence::new(alloc),
-        folder: Some(Text::from_text(alloc, config.working_directory.as_str())?),
+        positional: Shared::new(alloc, Sequence::new(alloc))?,
+        pairs: Shared::new(alloc, Sequence::new(alloc))?,
+        removed: Shared::new(alloc, Sequence::new(alloc))?,
+        folder: Shared::new(alloc, Some(folder))?,
         quiet: config.quiet,
     })
 }

@@ -12,7 +12,7 @@ pub use driver::drive;
 pub use fault::Fault;
 pub use just_host::{
     Answer, CommandJob, Config, Confirmation, DotenvRequest, Entry, Host, HostFault, MachineFact,
-    Pair, Question, Recorded, RunHost, ScriptJob, Status,
+    Pair, Question, Recorded, RunHost, ScriptJob, Shared, Status,
 };
 pub use just_plain_run::{Collected, Device, Out, WriteFailed, write_all};
 pub use just_tasks::CommandFault;

@@ -4,7 +4,7 @@ ghost use Rattle.just_builtins.specs.Asking.{Asks};
 use crate::fault::{CommandFault, TaskFault};
 use crate::task::Performed;
 use just_builtins::{ExecutionContext, JobEnvironment};
-use just_host::{CommandJob, Recorded, RunHost, Status};
+use just_host::{CommandJob, Recorded, RunHost, Shared, Status};
 use just_text::{Sequence, Text};
 use std::alloc::{AllocError, Global};
 
@@ -26,20 +26,20 @@ fn job(
     let scope = context.scope.child(alloc)?;
     let JobEnvironment { pairs, removed } = context.job_environment(alloc, &[], &scope)?;
     drop(scope);
-    let positional = copied(alloc, words)?;
-    let folder = context.working_directory(alloc)?;
+    let folder = Text::from_string(context.working_directory(alloc)?);
     Ok(CommandJob {
-        shell: Sequence::new(alloc),
+        shell: Shared::new(alloc, Sequence::new(alloc))?,
         command: command.clone()?,
-        positional,
-        pairs,
-        removed,
-        folder: Some(Text::from_string(folder)),
+        positional: Shared::new(alloc, copied(alloc, words)?)?,
+        pairs: Shared::new(alloc, pairs)?,
+        removed: Shared::new(alloc, removed)?,
+        folder: Shared::new(alloc, Some(folder))?,
         quiet: context.config.quiet,
     })
 }
 
-/// What came of the command.
+/// What came of the command. Nothing is to be said of a code or a signal where the setting
+/// `no-exit-message` is true.
 fn ended<'src>(
     context: &ExecutionContext,
     command: &Text,
@@ -51,7 +51,7 @@ fn ended<'src>(
     Err(TaskFault::Command(CommandFault {
         word: command.clone()?,
         status,
-        is_silent: context.module.settings.no_exit_message,
+        is_silent: context.module.settings.no_exit_message && status != Status::NotStarted,
     }))
 }
 

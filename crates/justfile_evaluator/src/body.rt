@@ -4,9 +4,10 @@ ghost use Rattle.just_builtins.specs.Asking.{Asks};
 use crate::fault::RunFault;
 use crate::script::run_script;
 use crate::site::{Site, folder_of, judge};
-use just_builtins::{Error, line_job};
+use just_builtins::{Error, job_template};
 use just_evaluation::Evaluator;
-use just_host::{CommandJob, Recorded, RunHost};
+use just_host::{CommandJob, JobTemplate, Recorded, RunHost};
+use just_text::Text;
 use just_tree::{Line, Sigils};
 use std::alloc::{AllocError, Global};
 
@@ -60,6 +61,40 @@ impl Command {
     }
 }
 
+/// How far a body ran.
+#[derive(Drop)]
+struct Progress {
+    command: Command,
+    /// What the body's commands have in common, once one was handed over.
+    template: Option<JobTemplate>,
+}
+
+impl Progress {
+    fn new(alloc: Global) -> Progress {
+        Progress {
+            command: Command::new(alloc),
+            template: None,
+        }
+    }
+
+    /// Takes out what the commands have in common, which the first of them makes.
+    fn take_template(&mut self, alloc: Global, site: &Site) -> Result<JobTemplate, AllocError> {
+        match self.template.take() {
+            Some(template) => Ok(template),
+            None => job_template_of(alloc, site),
+        }
+    }
+
+    /// What is handed over for the command.
+    fn job(&mut self, alloc: Global, site: &Site) -> Result<CommandJob, AllocError> {
+        let template = self.take_template(alloc, site)?;
+        let command = Text::from_text(alloc, self.command.behind_sigils())?;
+        let job = template.job(command)?;
+        self.template = Some(template);
+        Ok(job)
+    }
+}
+
 /// The words that a line's command gets, of which the first is the recipe's name.
 fn line_words(alloc: Global, site: &Site) -> Result<Vec<String>, AllocError> {
     let mut words = Vec::new(alloc);
@@ -73,45 +108,43 @@ fn line_words(alloc: Global, site: &Site) -> Result<Vec<String>, AllocError> {
     Ok(words)
 }
 
-/// What is handed over for a command in this folder.
-fn job_in(
+/// What the body's commands have in common in this folder.
+fn job_template_in(
     alloc: Global,
     site: &Site,
     folder: Option<&str>,
-    command: &str,
-) -> Result<CommandJob, AllocError> {
+) -> Result<JobTemplate, AllocError> {
     let words = line_words(alloc, site)?;
-    line_job(
+    job_template(
         alloc,
         site.context,
         site.env,
         site.scope,
         folder,
-        command,
         words.as_slice(),
     )
 }
 
-/// What is handed over for a command.
-fn job(alloc: Global, site: &Site, command: &str) -> Result<CommandJob, AllocError> {
+/// What the body's commands have in common.
+fn job_template_of(alloc: Global, site: &Site) -> Result<JobTemplate, AllocError> {
     match folder_of(alloc, site.context, site.attributes)? {
-        Some(folder) => job_in(alloc, site, Some(folder.as_str()), command),
-        None => job_in(alloc, site, None, command),
+        Some(folder) => job_template_in(alloc, site, Some(folder.as_str())),
+        None => job_template_in(alloc, site, None),
     }
 }
 
-/// Hands a command over; whether the body goes on.
+/// Hands the command over; whether the body goes on.
 fn hand_over<'src, H: RunHost + Drop>(
     alloc: Global,
     host: &mut Recorded<H>,
     site: &Site<'_, 'src>,
-    command: &str,
-    sigils: Sigils,
+    progress: &mut Progress,
 ) -> Result<bool, RunFault<'src>>
     ensures asks { Asks H.goes host.old host.new }
 {
-    let job = job(alloc, site, command)?;
+    let job = progress.job(alloc, site)?;
     let status = host.line(&job);
+    let sigils = progress.command.sigils;
     judge(site.name, status, sigils, site.manner.is_silent)
 }
 
@@ -125,24 +158,24 @@ fn show<H: RunHost + Drop>(host: &mut Recorded<H>, site: &Site, command: &str, i
     }
 }
 
-/// Shows a command and hands it over; whether the body goes on.
+/// Shows the command and hands it over; whether the body goes on.
 fn run_line<'src, H: RunHost + Drop>(
     alloc: Global,
     host: &mut Recorded<H>,
     site: &Site<'_, 'src>,
-    command: &Command,
+    progress: &mut Progress,
 ) -> Result<bool, RunFault<'src>>
     ensures asks { Asks H.goes host.old host.new }
 {
-    let text = command.behind_sigils();
+    let text = progress.command.behind_sigils();
     if text.is_empty() {
         return Ok(true);
     }
-    show(host, site, text, command.sigils.quiet);
+    show(host, site, text, progress.command.sigils.quiet);
     if site.context.config.dry_run {
         return Ok(true);
     }
-    hand_over(alloc, host, site, text, command.sigils)
+    hand_over(alloc, host, site, progress)
 }
 
 /// Evaluates a line and puts it to the command.
@@ -166,21 +199,21 @@ fn turn_line<'src, H: RunHost + Drop>(
     host: &mut Recorded<H>,
     evaluator: &Evaluator<'_, 'src>,
     site: &Site<'_, 'src>,
-    command: &mut Command,
+    progress: &mut Progress,
     line: &Line<'src>,
 ) -> Result<bool, RunFault<'src>>
     ensures asks { Asks H.goes host.old host.new }
 {
     let guards = site.context.module.settings.guards;
     let skips = site.context.module.settings.ignore_comments;
-    if !command.is_open && skips && line.is_comment() {
+    if !progress.command.is_open && skips && line.is_comment() {
         return Ok(true);
     }
-    read_line(alloc, host, evaluator, command, line, guards)?;
-    if command.is_open {
+    read_line(alloc, host, evaluator, &mut progress.command, line, guards)?;
+    if progress.command.is_open {
         return Ok(true);
     }
-    run_line(alloc, host, site, &*command)
+    run_line(alloc, host, site, progress)
 }
 
 /// Runs the lines of a body in order, up to the first that fails or a guard that ends it.
@@ -193,14 +226,14 @@ fn run_lines<'src, H: RunHost + Drop>(
 ) -> Result<(), RunFault<'src>>
     ensures asks { Asks H.goes host.old host.new }
 {
-    let mut command = Command::new(alloc);
+    let mut progress = Progress::new(alloc);
     for line in body {
-        if !turn_line(alloc, host, evaluator, site, &mut command, line)? {
+        if !turn_line(alloc, host, evaluator, site, &mut progress, line)? {
             return Ok(());
         }
     }
-    if command.is_open {
-        let _goes_on = run_line(alloc, host, site, &command)?;
+    if progress.command.is_open {
+        let _goes_on = run_line(alloc, host, site, &mut progress)?;
     }
     Ok(())
 }

@@ -17,12 +17,12 @@ pub use const_evaluator::{ConstEvaluator, evaluate_const_assignments};
 pub use fault::RunFault;
 pub use just_builtins::{
     ArgumentCount, AssignmentRef, Error, ExecutionContext, Function, FunctionRef, ModuleView,
-    Settings, find_function, line_job, run_command,
+    Settings, find_function, job_template, run_command,
 };
 pub use just_evaluation::Evaluator;
 pub use just_host::{
-    Answer, CommandJob, Config, Confirmation, DotenvRequest, Entry, Host, HostFault, MachineFact,
-    Pair, Question, Recorded, RunHost, ScriptJob, Status,
+    Answer, CommandJob, Config, Confirmation, DotenvRequest, Entry, Host, HostFault, JobTemplate,
+    MachineFact, Pair, Question, Recorded, RunHost, ScriptJob, Shared, Status,
 };
 pub use just_value::{
     Bindings, Bound, CONSTANT_COUNT, ConstError, ConstEvalError, Enclosure, Frame, List, Override,

@@ -8,8 +8,8 @@ ghost use Rattle.just_host.specs.declared.host.Status.{Status};
 ghost use Rattle.just_host.specs.declared.host.Confirmation.{Confirmation};
 
 use just_host::{
-    Answer, CommandJob, Confirmation, DotenvRequest, Entry, Host, HostFault, Pair, Question,
-    Recorded, RunHost, ScriptJob, Status,
+    Answer, CommandJob, Confirmation, DotenvRequest, Entry, Host, HostFault, JobTemplate, Pair,
+    Question, Recorded, RunHost, ScriptJob, Shared, Status,
 };
 use just_text::{Sequence, Text};
 use std::alloc::{AllocError, Global};
@@ -156,16 +156,16 @@ fn text(alloc: Global, text: &str) -> Text {
     }
 }
 
-fn command_job(alloc: Global) -> CommandJob {
-    CommandJob {
-        shell: Sequence::new(alloc),
-        command: text(alloc, "make"),
-        positional: Sequence::new(alloc),
-        pairs: Sequence::new(alloc),
-        removed: Sequence::new(alloc),
-        folder: None,
+fn command_job(alloc: Global) -> Result<CommandJob, AllocError> {
+    let template = JobTemplate {
+        shell: Shared::new(alloc, Sequence::new(alloc))?,
+        positional: Shared::new(alloc, Sequence::new(alloc))?,
+        pairs: Shared::new(alloc, Sequence::new(alloc))?,
+        removed: Shared::new(alloc, Sequence::new(alloc))?,
+        folder: Shared::new(alloc, None)?,
         quiet: true,
-    }
+    };
+    template.job(text(alloc, "make"))
 }
 
 fn script_job(alloc: Global) -> ScriptJob {
@@ -199,7 +199,7 @@ fn boxed<T: Drop>(alloc: Global, value: T) -> Result<Box<T>, AllocError> {
 fn one_of_each(alloc: Global) -> Result<Box<Asking>, AllocError> {
     let asking = Asking {
         question: Question::Environment(text(alloc, "HOME")),
-        line: command_job(alloc),
+        line: command_job(alloc)?,
         script: script_job(alloc),
         request: dotenv_request(alloc),
     };
