@@ -44,6 +44,8 @@ pub struct Settings {
     pub positional_arguments: bool,
     pub quiet: bool,
     pub script_interpreter: Option<Interpreter<Text>>,
+    /// Whether the subsequents of the module's recipes pass over the calls that were done before.
+    pub share_subsequents: bool,
     pub shell: Option<Interpreter<Text>>,
     pub tempdir: Option<Text>,
     pub unstable: bool,
@@ -78,6 +80,7 @@ impl Settings {
             positional_arguments: false,
             quiet: false,
             script_interpreter: None,
+            share_subsequents: false,
             shell: None,
             tempdir: None,
             unstable: false,

@@ -4,7 +4,7 @@ ghost use Rattle.just_builtins.specs.Asking.{Asks};
 use just_host::{Config, Recorded, RunHost};
 use just_modules::{Compilation, ModuleNode};
 use just_resolve::{Analysis, ModuleVariables, ResolvedRecipe, collect_references, views};
-use just_runner::Planned;
+use just_runner::{Planned, Tally};
 use just_tasks::{Performed, Task, TaskContext, TaskFault, perform};
 use justfile_evaluator::{ModuleView, Settings};
 use justfile_syntax::Number;
@@ -155,7 +155,8 @@ fn perform_planned<'l, 'src, H: RunHost + Drop>(
 ) -> Result<Performed, TaskFault<'src>>
     ensures asks { Asks H.goes host.old host.new }
 {
-    perform(alloc, host, context, modules, &*recipes, task)
+    let mut tally = Tally::new();
+    perform(alloc, host, context, modules, &*recipes, task, &mut tally)
 }
 
 /// The same over recipes that are not yet planned.

@@ -16,7 +16,7 @@ pub(crate) struct Entered<'m, 'src> {
 }
 
 /// Calls in order; what follows a call's priors; and what follows its subsequents, with the calls
-/// that were done before those.
+/// that were done before those, unless the subsequents shared them.
 #[derive(Drop)]
 pub(crate) enum Frame<'m, 'src> {
     Calls {
@@ -29,6 +29,6 @@ pub(crate) enum Frame<'m, 'src> {
     },
     After {
         call: Call,
-        outer: Done,
+        outer: Option<Done>,
     },
 }

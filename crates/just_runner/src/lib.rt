@@ -11,9 +11,11 @@ mod opening;
 mod plan;
 mod running;
 mod stack;
+pub mod tally;
 
 pub use call::{Call, Done, Pending};
 pub use justfile_evaluator::RunFault;
 pub use opening::{Opened, Opening, open_modules};
 pub use plan::{Planned, Runner};
 pub use running::run_calls;
+pub use tally::Tally;

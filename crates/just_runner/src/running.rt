@@ -1,6 +1,7 @@
 //! The loop over what is still to do.
 ghost use Rattle.std.specs.Prelude.{◌≡◌, ◌<◌, ◌+◌, ◌∷◌, [], OnOk, IfOk};
 ghost use Rattle.just_runner.specs.Todo.{Calls, Body, After};
+ghost use Rattle.just_runner.specs.Tallies.{HasCounted};
 ghost use Rattle.just_runner.specs.Weight.{weight, AreBelow};
 ghost use Rattle.just_builtins.specs.Asking.{Asks};
 
@@ -9,6 +10,7 @@ use crate::enter::{begin, end, entered};
 use crate::frame::{Entered, Frame};
 use crate::plan::{Placed, Runner};
 use crate::stack::Stack;
+use crate::tally::Tally;
 use just_host::{Recorded, RunHost};
 use just_value::Value;
 use justfile_evaluator::RunFault;
@@ -123,22 +125,25 @@ fn push_entered<'m, 'src>(
 }
 
 /// Runs the first of the calls, unless it was done.
-#[tactic(auto, using(crate::proofs::Weights::passed, crate::proofs::Weights::chained, crate::proofs::Weights::entered))]
+#[tactic(auto, using(crate::proofs::Weights::passed, crate::proofs::Weights::chained, crate::proofs::Weights::entered, crate::proofs::Counts::met, crate::proofs::Counts::met_and_entered))]
 fn turn_calls<'m, 'src, H: RunHost + Drop>(
     alloc: Global,
     host: &mut Recorded<H>,
     runner: &Runner<'m, 'src>,
     stack: &mut Stack<'m, 'src>,
     done: &Done,
+    tally: &mut Tally,
     mut pending: Pending,
     are_dependencies: bool,
 ) -> Result<(), RunFault<'src>>
     ensures nearer { OnOk result (weight stack.new < weight (Calls pending ∷ stack.old)) }
+    ensures counted { HasCounted tally.old tally.new }
     ensures asks { Asks H.goes host.old host.new }
 {
     let Some(call) = pending.next() else {
         return Ok(());
     };
+    tally.meet();
     stack.push(Frame::Calls {
         pending,
         are_dependencies,
@@ -146,21 +151,56 @@ fn turn_calls<'m, 'src, H: RunHost + Drop>(
     if done.has(&call) {
         return Ok(());
     }
+    tally.enter();
     let (entered, priors) = enter(alloc, host, runner, &call, are_dependencies)?;
     Ok(push_entered(stack, call, entered, priors)?)
 }
 
-/// Puts the subsequents on the stack, before what follows them, with nothing done.
+/// Whether the subsequents of the recipe at the place share the table in which it runs itself, as the
+/// settings of its module say.
+fn shares_subsequents(runner: &Runner, place: usize) -> bool {
+    let recipes = runner.recipes;
+    let contexts = runner.contexts;
+    if place >= recipes.len() {
+        return false;
+    }
+    let module = recipes[place].module;
+    if module >= contexts.len() {
+        return false;
+    }
+    contexts[module].module.settings.share_subsequents
+}
+
+/// Leaves nothing done for subsequents, and gives the calls that were done; none where the subsequents
+/// share them.
+fn set_aside(alloc: Global, done: &mut Done, is_shared: bool) -> Option<Done> {
+    if is_shared {
+        return None;
+    }
+    Some(mem::replace(done, Done::new(alloc)))
+}
+
+/// The calls that were done before the subsequents are done again, and no other; all where none were
+/// set aside.
+fn restore(done: &mut Done, outer: Option<Done>) {
+    if let Some(outer) = outer {
+        let _inner = mem::replace(done, outer);
+    }
+}
+
+/// Puts the subsequents on the stack, before what follows them, with nothing done unless they share
+/// what was done.
 fn push_subsequents<'m, 'src>(
     alloc: Global,
     stack: &mut Stack<'m, 'src>,
     done: &mut Done,
     call: Call,
     subsequents: Pending,
+    is_shared: bool,
 ) -> Result<(), AllocError>
     ensures { OnOk result (stack.new ≡ Calls subsequents ∷ After call ∷ stack.old) }
 {
-    let outer = mem::replace(done, Done::new(alloc));
+    let outer = set_aside(alloc, done, is_shared);
     stack.push(Frame::After { call, outer })?;
     stack.push(Frame::Calls {
         pending: subsequents,
@@ -225,7 +265,8 @@ fn turn_body<'m, 'src, H: RunHost + Drop>(
     ensures asks { Asks H.goes host.old host.new }
 {
     let subsequents = leave(alloc, host, runner, call.recipe, entered)?;
-    Ok(push_subsequents(alloc, stack, done, call, subsequents)?)
+    let is_shared = shares_subsequents(runner, call.recipe);
+    Ok(push_subsequents(alloc, stack, done, call, subsequents, is_shared)?)
 }
 
 fn run_stack<'m, 'src, H: RunHost + Drop>(
@@ -234,7 +275,9 @@ fn run_stack<'m, 'src, H: RunHost + Drop>(
     runner: &Runner<'m, 'src>,
     stack: &mut Stack<'m, 'src>,
     done: &mut Done,
+    tally: &mut Tally,
 ) -> Result<(), RunFault<'src>>
+    ensures counted { HasCounted tally.old tally.new }
     ensures asks { Asks H.goes host.old host.new }
 {
     while let Some(frame) = stack.pop() {
@@ -248,6 +291,7 @@ fn run_stack<'m, 'src, H: RunHost + Drop>(
                 runner,
                 stack,
                 &*done,
+                tally,
                 pending,
                 are_dependencies,
             )?,
@@ -255,7 +299,7 @@ fn run_stack<'m, 'src, H: RunHost + Drop>(
                 turn_body(alloc, host, runner, stack, done, call, &entered)?;
             }
             Frame::After { call, outer } => {
-                let _inner = mem::replace(done, outer);
+                restore(done, outer);
                 done.join(call)?;
             }
         }
@@ -265,13 +309,17 @@ fn run_stack<'m, 'src, H: RunHost + Drop>(
 
 /// Runs the calls in order, with nothing done at first: of each that isn't done yet its parameters,
 /// its confirmation, what it depends on, its body, and what follows that, with nothing done at
-/// first. The first failure ends the run.
+/// first unless its module's settings share what is done with subsequents. The first failure ends the
+/// run. The tally counts each call that is met, and each that isn't done yet.
 pub fn run_calls<'m, 'src, H: RunHost + Drop>(
     alloc: Global,
     host: &mut Recorded<H>,
     runner: &Runner<'m, 'src>,
     calls: Vec<Call>,
+    tally: &mut Tally,
 ) -> Result<(), RunFault<'src>>
+    // No number falls, and no more calls are entered than met.
+    ensures counted { HasCounted tally.old tally.new }
     ensures asks { Asks H.goes host.old host.new }
 {
     let mut done = Done::new(alloc);
@@ -280,5 +328,5 @@ pub fn run_calls<'m, 'src, H: RunHost + Drop>(
         pending: Pending::new(calls),
         are_dependencies: false,
     })?;
-    run_stack(alloc, host, runner, &mut stack, &mut done)
+    run_stack(alloc, host, runner, &mut stack, &mut done, tally)
 }

@@ -6,7 +6,7 @@ use crate::fault::TaskFault;
 use crate::task::{Performed, Task, TaskContext};
 use just_builtins::{ExecutionContext, ModuleView};
 use just_host::{Config, Recorded, RunHost};
-use just_runner::{Call, Opened, Opening, Planned, Runner, open_modules, run_calls};
+use just_runner::{Call, Opened, Opening, Planned, Runner, Tally, open_modules, run_calls};
 use just_text::{Number, Text};
 use just_value::Scope;
 use justfile_analyzer::{EvaluationTarget, variables_text};
@@ -59,11 +59,12 @@ fn run<'a, 'src, H: RunHost + Drop>(
     recipes: &'a [Planned<'a, 'src>],
     contexts: &'a [ExecutionContext<'a, 'src>],
     calls: Vec<Call>,
+    tally: &mut Tally,
 ) -> Result<Performed, TaskFault<'src>>
     ensures asks { Asks H.goes host.old host.new }
 {
     let runner = Runner { recipes, contexts };
-    run_calls(alloc, host, &runner, calls)?;
+    run_calls(alloc, host, &runner, calls, tally)?;
     Ok(Performed::Ran)
 }
 
@@ -140,11 +141,12 @@ fn perform_in<'a, 'src, H: RunHost + Drop>(
     recipes: &'a [Planned<'a, 'src>],
     contexts: &'a [ExecutionContext<'a, 'src>],
     task: Task,
+    tally: &mut Tally,
 ) -> Result<Performed, TaskFault<'src>>
     ensures asks { Asks H.goes host.old host.new }
 {
     match task {
-        Task::Run(calls) => run(alloc, host, recipes, contexts, calls),
+        Task::Run(calls) => run(alloc, host, recipes, contexts, calls, tally),
         Task::Evaluate(target) => evaluate(alloc, contexts, target),
         Task::Command(words) => command(alloc, host, contexts, words),
     }
@@ -159,6 +161,7 @@ fn perform_opened<'a, 'src, H: RunHost + Drop>(
     opened: &'a [Opened<'a, 'src>],
     recipes: &'a [Planned<'a, 'src>],
     task: Task,
+    tally: &mut Tally,
 ) -> Result<Performed, TaskFault<'src>>
     ensures asks { Asks H.goes host.old host.new }
 {
@@ -170,7 +173,7 @@ fn perform_opened<'a, 'src, H: RunHost + Drop>(
         context.overrides,
         context.root,
     )?;
-    perform_in(alloc, host, recipes, contexts.as_slice(), task)
+    perform_in(alloc, host, recipes, contexts.as_slice(), task, tally)
 }
 
 /// What all modules open with.
@@ -196,6 +199,7 @@ fn perform_inside<'src, H: RunHost + Drop>(
     recipes: &[Planned<'_, 'src>],
     constants: &Scope<'_, 'src>,
     task: Task,
+    tally: &mut Tally,
 ) -> Result<Performed, TaskFault<'src>>
     ensures asks { Asks H.goes host.old host.new }
 {
@@ -209,12 +213,13 @@ fn perform_inside<'src, H: RunHost + Drop>(
         opened.as_slice(),
         recipes,
         task,
+        tally,
     )
 }
 
 /// Opens these modules, of which the root is the first, in the context's order, and does the task
 /// over the recipes, each of which stands behind those that it depends on. The first fault ends it,
-/// and nothing else is asked behind it.
+/// and nothing else is asked behind it. The tally counts the calls that a run meets and enters.
 ///
 /// # Errors
 ///
@@ -227,10 +232,13 @@ pub fn perform<'src, H: RunHost + Drop>(
     modules: &[ModuleView<'_, 'src>],
     recipes: &[Planned<'_, 'src>],
     task: Task,
+    tally: &mut Tally,
 ) -> Result<Performed, TaskFault<'src>>
     // The record has grown by just what was asked, and the host went along by it.
     ensures asks { Asks H.goes host.old host.new }
 {
     let constants = Scope::root(alloc)?;
-    perform_inside(alloc, host, context, modules, recipes, &constants, task)
+    perform_inside(
+        alloc, host, context, modules, recipes, &constants, task, tally,
+    )
 }

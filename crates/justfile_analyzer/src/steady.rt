@@ -3,7 +3,7 @@ use crate::calls::references_ask;
 use just_analysis::{ModuleLists, ResolvedRecipe};
 use just_attribute_tree::Attribute;
 use just_attributes::AttributeSet;
-use just_builtins::FunctionRef;
+use just_builtins::{FunctionRef, Settings};
 use just_compilation::{Compilation, Place};
 use just_references::References;
 use just_tree::{DependencyArgument, Parameter, Recipe, UnresolvedDependency};
@@ -63,36 +63,52 @@ fn add_arguments<'src>(
     Ok(())
 }
 
-fn add_priors<'src>(
+fn add_dependencies<'src>(
     references: &mut References<'src>,
-    priors: &[UnresolvedDependency<'src>],
+    dependencies: &[UnresolvedDependency<'src>],
 ) -> Result<(), AllocError> {
-    for dependency in priors {
+    for dependency in dependencies {
         add_arguments(references, dependency.arguments.as_slice())?;
     }
     Ok(())
 }
 
 /// Adds what is evaluated before the recipe's body.
-fn add_recipe<'src>(
+fn add_front<'src>(
     references: &mut References<'src>,
     recipe: &Recipe<'src, UnresolvedDependency<'src>>,
 ) -> Result<(), AllocError> {
     add_attributes(references, &recipe.attributes)?;
     add_parameters(references, recipe.parameters.as_slice())?;
-    add_priors(references, recipe.priors.as_slice())
+    add_dependencies(references, recipe.priors.as_slice())
 }
 
-/// What is evaluated before the bodies of the recipes at these places.
-fn front<'src>(
+/// Adds what is evaluated before the recipe's body, and the arguments of its subsequents, where these
+/// share its table.
+fn add_recipe<'src>(
+    references: &mut References<'src>,
+    recipe: &Recipe<'src, UnresolvedDependency<'src>>,
+    share_subsequents: bool,
+) -> Result<(), AllocError> {
+    add_front(references, recipe)?;
+    if share_subsequents {
+        return add_dependencies(references, recipe.subsequents.as_slice());
+    }
+    Ok(())
+}
+
+/// What is evaluated before the bodies of the recipes at these places, and the arguments of their
+/// subsequents, where these share the recipes' table.
+fn added<'src>(
     alloc: Global,
     compilation: &Compilation<'src>,
     places: &[Place],
+    share_subsequents: bool,
 ) -> Result<References<'src>, AllocError> {
     let mut references = References::new(alloc);
     for place in places {
         if let Some(recipe) = compilation.recipe(*place) {
-            add_recipe(&mut references, recipe)?;
+            add_recipe(&mut references, recipe, share_subsequents)?;
         }
     }
     Ok(references)
@@ -127,31 +143,34 @@ fn any_recipe_value(compilation: &Compilation, recipes: &[ResolvedRecipe]) -> bo
 }
 
 /// Whether what is evaluated before the bodies of the module's recipes, which stand at these places,
-/// asks for the flag of dependencies.
+/// or in the arguments of subsequents that share their table, asks for the flag of dependencies.
 fn recipes_ask<'src>(
     alloc: Global,
     compilation: &Compilation<'src>,
     places: &[Place],
     functions: &[FunctionRef<'_, 'src>],
+    share_subsequents: bool,
 ) -> Result<bool, AllocError> {
-    let references = front(alloc, compilation, places)?;
+    let references = added(alloc, compilation, places, share_subsequents)?;
     references_ask(alloc, functions, references.as_slice())
 }
 
-/// The same of one of the modules, which keep this.
+/// The same of one of the modules, which keep this and have these settings.
 fn any_module_asks<'src>(
     alloc: Global,
     compilation: &Compilation<'src>,
     lists: &[ModuleLists<'src, '_>],
+    settings: &[Settings],
 ) -> Result<bool, AllocError> {
     let modules = compilation.modules.as_slice();
-    for module in 0..modules.len().min(lists.len()) {
+    for module in 0..modules.len().min(lists.len()).min(settings.len()) {
         let places = modules[module].recipes.as_slice();
         if recipes_ask(
             alloc,
             compilation,
             places,
             lists[module].functions.as_slice(),
+            settings[module].share_subsequents,
         )? {
             return Ok(true);
         }
@@ -159,18 +178,21 @@ fn any_module_asks<'src>(
     Ok(false)
 }
 
-/// Whether each of these recipes of all modules, which keep this, is entered alike as a dependency and
-/// by words: no call of the built-in `is_dependency` is written in a default, an `env` attribute, an
-/// argument of a dependency before a body or a confirmation, or in a function that is called from there
-/// through any chain of calls, and no parameter has a `value`. Refused only where memory is.
+/// Whether each of these recipes of all modules, which keep this and have these settings, is entered
+/// alike as a dependency and by words: no call of the built-in `is_dependency` is written in a default,
+/// an `env` attribute, an argument of a dependency before a body or a confirmation, in an argument of a
+/// dependency behind a body where the module's settings share subsequents, or in a function that is
+/// called from there through any chain of calls, and no parameter has a `value`. Refused only where
+/// memory is.
 pub fn is_steady<'src>(
     alloc: Global,
     compilation: &Compilation<'src>,
     recipes: &[ResolvedRecipe<'src>],
     lists: &[ModuleLists<'src, '_>],
+    settings: &[Settings],
 ) -> Result<bool, AllocError> {
     if any_recipe_value(compilation, recipes) {
         return Ok(false);
     }
-    Ok(!any_module_asks(alloc, compilation, lists)?)
+    Ok(!any_module_asks(alloc, compilation, lists, settings)?)
 }

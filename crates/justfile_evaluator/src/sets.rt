@@ -122,6 +122,7 @@ fn set_truth(settings: &mut Settings, setting: &Setting) {
         Setting::NoExitMessage(b) => settings.no_exit_message = *b,
         Setting::PositionalArguments(b) => settings.positional_arguments = *b,
         Setting::Quiet(b) => settings.quiet = *b,
+        Setting::ShareSubsequents(b) => settings.share_subsequents = *b,
         Setting::Unstable(b) => settings.unstable = *b,
         Setting::WindowsPowershell(b) => settings.windows_powershell = *b,
         _ => {}
