@@ -5,12 +5,14 @@ ghost use Rattle.just_plain_run.specs.Inputs.{Inputs, inputs_of, reader_of};
 ghost use Rattle.just_plain_run.specs.Setup.{setup_of};
 ghost use Rattle.just_plain_run.specs.Stages.{IsRead, IsRoot};
 ghost use Rattle.just_run.specs.Plain.{IsPlain, AnswersPlain};
+ghost use Rattle.just_run.specs.Plans.{IsKeptBy, Plans};
 ghost use Rattle.just_run.specs.Writes.{IsKept};
-ghost use Rattle.just_run.specs.declared.outcome.Action.TheVariants.{Run};
+ghost use Rattle.just_run.specs.declared.outcome.Action.TheVariants.{Plan, Run};
 ghost use Rattle.just_builtins.specs.Asking.{Asks, IsAsked};
 
 use crate::fault::Fault;
 use crate::outcome::{Action, Outcome, Trees};
+use crate::plan::drive_plan;
 use crate::prepared::perform_task;
 use crate::request::{Request, request_of};
 use crate::texts::{tell, write_performed};
@@ -56,7 +58,8 @@ fn drive_analysis<'src, H: RunHost + Drop, O: Out>(
     host: &mut Recorded<H>,
     out: &mut O,
 ) -> Result<Outcome, Fault<'src>>
-    ensures kept { IfErr result (λ fault. IsKept (O.written out.old) fault (O.written out.new)) }
+    ensures kept { IfErr result (λ fault. IsKeptBy action (O.written out.old) fault (O.written out.new)) }
+    ensures planned { action ≡ Plan → Plans H.goes host.old (O.written out.old) result host.new (O.written out.new) }
     ensures asks { Asks H.goes host.old host.new }
 {
     let words = words.arguments.as_slice();
@@ -68,6 +71,16 @@ fn drive_analysis<'src, H: RunHost + Drop, O: Out>(
             config,
             root,
             task,
+            host,
+            out,
+        ),
+        Request::Plan(calls) => drive_plan(
+            alloc,
+            compilation,
+            analysis,
+            config,
+            root,
+            calls,
             host,
             out,
         ),
@@ -86,7 +99,8 @@ fn drive_modules<'src, H: RunHost + Drop, O: Out>(
     host: &mut Recorded<H>,
     out: &mut O,
 ) -> Result<Outcome, Fault<'src>>
-    ensures kept { IfErr result (λ fault. IsKept (O.written out.old) fault (O.written out.new)) }
+    ensures kept { IfErr result (λ fault. IsKeptBy action (O.written out.old) fault (O.written out.new)) }
+    ensures planned { action ≡ Plan → Plans H.goes host.old (O.written out.old) result host.new (O.written out.new) }
     ensures asks { Asks H.goes host.old host.new }
 {
     let overrides = words.overrides.as_slice();
@@ -126,7 +140,8 @@ fn drive_compilation<'src, H: RunHost + Drop, O: Out>(
     host: &mut Recorded<H>,
     out: &mut O,
 ) -> Result<Outcome, Fault<'src>>
-    ensures kept { IfErr result (λ fault. IsKept (O.written out.old) fault (O.written out.new)) }
+    ensures kept { IfErr result (λ fault. IsKeptBy action (O.written out.old) fault (O.written out.new)) }
+    ensures planned { action ≡ Plan → Plans H.goes host.old (O.written out.old) result host.new (O.written out.new) }
     ensures asks { Asks H.goes host.old host.new }
 {
     match number_variables(alloc, &mut compilation) {
@@ -153,7 +168,8 @@ fn drive_files<'src, E: Expander, H: RunHost + Drop, O: Out>(
     host: &mut Recorded<H>,
     out: &mut O,
 ) -> Result<Outcome, Fault<'src>>
-    ensures kept { IfErr result (λ fault. IsKept (O.written out.old) fault (O.written out.new)) }
+    ensures kept { IfErr result (λ fault. IsKeptBy action (O.written out.old) fault (O.written out.new)) }
+    ensures planned { action ≡ Plan → Plans H.goes host.old (O.written out.old) result host.new (O.written out.new) }
     ensures asks { Asks H.goes host.old host.new }
 {
     match Compiler::compile_parsed(alloc, config, expander, sources, path, parsed) {
@@ -212,7 +228,8 @@ fn drive_root<'src, E: Expander, H: RunHost + Drop, O: Out>(
     host: &mut Recorded<H>,
     out: &mut O,
 ) -> Result<Outcome, Fault<'src>>
-    ensures kept { IfErr result (λ fault. IsKept (O.written out.old) fault (O.written out.new)) }
+    ensures kept { IfErr result (λ fault. IsKeptBy action (O.written out.old) fault (O.written out.new)) }
+    ensures planned { action ≡ Plan → Plans H.goes host.old (O.written out.old) result host.new (O.written out.new) }
     ensures plain { action ≡ Run → (i : Inputs) → IsPlain i → i.words ≡ words.now → IsRoot i root.entry.path.now (option_map shape_of root.entry.plain) → AnswersPlain H.goes i (setup_of config.now) result host.old host.new }
     ensures unwritten { action ≡ Run → (i : Inputs) → IsPlain i → IsRoot i root.entry.path.now (option_map shape_of root.entry.plain) → O.written out.new ≡ O.written out.old }
     ensures asks { Asks H.goes host.old host.new }
@@ -246,8 +263,8 @@ fn drive_root<'src, E: Expander, H: RunHost + Drop, O: Out>(
 /// A call is refused before anything is asked of the host where a rule is broken: of the files that
 /// are reached, of their modules, names and orders, or of the words. Else all modules open, parents
 /// first, and the recipes that the words name run, each behind all that it depends on, none twice
-/// with the same values, up to the first command that fails; or the variables are written, or the one
-/// command runs. A file of plain recipes that names no other runs by a shorter way, to the same end.
+/// with the same values, up to the first command that fails; or what they would hand over is written,
+/// and nothing is handed over; or the variables are written, or the one command runs. A file of plain recipes that names no other runs by a shorter way, to the same end.
 /// Want of memory, or of numbers for recipes and bindings, may come in the place of any answer. The
 /// trees of the files are dropped at the end or left, as `trees` says; those of plain recipes are
 /// dropped.
@@ -271,8 +288,10 @@ pub fn drive<'src, E: Expander, H: RunHost + Drop, O: Out>(
 ) -> Result<Outcome, Fault<'src>>
     // Where no root file that can be read says more than plain recipes, a run is one of plain recipes.
     ensures plain { action ≡ Run → IsPlain (inputs_of (reader_of (E.expansion expander.now) config.now.version) sources.now roots.now words.now) → AnswersPlain H.goes (inputs_of (reader_of (E.expansion expander.now) config.now.version) sources.now roots.now words.now) (setup_of config.now) result host.old host.new }
-    // Where the call is refused nothing is written, unless the output takes no more.
-    ensures kept { IfErr result (λ fault. IsKept (O.written out.old) fault (O.written out.new)) }
+    // Where the call is refused nothing is written, unless the output takes no more, or a run fails whose plan is written.
+    ensures kept { IfErr result (λ fault. IsKeptBy action (O.written out.old) fault (O.written out.new)) }
+    // A plan hands nothing over: what is asked are questions and requests for files of variables alone, and what is written tells what a run would hand over.
+    ensures planned { action ≡ Plan → Plans H.goes host.old (O.written out.old) result host.new (O.written out.new) }
     // A run of plain recipes writes nothing.
     ensures unwritten { action ≡ Run → IsPlain (inputs_of (reader_of (E.expansion expander.now) config.now.version) sources.now roots.now words.now) → O.written out.new ≡ O.written out.old }
     // Whatever is asked for: the record has grown by just what was asked, and the host went along by it.

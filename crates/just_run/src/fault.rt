@@ -223,6 +223,10 @@ impl From<WordFault> for Fault<'_> {
 }
 
 impl<'src> From<RunFault<'src>> for Fault<'src> {
+    ghost use Rattle.just_run.specs.Plans.{IsOfRun};
+
+    ghost from_gives = { λ _ e. IsOfRun e };
+
     fn from(fault: RunFault<'src>) -> Self {
         match fault {
             RunFault::OutOfMemory => Fault::OutOfMemory,
@@ -254,6 +258,10 @@ impl<'src> From<RunFault<'src>> for Fault<'src> {
 }
 
 impl<'src> From<TaskFault<'src>> for Fault<'src> {
+    ghost use Rattle.just_run.specs.Plans.{IsOfRun};
+
+    ghost from_gives = { λ _ e. IsOfRun e };
+
     fn from(fault: TaskFault<'src>) -> Self {
         match fault {
             TaskFault::Run(fault) => Fault::from(fault),

@@ -4,6 +4,7 @@
 pub mod driver;
 pub mod fault;
 pub mod outcome;
+mod plan;
 mod prepared;
 mod request;
 mod texts;

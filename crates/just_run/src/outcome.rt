@@ -6,6 +6,8 @@ use justfile_syntax::Text;
 pub enum Action {
     /// Run the recipes that the words name.
     Run,
+    /// Write what such a run would hand over and ask the user, and hand over and ask him nothing.
+    Plan,
     /// Write the values of variables: of the root module, or of the module or variable that the word
     /// names.
     Evaluate,
@@ -34,6 +36,8 @@ pub enum Trees {
 pub enum Outcome {
     /// Each recipe ran, or the command.
     Ran,
+    /// What a run would hand over was written.
+    Planned,
     /// The values were written.
     Evaluated,
     /// The root file was written.

@@ -1,4 +1,8 @@
 //! What the action and the words ask of a resolved justfile.
+ghost use Rattle.std.specs.Prelude.{IfOk};
+ghost use Rattle.just_run.specs.Plans.{IsFor, IsNoPlan};
+ghost use Rattle.just_run.specs.declared.outcome.Action.TheVariants.{Plan};
+
 use crate::outcome::Action;
 use just_invocations::{Invocation, InvocationParser, WordFault};
 use just_modules::{Compilation, ModuleNode};
@@ -26,6 +30,8 @@ pub(crate) enum RootText {
 #[derive(Drop)]
 pub(crate) enum Request<'w> {
     Task(Task<'w>),
+    /// What a run of these calls would hand over.
+    Plan(Vec<Call>),
     Text(RootText),
 }
 
@@ -70,19 +76,36 @@ fn invocations<'src>(
     InvocationParser::parse_invocations(alloc, &menus, words)
 }
 
-/// The calls that the words ask for; the list of recipes without words, where the root says so.
-fn run_request<'w, 'src>(
+/// The calls that the words ask for; none without words where the root asks for its list of recipes.
+fn called<'src>(
     alloc: Global,
     compilation: &Compilation<'src>,
-    table: &RecipeTable<'src>,
-    settings: &[Settings],
-    words: &'w [Text],
-) -> Result<Request<'w>, WordFault> {
-    let invocations = invocations(alloc, compilation, table, settings, words)?;
-    if invocations.is_empty() {
-        return Ok(Request::Text(RootText::List));
+    analysis: &Analysis<'src, '_>,
+    words: &[Text],
+) -> Result<Vec<Call>, WordFault> {
+    let settings = analysis.values.settings.as_slice();
+    let invocations = invocations(alloc, compilation, &analysis.table, settings, words)?;
+    Ok(calls_of(alloc, invocations)?)
+}
+
+/// A run of the calls; the list of recipes where there are none.
+fn run_request<'w>(calls: Vec<Call>) -> Request<'w>
+    ensures { IsNoPlan result }
+{
+    if calls.is_empty() {
+        return Request::Text(RootText::List);
     }
-    Ok(Request::Task(Task::Run(calls_of(alloc, invocations)?)))
+    Request::Task(Task::Run(calls))
+}
+
+/// What a run of the calls would hand over; the list of recipes where there are none.
+fn plan_request<'w>(calls: Vec<Call>) -> Request<'w>
+    ensures { IsFor Plan result }
+{
+    if calls.is_empty() {
+        return Request::Text(RootText::List);
+    }
+    Request::Plan(calls)
 }
 
 /// The variables that the words ask for.
@@ -109,13 +132,17 @@ fn values_request<'w, 'src>(
     modules: &[ModuleNode<'src>],
     lists: &[ModuleLists<'src, '_>],
     words: &'w [Text],
-) -> Result<Request<'w>, WordFault> {
+) -> Result<Request<'w>, WordFault>
+    ensures { IfOk result IsNoPlan }
+{
     let target = target(alloc, modules, lists, words)?;
     Ok(Request::Task(Task::Evaluate(target)))
 }
 
 /// The command that the words are.
-fn command_request<'w>(words: &'w [Text]) -> Result<Request<'w>, WordFault> {
+fn command_request<'w>(words: &'w [Text]) -> Result<Request<'w>, WordFault>
+    ensures { IfOk result IsNoPlan }
+{
     if words.is_empty() {
         return Err(WordFault::MissingCommand);
     }
@@ -127,7 +154,9 @@ fn text_request<'w>(
     alloc: Global,
     text: RootText,
     words: &'w [Text],
-) -> Result<Request<'w>, WordFault> {
+) -> Result<Request<'w>, WordFault>
+    ensures { IfOk result IsNoPlan }
+{
     match words.first() {
         Some(word) => Err(WordFault::extra_word(alloc, word.as_str())),
         None => Ok(Request::Text(text)),
@@ -142,12 +171,12 @@ pub(crate) fn request_of<'w, 'src>(
     analysis: &Analysis<'src, '_>,
     action: Action,
     words: &'w [Text],
-) -> Result<Request<'w>, WordFault> {
+) -> Result<Request<'w>, WordFault>
+    ensures { IfOk result (IsFor action) }
+{
     match action {
-        Action::Run => {
-            let settings = analysis.values.settings.as_slice();
-            run_request(alloc, compilation, &analysis.table, settings, words)
-        }
+        Action::Run => Ok(run_request(called(alloc, compilation, analysis, words)?)),
+        Action::Plan => Ok(plan_request(called(alloc, compilation, analysis, words)?)),
         Action::Evaluate => {
             let lists = analysis.variables.lists.as_slice();
             values_request(alloc, analysis.modules, lists, words)

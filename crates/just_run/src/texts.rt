@@ -23,7 +23,7 @@ use std::alloc::{AllocError, Global};
 const FOUR_SPACES: &str = "    ";
 
 /// Writes the text, or a beginning of it where a write fails.
-fn write_text<O: Out>(out: &mut O, text: &str) -> Result<(), WriteFailed>
+pub(crate) fn write_text<O: Out>(out: &mut O, text: &str) -> Result<(), WriteFailed>
     ensures whole { OnOk result (O.written out.new ≡ O.written out.old ++ text.now) }
     ensures part { OnErr result (IsPartOf (O.written out.old) text.now (O.written out.new)) }
     ensures quiet { OnOk result (O.failed out.new ≡ O.failed out.old) }

@@ -30,6 +30,7 @@ fn find_telling(value: &str) -> Option<Telling> {
 fn find_action(value: &str) -> Option<Action> {
     match value {
         "run" => Some(Action::Run),
+        "plan" => Some(Action::Plan),
         "evaluate" => Some(Action::Evaluate),
         "list" => Some(Action::List),
         "dump" => Some(Action::Dump),

@@ -13,6 +13,7 @@ use told_files::Unchanged;
 fn answer_text(alloc: Global, answer: Result<Outcome, Fault>) -> Result<String, AllocError> {
     match answer {
         Ok(Outcome::Ran) => String::from_str(alloc, "ran"),
+        Ok(Outcome::Planned) => String::from_str(alloc, "planned"),
         Ok(Outcome::Evaluated) => String::from_str(alloc, "evaluated"),
         Ok(Outcome::Dumped) => String::from_str(alloc, "dumped"),
         Ok(Outcome::Listed) => String::from_str(alloc, "listed"),

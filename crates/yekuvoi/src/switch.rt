@@ -24,6 +24,7 @@ fn action(word: &str) -> Option<Action> {
         "--dump" => Some(Action::Dump),
         "--fmt" => Some(Action::Format),
         "--list" => Some(Action::List),
+        "--plan" => Some(Action::Plan),
         "--dry-run" | "--yes" => Some(Action::Run),
         _ => None,
     }

@@ -1,0 +1,63 @@
+-- What a plan of a run does.
+use Rattle.std.specs.Prelude.{◌≡◌, ◌≢◌, ◌++◌, ◌⊎◌, ℕ, List, Result, Ok, Err}
+use Rattle.just_host.specs.Record.{Record}
+use Rattle.just_host.specs.Follows.{Follows, questions}
+use Rattle.just_host.specs.declared.entry.Entry.{Entry}
+use Rattle.just_plain_run.specs.Out.{IsPartOf}
+use Rattle.just_plan.specs.Plans.{plan_text}
+use Rattle.just_run.specs.Writes.{IsKept, GrewBy}
+use Rattle.just_run.specs.declared.fault.Fault.{Fault}
+use Rattle.just_run.specs.declared.fault.Fault.TheVariants as faults
+use Rattle.just_run.specs.declared.outcome.Action.{Action}
+use Rattle.just_run.specs.declared.outcome.Action.TheVariants as actions
+use Rattle.just_run.specs.declared.outcome.Outcome.{Outcome}
+use Rattle.just_run.specs.declared.outcome.Outcome.TheVariants as outcomes
+use Rattle.just_run.specs.declared.request.Request.{Request}
+use Rattle.just_run.specs.declared.request.Request.TheVariants as requests
+use Rattle.just_run.specs.declared.request.RootText.TheVariants as texts
+
+-- something else is asked for than a plan
+abbrev pub IsNoPlan : Request → Type 0
+IsNoPlan (requests.Plan calls) = ⊥
+IsNoPlan request = Unit {0}
+
+-- a plan is asked for by its action, which asks for nothing else but the list of recipes
+abbrev pub IsFor : Action → Request → Type 0
+IsFor action (requests.Task task) = action ≢ actions.Plan
+IsFor action (requests.Plan calls) = action ≡ actions.Plan
+IsFor action (requests.Text text) = action ≡ actions.Plan → text ≡ texts.List
+
+-- a fault that a run may end with, once no rule of files and words is broken
+abbrev pub IsOfRun : Fault → Type 0
+IsOfRun (faults.NoRootForWord word) = ⊥
+IsOfRun (faults.Plain fault) = ⊥
+IsOfRun (faults.Justfile error) = ⊥
+IsOfRun (faults.Words fault) = ⊥
+IsOfRun (faults.NotPrintable path) = ⊥
+IsOfRun faults.Write = ⊥
+IsOfRun fault = Unit {0}
+
+-- The plan went out, and that is answered; or the output took no more behind a beginning of it; or memory ran out, and nothing
+-- went out; or the run failed, and the plan of what came before that went out.
+abbrev pub IsWrittenPlan : List ℕ → List ℕ → Result Outcome Fault → List ℕ → Type 0
+IsWrittenPlan old plan (Ok outcome) new = (outcome ≡ outcomes.Planned) × (new ≡ old ++ plan)
+IsWrittenPlan old plan (Err fault) new = ((fault ≡ faults.Write) × IsPartOf old plan new) ⊎ (((fault ≡ faults.OutOfMemory) × (new ≡ old)) ⊎ (IsOfRun fault × (new ≡ old ++ plan)))
+
+-- the caller's record grew by the questions alone of what the run asked and handed over, of which the plan is written
+pub record IsPlanned {H : Type 0} (goes : H → List Entry → H → Type 0) (old : Record H) (before : List ℕ) (result : Result Outcome Fault) (new : Record H) (behind : List ℕ) : Type 0 where
+  pub entries : List Entry
+  pub asked : Follows goes old (questions entries) new
+  pub written : IsWrittenPlan before (plan_text entries) result behind
+
+-- another answer than that of a plan
+abbrev pub IsOther : Result Outcome Fault → Type 0
+IsOther (Ok outcomes.Planned) = ⊥
+IsOther answer = Unit {0}
+
+-- a run was planned; or the call was refused or the list of recipes written, and nothing was asked
+abbrev pub Plans : {H : Type 0} → (H → List Entry → H → Type 0) → Record H → List ℕ → Result Outcome Fault → Record H → List ℕ → Type 0
+Plans goes old before result new behind = (IsOther result × (new ≡ old)) ⊎ IsPlanned goes old before result new behind
+
+-- nothing went out behind a refusal, unless the output took no more, or a run failed whose plan went out
+abbrev pub IsKeptBy : Action → List ℕ → Fault → List ℕ → Type 0
+IsKeptBy action old fault new = IsKept old fault new ⊎ ((action ≡ actions.Plan) × (IsOfRun fault × GrewBy old new))
