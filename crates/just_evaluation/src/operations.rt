@@ -3,8 +3,10 @@ ghost use Rattle.std.specs.Prelude.{◌≡◌, ◌∷◌, ◌++◌, [], IfOk, co
 ghost use Rattle.std.specs.String.{string_bytes};
 ghost use Rattle.just_value.specs.Values.{joined};
 
+use crate::failure::{Failure, refused};
+use crate::refusals::{list_as_argument, pattern_left_out};
 use just_builtins::Error;
-use just_expression_tree::{ConditionalOperator, ListOperator, unindent};
+use just_expression_tree::{ConditionalOperator, ListOperator, StringLiteral, unindent};
 use just_host::HostFault;
 use just_text::{Name, Text, Token};
 use just_value::{ConstEvalError, StringContext, Value};
@@ -18,21 +20,36 @@ pub(crate) struct Sides {
 }
 
 /// `true` alone, or the empty list.
-pub(crate) fn truth_value<'src>(alloc: Global, truth: bool) -> Result<Value, Error<'src>>
+pub(crate) fn truth_value<'src>(alloc: Global, truth: bool) -> Result<Value, Failure<'src>>
     ensures { IfOk result (λ v. v ≡ (if truth then codes "true" ∷ [] else [])) }
 {
     Ok(Value::from_bool(alloc, truth)?)
+}
+
+/// The string alone.
+#[inline(never)]
+pub(crate) fn literal_value<'src>(
+    alloc: Global,
+    literal: &StringLiteral<'src>,
+) -> Result<Value, Failure<'src>> {
+    Ok(Value::from_text(alloc, literal.cooked.as_str())?)
 }
 
 /// What a command printed, or why it printed nothing, at its token.
 pub(crate) fn output_value<'src>(
     alloc: Global,
     output: Result<Text, HostFault>,
-    token: Token<'src>,
-) -> Result<Value, Error<'src>> {
+    token: &Token<'src>,
+) -> Result<Value, Failure<'src>> {
     match output {
         Ok(text) => Ok(Value::from_string(alloc, text.into_string())?),
-        Err(fault) => Err(Error::Backtick { fault, token }),
+        Err(fault) => Err(refused(
+            alloc,
+            Error::Backtick {
+                fault,
+                token: *token,
+            },
+        )),
     }
 }
 
@@ -41,7 +58,7 @@ pub(crate) fn asserted<'src>(
     alloc: Global,
     lists: bool,
     condition: Value,
-) -> Result<Value, Error<'src>>
+) -> Result<Value, Failure<'src>>
     ensures { IfOk result (λ v. v ≡ (if lists then condition else [] ∷ [])) }
 {
     if lists {
@@ -56,32 +73,36 @@ pub(crate) fn applied<'src>(
     alloc: Global,
     sides: &Sides,
     operator: ListOperator,
-    token: Token<'src>,
-) -> Result<Value, Error<'src>> {
-    Ok(sides.left.apply(alloc, &sides.right, operator, token)?)
+    token: &Token<'src>,
+) -> Result<Value, Failure<'src>> {
+    match sides.left.apply(alloc, &sides.right, operator, *token) {
+        Ok(value) => Ok(value),
+        Err(fault) => Err(refused(alloc, Error::from(fault))),
+    }
 }
 
 /// What `/` gives without a left side: the empty text stands there.
 pub(crate) fn joined_to_nothing<'src>(
     alloc: Global,
     right: Value,
-    token: Token<'src>,
-) -> Result<Value, Error<'src>> {
+    token: &Token<'src>,
+) -> Result<Value, Failure<'src>> {
     let left = Value::from_text(alloc, "")?;
     applied(alloc, &Sides { left, right }, ListOperator::Join, token)
 }
 
 /// What the comparison says of the two sides.
 pub(crate) fn compared<'src>(
+    alloc: Global,
     sides: &Sides,
     operator: ConditionalOperator,
-    token: Token<'src>,
-) -> Result<bool, Error<'src>> {
+    token: &Token<'src>,
+) -> Result<bool, Failure<'src>> {
     match operator {
         ConditionalOperator::Equality => Ok(sides.left == sides.right),
         ConditionalOperator::Inequality => Ok(sides.left != sides.right),
         ConditionalOperator::RegexMatch | ConditionalOperator::RegexMismatch => {
-            Err(Error::Const(ConstEvalError::PatternLeftOut { operator, token }))
+            Err(pattern_left_out(alloc, operator, token))
         }
     }
 }
@@ -103,7 +124,7 @@ pub(crate) fn laid_out<'src>(
     alloc: Global,
     tripled: bool,
     text: String,
-) -> Result<Value, Error<'src>> {
+) -> Result<Value, Failure<'src>> {
     if tripled {
         let text = unindent(alloc, text.as_str())?;
         Ok(Value::from_string(alloc, text.into_string())?)
@@ -114,13 +135,13 @@ pub(crate) fn laid_out<'src>(
 
 /// The value as an argument of the built-in function, which takes one text or any value there.
 pub(crate) fn argument<'src>(
+    alloc: Global,
     value: Value,
     is_text: bool,
-    name: Name<'src>,
-) -> Result<Value, Error<'src>> {
+    name: &Name<'src>,
+) -> Result<Value, Failure<'src>> {
     if is_text && value.len() != 1 {
-        let context = StringContext::Function(name);
-        return Err(Error::Const(ConstEvalError::ListInStringContext { context, value }));
+        return Err(list_as_argument(alloc, value, name));
     }
     Ok(value)
 }
