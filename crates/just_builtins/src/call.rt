@@ -9,13 +9,14 @@ use crate::site::{CallSite, site_answer};
 use crate::variable::variable;
 use just_functions::{Function, FunctionFault, pure_answer, text_at};
 use just_host::{Host, Recorded};
-use just_text::Name;
+use just_text::{Name, Text};
 use just_value::Value;
 use std::alloc::Global;
 
 /// What the function answers to the arguments, of which those that are one text have one element
 /// each. Refused as `FunctionCall` with what the function says, as `NoParent` where the path of the
-/// justfile, of the module's file or of the calling file has no parent, and as `OutOfMemory`.
+/// justfile, of the module's file or of the calling file has no parent, as `Internal` where an
+/// argument is missing, and as `OutOfMemory`.
 pub fn call_builtin<'src, H: Host + Drop>(
     alloc: Global,
     host: &mut Recorded<H>,
@@ -32,10 +33,18 @@ pub fn call_builtin<'src, H: Host + Drop>(
     if let Some(answer) = site_answer(alloc, site, function) {
         return answer;
     }
-    named(
-        site.name,
-        asked_answer(alloc, host, site, function, arguments),
-    )
+    match asked_answer(alloc, host, site, function, arguments) {
+        Some(answer) => named(site.name, answer),
+        None => Err(unanswered(alloc)),
+    }
+}
+
+/// The refusal of a call that no answer is told for.
+fn unanswered<'src>(alloc: Global) -> Error<'src> {
+    match Text::from_text(alloc, "unanswered function") {
+        Ok(text) => Error::Internal(text),
+        Err(_) => Error::OutOfMemory,
+    }
 }
 
 /// The answer, with the function's name beside its refusal.
@@ -50,32 +59,127 @@ fn named<'src>(
     }
 }
 
-/// What a function answers that asks the host.
+/// What a function asks the host that tells no fact of the machine.
+#[derive(Clone, Copy)]
+enum Request {
+    CanonicalPath,
+    Contents,
+    Existence,
+    Output,
+    Program,
+    RequiredProgram,
+    Variable,
+}
+
+/// What the function asks the host, beside facts of the machine; none where it asks nothing else.
+fn request_of(function: Function) -> Option<Request> {
+    match function {
+        Function::Canonicalize => Some(Request::CanonicalPath),
+        Function::Env | Function::EnvVar | Function::EnvVarOrDefault => Some(Request::Variable),
+        Function::PathExists => Some(Request::Existence),
+        Function::Read => Some(Request::Contents),
+        Function::Require => Some(Request::RequiredProgram),
+        Function::Shell => Some(Request::Output),
+        Function::Which => Some(Request::Program),
+        Function::Append
+        | Function::Arch
+        | Function::Bool
+        | Function::CacheDirectory
+        | Function::Capitalize
+        | Function::ConfigDirectory
+        | Function::ConfigLocalDirectory
+        | Function::DataDirectory
+        | Function::DataLocalDirectory
+        | Function::EncodeUriComponent
+        | Function::Error
+        | Function::ExecutableDirectory
+        | Function::Extension
+        | Function::FileName
+        | Function::FileStem
+        | Function::HomeDirectory
+        | Function::InvocationDirectory
+        | Function::InvocationDirectoryNative
+        | Function::IsDependency
+        | Function::Join
+        | Function::JoinList
+        | Function::JustExecutable
+        | Function::JustPid
+        | Function::JustVersion
+        | Function::Justfile
+        | Function::JustfileDirectory
+        | Function::Len
+        | Function::Lowercase
+        | Function::ModuleDirectory
+        | Function::ModuleFile
+        | Function::ModulePath
+        | Function::NumCpus
+        | Function::NumJobs
+        | Function::Os
+        | Function::OsFamily
+        | Function::ParentDirectory
+        | Function::Prepend
+        | Function::Quote
+        | Function::RecipeName
+        | Function::Replace
+        | Function::RuntimeDirectory
+        | Function::Show
+        | Function::SourceDirectory
+        | Function::SourceFile
+        | Function::Split
+        | Function::Trim
+        | Function::TrimEnd
+        | Function::TrimEndMatch
+        | Function::TrimEndMatches
+        | Function::TrimStart
+        | Function::TrimStartMatch
+        | Function::TrimStartMatches
+        | Function::Uppercase
+        | Function::WithoutExtension => None,
+    }
+}
+
+/// What a function answers that asks the host; none where it is no such function.
 fn asked_answer<H: Host + Drop>(
     alloc: Global,
     host: &mut Recorded<H>,
     site: &CallSite,
     function: Function,
     arguments: &[Value],
-) -> Result<Value, FunctionFault>
+) -> Option<Result<Value, FunctionFault>>
     ensures asks { Asks H.goes host.old host.new }
 {
     if let Some((folder, words)) = folder_of(function) {
-        return folder_answer(alloc, host, folder, words);
+        return Some(folder_answer(alloc, host, folder, words));
     }
     if let Some(fact) = fact_of(function) {
-        return fact_answer(alloc, host, fact);
+        return Some(fact_answer(alloc, host, fact));
     }
+    match request_of(function) {
+        Some(request) => Some(answered(alloc, host, site, request, arguments)),
+        None => None,
+    }
+}
+
+/// What the request gives.
+fn answered<H: Host + Drop>(
+    alloc: Global,
+    host: &mut Recorded<H>,
+    site: &CallSite,
+    request: Request,
+    arguments: &[Value],
+) -> Result<Value, FunctionFault>
+    ensures asks { Asks H.goes host.old host.new }
+{
     let context = site.context;
     let text = text_at(arguments, 0);
-    match function {
-        Function::Canonicalize => files::canonicalize(alloc, host, context, text),
-        Function::PathExists => files::path_exists(alloc, host, context, text),
-        Function::Read => files::read(alloc, host, context, text),
-        Function::Require => files::require(alloc, host, context, text),
-        Function::Shell => shell(alloc, host, site, arguments),
-        Function::Which => files::which(alloc, host, context, text),
-        _ => environment(alloc, host, site, arguments),
+    match request {
+        Request::CanonicalPath => files::canonicalize(alloc, host, context, text),
+        Request::Contents => files::read(alloc, host, context, text),
+        Request::Existence => files::path_exists(alloc, host, context, text),
+        Request::Output => shell(alloc, host, site, arguments),
+        Request::Program => files::which(alloc, host, context, text),
+        Request::RequiredProgram => files::require(alloc, host, context, text),
+        Request::Variable => environment(alloc, host, site, arguments),
     }
 }
 

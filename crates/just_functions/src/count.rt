@@ -78,7 +78,33 @@ impl Function {
                 least: 2,
                 most: usize::MAX,
             },
-            _ => ArgumentCount::exactly(0),
+            Function::Arch
+            | Function::CacheDirectory
+            | Function::ConfigDirectory
+            | Function::ConfigLocalDirectory
+            | Function::DataDirectory
+            | Function::DataLocalDirectory
+            | Function::ExecutableDirectory
+            | Function::HomeDirectory
+            | Function::InvocationDirectory
+            | Function::InvocationDirectoryNative
+            | Function::IsDependency
+            | Function::JustExecutable
+            | Function::JustPid
+            | Function::JustVersion
+            | Function::Justfile
+            | Function::JustfileDirectory
+            | Function::ModuleDirectory
+            | Function::ModuleFile
+            | Function::ModulePath
+            | Function::NumCpus
+            | Function::NumJobs
+            | Function::Os
+            | Function::OsFamily
+            | Function::RecipeName
+            | Function::RuntimeDirectory
+            | Function::SourceDirectory
+            | Function::SourceFile => ArgumentCount::exactly(0),
         }
     }
 
@@ -96,7 +122,59 @@ impl Function {
             | Function::Show => false,
             Function::Append | Function::Prepend => index == 0,
             Function::JoinList => index != 0,
-            _ => true,
+            Function::Arch
+            | Function::CacheDirectory
+            | Function::Canonicalize
+            | Function::Capitalize
+            | Function::ConfigDirectory
+            | Function::ConfigLocalDirectory
+            | Function::DataDirectory
+            | Function::DataLocalDirectory
+            | Function::EncodeUriComponent
+            | Function::Error
+            | Function::ExecutableDirectory
+            | Function::Extension
+            | Function::FileName
+            | Function::FileStem
+            | Function::HomeDirectory
+            | Function::InvocationDirectory
+            | Function::InvocationDirectoryNative
+            | Function::IsDependency
+            | Function::Join
+            | Function::JustExecutable
+            | Function::JustPid
+            | Function::JustVersion
+            | Function::Justfile
+            | Function::JustfileDirectory
+            | Function::Lowercase
+            | Function::ModuleDirectory
+            | Function::ModuleFile
+            | Function::ModulePath
+            | Function::NumCpus
+            | Function::NumJobs
+            | Function::Os
+            | Function::OsFamily
+            | Function::ParentDirectory
+            | Function::PathExists
+            | Function::Read
+            | Function::RecipeName
+            | Function::Replace
+            | Function::Require
+            | Function::RuntimeDirectory
+            | Function::Shell
+            | Function::SourceDirectory
+            | Function::SourceFile
+            | Function::Split
+            | Function::Trim
+            | Function::TrimEnd
+            | Function::TrimEndMatch
+            | Function::TrimEndMatches
+            | Function::TrimStart
+            | Function::TrimStartMatch
+            | Function::TrimStartMatches
+            | Function::Uppercase
+            | Function::Which
+            | Function::WithoutExtension => true,
         }
     }
 }
