@@ -10,6 +10,7 @@ pub mod loader;
 pub use expansion::environment::Environment;
 pub use host::shell::Shell;
 pub use loader::base::base_folder;
+pub use loader::clean::clean_folder;
 pub use loader::root::find_root;
 pub use loader::root_name::is_root_name;
 pub use loader::sources::load;

@@ -1,0 +1,4 @@
+import 'more/second.just'
+
+first:
+    @echo first

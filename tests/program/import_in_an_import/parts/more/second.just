@@ -1,0 +1,2 @@
+second:
+    @echo second
