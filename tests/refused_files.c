@@ -1,9 +1,11 @@
 /* Refuses steps of replacing a file, to see how a program answers that.
  *
  * Loaded before a program (LD_PRELOAD). REFUSE_STEP names the step: `create` refuses to make a new file, `write` to write
- * into one, `rest` lets one byte be written and then nothing more, `rename` refuses to rename. The refused call sets
+ * into one, `rest` lets one byte be written and then nothing more, `owner` refuses another owner or group, `mode` another
+ * mode, `sync` to bring it to the disk, `rename` to rename it. The refused call sets
  * ENOSPC. Only files whose name has `.just-format-` in it are meant. For each refusal a byte goes to the file
- * descriptor 9, so that the caller knows whether there was one.
+ * descriptor 9, so that the caller knows whether there was one. A new file that others than its owner may read, write or run
+ * from the start is refused at every step.
  */
 #define _GNU_SOURCE
 #include <dlfcn.h>
@@ -50,7 +52,7 @@ int openat(int folder, const char *path, int flags, ...)
     va_start(rest, flags);
     mode_t mode = (flags & (O_CREAT | O_TMPFILE)) != 0 ? va_arg(rest, mode_t) : 0;
     va_end(rest);
-    if (is_new(path, flags) && is_step("create"))
+    if (is_new(path, flags) && (is_step("create") || (mode & 077) != 0))
         return refuse();
     int file = next(folder, path, flags, mode);
     if (is_new(path, flags))
@@ -84,6 +86,36 @@ ssize_t write(int file, const void *bytes, size_t count)
         return next(file, bytes, count > 0 ? 1 : 0);
     }
     return next(file, bytes, count);
+}
+
+int lchown(const char *path, uid_t owner, gid_t group)
+{
+    static int (*next)(const char *, uid_t, gid_t);
+    if (next == NULL)
+        *(void **)&next = dlsym(RTLD_NEXT, "lchown");
+    if (is_step("owner"))
+        return refuse();
+    return next(path, owner, group);
+}
+
+int fchmod(int file, mode_t mode)
+{
+    static int (*next)(int, mode_t);
+    if (next == NULL)
+        *(void **)&next = dlsym(RTLD_NEXT, "fchmod");
+    if (file == new_file && is_step("mode"))
+        return refuse();
+    return next(file, mode);
+}
+
+int fsync(int file)
+{
+    static int (*next)(int);
+    if (next == NULL)
+        *(void **)&next = dlsym(RTLD_NEXT, "fsync");
+    if (file == new_file && is_step("sync"))
+        return refuse();
+    return next(file);
 }
 
 int rename(const char *old, const char *new)

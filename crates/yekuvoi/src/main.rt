@@ -7,12 +7,12 @@ mod switch;
 use anyhow::{Context, Result, bail};
 use just_lexer::Excerpt;
 use just_run::{Config, Device, Fault, Outcome, Recorded, Trees, drive};
-use just_system::{Environment, Shell, base_folder, find_root, load};
+use just_system::{Environment, Shell, base_folder, clean_folder, find_root, load};
 use just_value::Positional;
 use justfile_syntax::{Os, Text};
 use replace::replace;
 use semver::Version;
-use std::alloc::Global;
+use std::alloc::{AllocError, Global};
 use std::collections::BTreeMap;
 use std::io::{BufWriter, Write};
 use std::process::ExitCode;
@@ -28,6 +28,16 @@ struct Project {
     roots: BTreeMap<Option<String>, String>,
     /// The files by their paths below the folder.
     sources: BTreeMap<String, String>,
+}
+
+impl Project {
+    /// Whether the file at the path has this text.
+    fn has_text(&self, path: &str, text: &str) -> bool {
+        match self.sources.get(path) {
+            Some(old) => old.as_str() == text,
+            None => false,
+        }
+    }
 }
 
 /// The program's words, without its name.
@@ -88,10 +98,20 @@ fn roots(
     Ok(roots)
 }
 
+/// The folder that the search directory names.
+fn project_folder(
+    rt: &HostRuntime,
+    current: &str,
+    directory: Option<&Text>,
+) -> Result<String, AllocError> {
+    let joined = base_folder(rt.alloc(), current, directory)?;
+    clean_folder(rt, joined)
+}
+
 /// The project in the folder that the search directory names. Without a root file it is empty.
 fn read_project(rt: &HostRuntime, current: &str, directory: Option<&Text>) -> Result<Project> {
     let alloc = rt.alloc();
-    let base = base_folder(alloc, current, directory)?;
+    let base = project_folder(rt, current, directory)?;
     let Some(name) = find_root(rt, base.as_str())? else {
         return Ok(Project {
             base,
@@ -121,12 +141,15 @@ fn report<W: Write>(shown: &mut W, fault: &Fault) -> u8 {
     fault.status()
 }
 
-/// Puts the formatted text in the place of the root file.
-fn rewrite(rt: &HostRuntime, base: &str, outcome: Outcome) -> Result<()> {
+/// Puts the formatted text in the place of the root file, if it is another one.
+fn rewrite(rt: &HostRuntime, project: &Project, outcome: Outcome) -> Result<()> {
     let Outcome::Formatted { path, text } = outcome else {
         return Ok(());
     };
-    if !replace(rt, base, path.as_str(), text.as_str())? {
+    if project.has_text(path.as_str(), text.as_str()) {
+        return Ok(());
+    }
+    if !replace(rt, project.base.as_str(), path.as_str(), text.as_str())? {
         bail!("no free name");
     }
     Ok(())
@@ -164,7 +187,7 @@ fn drive_project(
         Ok(_) if exhausted => Ok(report(&mut shown, &Fault::OutOfMemory)),
         Ok(outcome) => {
             let _ = shown.flush();
-            rewrite(rt, config.base.as_str(), outcome)?;
+            rewrite(rt, project, outcome)?;
             Ok(0)
         }
         Err(fault) => Ok(report(&mut shown, &fault)),
