@@ -129,28 +129,39 @@ fn disabled<'src>(
     value_count(compilation, place)
 }
 
+/// Why no disabled recipe that the dependency names takes its values, if none does.
+fn disabled_reason<'src>(
+    compilation: &Compilation<'src>,
+    module: usize,
+    dependency: &UnresolvedDependency<'src>,
+) -> Option<Reason> {
+    let found = dependency.arguments.len();
+    match disabled(compilation, module, &dependency.recipe) {
+        Some(count) if count.takes(found) => None,
+        Some(_) => Some(Reason::ArgumentCount(found)),
+        None => Some(Reason::Unknown),
+    }
+}
+
 /// Why the disabled recipe's dependency names no recipe, disabled or not, that takes its values, if
-/// it names none.
+/// it names none. Disabled recipes count only where nothing that is kept has the name.
 fn reason_of<'src>(
     compilation: &Compilation<'src>,
     resolver: &RecipeResolver,
     module: usize,
     dependency: &UnresolvedDependency<'src>,
 ) -> Option<Reason> {
-    let Err(reason) = place_of(compilation, resolver, module, dependency) else {
-        return None;
-    };
-    let found = dependency.arguments.len();
-    match (reason, disabled(compilation, module, &dependency.recipe)) {
-        (Reason::ModuleAsRecipe | Reason::Unknown, Some(count)) if count.takes(found) => None,
-        (_, Some(_)) => Some(Reason::ArgumentCount(found)),
-        (reason, None) => Some(reason),
+    match place_of(compilation, resolver, module, dependency) {
+        Ok(_) => None,
+        Err(Reason::ArgumentCount(found)) => Some(Reason::ArgumentCount(found)),
+        Err(Reason::ModuleAsRecipe) => Some(Reason::ModuleAsRecipe),
+        Err(Reason::Unknown) => disabled_reason(compilation, module, dependency),
     }
 }
 
 /// Whether each of a disabled recipe's dependencies names a recipe, disabled or not, that takes
-/// its values. Refused where one names a module alone, nothing, or recipes that take another
-/// number of values. Takes no memory.
+/// its values. Refused where one names a module, nothing, or recipes that take another number of
+/// values. Takes no memory.
 pub fn check_dependencies<'d, 'src>(
     compilation: &Compilation<'src>,
     resolver: &RecipeResolver,
