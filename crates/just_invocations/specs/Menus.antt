@@ -1,6 +1,6 @@
 -- What words may name, and how parameters take words.
 use Rattle.std.specs.Prelude.{ℕ, ◌==◌, ◌||◌, Bool, false, List, Option, Some, None, is_some, slice_get}
-use Rattle.std.specs.BTreeMap.{get_by}
+use Rattle.std.specs.BTreeMap.{get, get_by}
 use Rattle.std.specs.Cmp.Lexicographic.{slice_cmp}
 use Rattle.std.specs.Option.{option_and_then}
 use Rattle.std.specs.Ordering.{nat_cmp}
@@ -10,6 +10,7 @@ use Rattle.just_invocations.specs.declared.menu.Slot.{Slot}
 use Rattle.just_invocations.specs.declared.menu.Menu.{Menu}
 use Rattle.just_invocations.specs.declared.menu.Menus.{Menus}
 use Rattle.just_invocations.specs.declared.menu.Meaning.{Meaning}
+use Rattle.just_invocations.specs.declared.options.OptionPlaces.{OptionPlaces}
 
 -- an option gives the parameter its value, and no word by its place
 abbrev pub is_option : Slot → Bool
@@ -30,6 +31,14 @@ is_short (Some short) name = short == name
 
 abbrev pub has_short : ℕ → Slot → Bool
 has_short name slot = is_short slot.short name
+
+-- the place of the parameter with an option's name behind two dashes
+abbrev pub long_place : OptionPlaces → Bor (List ℕ) → Option ℕ
+long_place places name = get (λ x y. slice_cmp nat_cmp x.now y.now) places.long name
+
+-- the place of the parameter with an option's name behind one dash
+abbrev pub short_place : OptionPlaces → ℕ → Option ℕ
+short_place places name = get nat_cmp places.short name
 
 -- what a name stands for in a module
 abbrev pub meaning : Menu → List ℕ → Option Meaning

@@ -3,6 +3,7 @@
 
 mod fault;
 mod menu;
+mod options;
 mod parser;
 mod taking;
 

@@ -22,7 +22,7 @@ pub struct InvocationParser<'a, 'm> {
     /// The place of the module in which the next name is looked up.
     module: usize,
     /// The recipe that takes words.
-    taking: Option<Taking>,
+    taking: Option<Taking<'m>>,
 }
 
 impl<'a, 'm> InvocationParser<'a, 'm> {

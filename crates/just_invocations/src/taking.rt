@@ -1,6 +1,7 @@
 //! The words that a recipe takes.
 use crate::fault::WordFault;
 use crate::menu::{Callable, Slot};
+use crate::options::OptionPlaces;
 use just_text::{Sequence, Text};
 use std::alloc::{AllocError, Global};
 use std::mem;
@@ -23,7 +24,7 @@ struct Written<'a> {
 
 /// What a recipe has taken of the words so far.
 #[derive(Drop)]
-pub(crate) struct Taking {
+pub(crate) struct Taking<'a> {
     /// The recipe's place.
     pub(crate) recipe: usize,
     /// One group for each parameter.
@@ -34,31 +35,33 @@ pub(crate) struct Taking {
     found: usize,
     /// Whether words may be options.
     options: bool,
+    /// The recipe's parameters by the names of their options.
+    places: OptionPlaces<'a>,
     waiting: Option<Waiting>,
 }
 
 /// How the word is written, which begins with a dash.
-fn read_option<'w>(callable: &Callable, word: &'w str) -> Written<'w> {
+fn read_option<'w>(places: &OptionPlaces, word: &'w str) -> Written<'w> {
     let (name, value) = match word.split_once('=') {
         Some((name, value)) => (name, Some(value)),
         None => (word, None),
     };
     let slot = match name.strip_prefix("--") {
-        Some(long) => callable.long(long),
-        None => short_slot(callable, name),
+        Some(long) => places.long(long),
+        None => short_slot(places, name),
     };
     Written { slot, value }
 }
 
 /// The place of the parameter with an option of one letter, `-x`.
-fn short_slot(callable: &Callable, name: &str) -> Option<usize> {
+fn short_slot(places: &OptionPlaces, name: &str) -> Option<usize> {
     let letters = name.strip_prefix('-')?;
     let mut letters = letters.chars();
     let letter = letters.next()?;
     if letters.next().is_some() {
         return None;
     }
-    callable.short(letter)
+    places.short(letter)
 }
 
 /// An empty group for each parameter.
@@ -75,19 +78,20 @@ fn lacks(slot: &Slot, group: &Sequence<Text>) -> bool {
     slot.required && slot.is_option() && group.is_empty()
 }
 
-impl Taking {
+impl<'a> Taking<'a> {
     /// Nothing taken yet.
     pub(crate) fn new(
         alloc: Global,
         recipe: usize,
-        callable: &Callable,
-    ) -> Result<Taking, AllocError> {
+        callable: &Callable<'a>,
+    ) -> Result<Taking<'a>, AllocError> {
         Ok(Taking {
             recipe,
             groups: empty_groups(alloc, callable.slots.len())?,
             next: callable.positional_from(0),
             found: 0,
             options: callable.has_options(),
+            places: OptionPlaces::of(alloc, callable.slots.as_slice())?,
             waiting: None,
         })
     }
@@ -112,7 +116,7 @@ impl Taking {
         callable: &Callable,
         word: &str,
     ) -> Result<(), WordFault> {
-        let written = read_option(callable, word);
+        let written = read_option(&self.places, word);
         let Some(place) = written.slot else {
             return Err(WordFault::unknown_option(alloc, callable.name, word));
         };
