@@ -6,6 +6,7 @@ ghost use Rattle.just_builtins.specs.Environments.{IsEnvironmentIn};
 ghost use Rattle.just_builtins.specs.Folders.{folder_below};
 
 use crate::settings::Settings;
+use just_compilation::ModuleNode;
 use just_functions::JobEnvironment;
 use just_host::{Config, Pair};
 use just_text::{Name, Number};
@@ -38,8 +39,10 @@ pub struct ModuleView<'run, 'src> {
     pub settings: &'run Settings,
     /// The key of the module's file.
     pub source: &'run str,
-    /// The names of the modules from the root to here with `::` between two.
-    pub module_path: &'run str,
+    /// All modules, of which each stands behind its parent.
+    pub modules: &'run [ModuleNode<'src>],
+    /// The module's place among these.
+    pub place: usize,
     /// The folder of the module's file: the parent of the base joined with the file's key.
     pub working_directory: &'run str,
     /// The names that are not exported, in byte order.

@@ -2,8 +2,9 @@
 ghost use Rattle.std.specs.Prelude.{◌≡◌};
 ghost use Rattle.just_builtins.specs.Facts as spec;
 
-use crate::context::ExecutionContext;
+use crate::context::{ExecutionContext, ModuleView};
 use crate::error::Error;
+use just_compilation::Modulepath;
 use just_functions::values::boolean;
 use just_functions::{Function, paths};
 use just_host::{Config, Pair};
@@ -65,7 +66,6 @@ impl<'a, 'src> CallSite<'a, 'src> {
             Function::InvocationDirectory | Function::InvocationDirectoryNative => {
                 Some(config.invocation_directory.as_str())
             }
-            Function::ModulePath => Some(self.context.module.module_path),
             Function::Os => Some(os_name(config.os)),
             Function::OsFamily => Some("unix"),
             _ => None,
@@ -100,7 +100,7 @@ fn file_answer<'src>(
     }
 }
 
-/// What the configuration or the recipe tells; none where the function is no such.
+/// What the configuration, the module or the recipe tells; none where the function is no such.
 fn told<'src>(
     alloc: Global,
     site: &CallSite<'_, 'src>,
@@ -109,6 +109,7 @@ fn told<'src>(
     match function {
         Function::IsDependency => Some(truth(alloc, site)),
         Function::JustVersion => Some(version(alloc, site.context.config)),
+        Function::ModulePath => Some(module_path(alloc, site.context.module)),
         Function::NumJobs => Some(jobs(alloc, site.context.config.jobs)),
         Function::RecipeName => Some(recipe_name(alloc, site)),
         _ => None,
@@ -123,6 +124,13 @@ fn truth<'src>(alloc: Global, site: &CallSite<'_, 'src>) -> Result<Value, Error<
 fn version<'src>(alloc: Global, config: &Config) -> Result<Value, Error<'src>> {
     let version = &config.version;
     let text = format!(in alloc; "{version}")?;
+    Ok(Value::from_string(alloc, text)?)
+}
+
+/// The names of the modules from the root to this one with `::` between two.
+fn module_path<'src>(alloc: Global, module: &ModuleView<'_, 'src>) -> Result<Value, Error<'src>> {
+    let path = Modulepath::of_module(alloc, module.modules, module.place)?;
+    let text = format!(in alloc; "{path}")?;
     Ok(Value::from_string(alloc, text)?)
 }
 

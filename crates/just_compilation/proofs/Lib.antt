@@ -2,3 +2,4 @@ pub mod Tabled
 pub mod Walks
 pub mod Keys
 pub mod Pieces
+pub mod Upward

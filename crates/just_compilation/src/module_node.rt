@@ -3,7 +3,7 @@ ghost use Rattle.std.specs.Prelude.{◌≡◌, option_map, slice_get};
 
 use crate::place::Place;
 use crate::recipe_name::RecipeName;
-use just_text::{Name, Text};
+use just_text::Name;
 use just_tree::{Ast, Item};
 
 /// A file as a module takes it: one that two modules take stands here twice, with other numbers.
@@ -36,8 +36,6 @@ pub struct ModuleNode<'src> {
     pub name: Option<Name<'src>>,
     /// Its `mod` item, in a file of the parent; the root has none.
     pub item: Option<Place>,
-    /// The names from the root to here with `::` between two; empty for the root.
-    pub path: Text,
     /// The key of the module's file.
     pub source: &'src str,
     /// The place of the module's file among all files. Its imports follow it in reading order.

@@ -1,5 +1,5 @@
 //! Paths of modules.
-ghost use Rattle.std.specs.Prelude.{◌≡◌, ◌∷◌, ◌++◌, [], IfOk, Some, None, OnOk, if◌then◌else◌, map};
+ghost use Rattle.std.specs.Prelude.{◌≡◌, ◌∷◌, ◌++◌, [], IfOk, Some, None, OnOk, if◌then◌else◌, length, map, slice_get};
 ghost use Rattle.std.specs.Cmp.Rules.{comparing};
 ghost use Rattle.std.specs.List.{list_all, starts_with};
 ghost use Rattle.std.specs.Option.{option_map};
@@ -11,6 +11,7 @@ ghost use Rattle.just_compilation.specs.Modulepaths.{paths_cmp, paths_eq, paths_
 ghost use Rattle.just_text.specs.Names.{joined_names};
 ghost use Rattle.just_compilation.specs.Tables.{texts};
 
+use crate::module_node::ModuleNode;
 use just_text::{Namepath, Text};
 use std::alloc::{AllocError, Global};
 use std::cmp::Ordering;
@@ -106,6 +107,49 @@ fn names(alloc: Global, words: &[&str]) -> Result<Option<Vec<Text>>, AllocError>
     Ok(Some(components))
 }
 
+/// The module at the place, if there is one.
+fn node_at<'a, 'src>(
+    modules: &'a [ModuleNode<'src>],
+    place: Option<usize>,
+) -> Option<&'a ModuleNode<'src>>
+    ensures { option_map (λ node. node.now) result ≡ spec.node_at modules.now place }
+{
+    match place {
+        Some(place) => modules.get(place),
+        None => None,
+    }
+}
+
+/// Puts the module's name behind the others; the root has none.
+fn push_own_name(
+    alloc: Global,
+    components: &mut Vec<Text>,
+    node: &ModuleNode,
+) -> Result<(), AllocError>
+    ensures { OnOk result (components.new.items ≡ components.old.items ++ spec.own_names node.now) }
+{
+    if let Some(name) = &node.name {
+        components.push(Text::from_text(alloc, name.lexeme())?)?;
+    }
+    Ok(())
+}
+
+/// The names of the module at the place and of those above it, its own first.
+fn names_up(alloc: Global, modules: &[ModuleNode], module: usize) -> Result<Vec<Text>, AllocError>
+    ensures { IfOk result (λ names. names.items ≡ spec.names_up modules.now (slice_get modules.now «module») (length modules.now)) }
+{
+    let mut components = Vec::new(alloc);
+    let mut next = Some(module);
+    for _ in 0..modules.len() {
+        let Some(node) = node_at(modules, next) else {
+            return Ok(components);
+        };
+        push_own_name(alloc, &mut components, node)?;
+        next = node.parent;
+    }
+    Ok(components)
+}
+
 impl Modulepath {
     /// The path that words write: one word has its names with `::` between them; otherwise each word
     /// is a name, and no word is the empty path. None where a name is none that a file can have.
@@ -142,6 +186,20 @@ impl Modulepath {
         for name in path.names() {
             components.push(Text::from_text(alloc, name.lexeme())?)?;
         }
+        Ok(Modulepath { components })
+    }
+
+    /// The path of the module at the place among these, of which each stands behind its parent; empty
+    /// for the root, and where there is no such module. Refused only where memory is.
+    pub fn of_module(
+        alloc: Global,
+        modules: &[ModuleNode],
+        module: usize,
+    ) -> Result<Modulepath, AllocError>
+        ensures { IfOk result (λ p. p ≡ spec.path_in modules.now «module») }
+    {
+        let mut components = names_up(alloc, modules, module)?;
+        components.reverse();
         Ok(Modulepath { components })
     }
 

@@ -6,6 +6,7 @@ mod imports;
 mod items;
 mod load;
 mod nodes;
+mod queue;
 mod search;
 mod submodules;
 

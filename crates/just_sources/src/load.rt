@@ -1,10 +1,12 @@
 //! Loading files into modules.
+ghost use Rattle.std.specs.Prelude.{◌≡◌, ◌+◌, ◌<◌, length, true, IfOk, OnOk};
 
 use crate::folders::Folders;
 use crate::imports::{Reached, depth_behind};
 use crate::nodes::add_node;
+use crate::queue::{Pending, Queue};
 use crate::search::Files;
-use crate::submodules::{Pending, find_all};
+use crate::submodules::find_all;
 use just_compilation::{Compilation, Error, File, Source, is_clean};
 use just_host::Config;
 use just_value::CONSTANT_COUNT;
@@ -57,11 +59,11 @@ fn read_file<'src, E: Expander>(
 
 /// Puts the file behind the others, if it was read.
 fn add_file<'src>(
-    compilation: &mut Compilation<'src>,
+    files: &mut Vec<File<'src>>,
     read: Result<File<'src>, Error<'src>>,
 ) -> Result<(), Error<'src>> {
     match read {
-        Ok(file) => match compilation.add_file(file) {
+        Ok(file) => match files.push(file) {
             Ok(()) => Ok(()),
             Err(_) => Err(Error::OutOfMemory),
         },
@@ -74,7 +76,7 @@ impl<'src, 'a, E: Expander> Loader<'src, 'a, E> {
     fn load_file(
         &self,
         alloc: Global,
-        compilation: &mut Compilation<'src>,
+        files: &mut Vec<File<'src>>,
         numerator: &mut Numerator,
         source: Source<'src>,
         module: usize,
@@ -89,21 +91,21 @@ impl<'src, 'a, E: Expander> Loader<'src, 'a, E> {
             module,
             depth,
         );
-        add_file(compilation, read)
+        add_file(files, read)
     }
 
     /// Loads the files for the module, and puts them behind the others.
     fn load_new(
         &self,
         alloc: Global,
-        compilation: &mut Compilation<'src>,
+        files: &mut Vec<File<'src>>,
         numerator: &mut Numerator,
         new: &[Source<'src>],
         module: usize,
         depth: u32,
     ) -> Result<(), Error<'src>> {
         for source in new {
-            self.load_file(alloc, compilation, numerator, *source, module, depth)?;
+            self.load_file(alloc, files, numerator, *source, module, depth)?;
         }
         Ok(())
     }
@@ -113,19 +115,19 @@ impl<'src, 'a, E: Expander> Loader<'src, 'a, E> {
     fn load_imports(
         &self,
         alloc: Global,
-        compilation: &mut Compilation<'src>,
+        files: &mut Vec<File<'src>>,
         numerator: &mut Numerator,
         reached: &mut Reached<'src>,
         module: usize,
         place: usize,
     ) -> Result<bool, Error<'src>> {
-        let all = compilation.files.as_slice();
+        let all = files.as_slice();
         if place >= all.len() {
             return Ok(false);
         }
         let depth = depth_behind(all, place);
         let new = reached.follow(alloc, self.files.sources, all, place)?;
-        self.load_new(alloc, compilation, numerator, new.as_slice(), module, depth)?;
+        self.load_new(alloc, files, numerator, new.as_slice(), module, depth)?;
         Ok(true)
     }
 
@@ -134,7 +136,7 @@ impl<'src, 'a, E: Expander> Loader<'src, 'a, E> {
     fn load_reached(
         &self,
         alloc: Global,
-        compilation: &mut Compilation<'src>,
+        files: &mut Vec<File<'src>>,
         numerator: &mut Numerator,
         reached: &mut Reached<'src>,
         module: usize,
@@ -142,7 +144,7 @@ impl<'src, 'a, E: Expander> Loader<'src, 'a, E> {
     ) -> Result<(), Error<'src>> {
         for count in 0..self.files.sources.len() {
             let place = first.saturating_add(count);
-            if !self.load_imports(alloc, compilation, numerator, reached, module, place)? {
+            if !self.load_imports(alloc, files, numerator, reached, module, place)? {
                 return Ok(());
             }
         }
@@ -156,7 +158,7 @@ impl<'src, 'a, E: Expander> Loader<'src, 'a, E> {
     fn load_files(
         &self,
         alloc: Global,
-        compilation: &mut Compilation<'src>,
+        files: &mut Vec<File<'src>>,
         numerator: &mut Numerator,
         key: &'src str,
         module: usize,
@@ -164,22 +166,22 @@ impl<'src, 'a, E: Expander> Loader<'src, 'a, E> {
     ) -> Result<(), Error<'src>> {
         let mut reached = Reached::new(alloc);
         reached.begin(key)?;
-        self.load_reached(alloc, compilation, numerator, &mut reached, module, first)?;
-        reached.check(alloc, compilation.files.as_slice(), first)
+        self.load_reached(alloc, files, numerator, &mut reached, module, first)?;
+        reached.check(alloc, files.as_slice(), first)
     }
 
     /// Loads the file for the module, and all that it imports, in reading order.
     fn load_texts(
         &self,
         alloc: Global,
-        compilation: &mut Compilation<'src>,
+        files: &mut Vec<File<'src>>,
         numerator: &mut Numerator,
         source: Source<'src>,
+        module: usize,
     ) -> Result<(), Error<'src>> {
-        let module = compilation.modules.len();
-        let first = compilation.files.len();
-        self.load_file(alloc, compilation, numerator, source, module, 0)?;
-        self.load_files(alloc, compilation, numerator, source.key, module, first)
+        let first = files.len();
+        self.load_file(alloc, files, numerator, source, module, 0)?;
+        self.load_files(alloc, files, numerator, source.key, module, first)
     }
 
     /// Loads the module's files, and puts it behind the others and its submodules with those that are
@@ -189,13 +191,17 @@ impl<'src, 'a, E: Expander> Loader<'src, 'a, E> {
         alloc: Global,
         compilation: &mut Compilation<'src>,
         numerator: &mut Numerator,
-        pending: &mut Vec<Pending<'src>>,
+        queue: &mut Queue<'src>,
         next: &Pending<'src>,
-    ) -> Result<(), Error<'src>> {
+    ) -> Result<(), Error<'src>>
+        ensures { OnOk result (length compilation.new.modules.items ≡ length compilation.old.modules.items + 1) }
+    {
+        let module = compilation.modules.len();
         let first = compilation.files.len();
-        self.load_texts(alloc, compilation, numerator, next.source)?;
+        let files = &mut compilation.files;
+        self.load_texts(alloc, files, numerator, next.source, module)?;
         let os = self.config.os;
-        add_module(alloc, &self.files, os, compilation, pending, next, first)
+        add_module(alloc, &self.files, os, compilation, queue, next, first)
     }
 
     /// Loads the next module that is still to load. False where there is none.
@@ -204,30 +210,27 @@ impl<'src, 'a, E: Expander> Loader<'src, 'a, E> {
         alloc: Global,
         compilation: &mut Compilation<'src>,
         numerator: &mut Numerator,
-        pending: &mut Vec<Pending<'src>>,
-    ) -> Result<bool, Error<'src>> {
-        let Some(next) = pending.pop() else {
+        queue: &mut Queue<'src>,
+    ) -> Result<bool, Error<'src>>
+        ensures { IfOk result (λ loaded. loaded ≡ true → length compilation.old.modules.items < length compilation.new.modules.items) }
+    {
+        let Some(next) = queue.pop() else {
             return Ok(false);
         };
-        self.load_module(alloc, compilation, numerator, pending, &next)?;
+        self.load_module(alloc, compilation, numerator, queue, &next)?;
         Ok(true)
     }
 
-    /// Loads all modules that are still to load. Each turn makes one, and so many as the turns that
-    /// there are find no memory.
+    /// Loads all modules that are still to load.
     fn load_pending(
         &self,
         alloc: Global,
         compilation: &mut Compilation<'src>,
         numerator: &mut Numerator,
-        pending: &mut Vec<Pending<'src>>,
+        queue: &mut Queue<'src>,
     ) -> Result<(), Error<'src>> {
-        for _ in 0..u64::MAX {
-            if !self.load_next(alloc, compilation, numerator, pending)? {
-                return Ok(());
-            }
-        }
-        Err(Error::OutOfMemory)
+        while self.load_next(alloc, compilation, numerator, queue)? {}
+        Ok(())
     }
 
     /// Loads all that the root file imports, and its module. The root file is the first file.
@@ -236,12 +239,13 @@ impl<'src, 'a, E: Expander> Loader<'src, 'a, E> {
         alloc: Global,
         compilation: &mut Compilation<'src>,
         numerator: &mut Numerator,
-        pending: &mut Vec<Pending<'src>>,
+        queue: &mut Queue<'src>,
         root: &Pending<'src>,
     ) -> Result<(), Error<'src>> {
-        self.load_files(alloc, compilation, numerator, root.source.key, 0, 0)?;
+        let files = &mut compilation.files;
+        self.load_files(alloc, files, numerator, root.source.key, 0, 0)?;
         let os = self.config.os;
-        add_module(alloc, &self.files, os, compilation, pending, root, 0)
+        add_module(alloc, &self.files, os, compilation, queue, root, 0)
     }
 
     /// Loads the module of the root file, which is the first file, and all modules below it.
@@ -252,15 +256,15 @@ impl<'src, 'a, E: Expander> Loader<'src, 'a, E> {
         numerator: &mut Numerator,
         root: Source<'src>,
     ) -> Result<(), Error<'src>> {
-        let mut pending = Vec::new(alloc);
+        let mut queue = Queue::new(alloc);
         let own = Pending {
             source: root,
             parent: None,
             item: None,
             name: None,
         };
-        self.load_own(alloc, compilation, numerator, &mut pending, &own)?;
-        self.load_pending(alloc, compilation, numerator, &mut pending)
+        self.load_own(alloc, compilation, numerator, &mut queue, &own)?;
+        self.load_pending(alloc, compilation, numerator, &mut queue)
     }
 }
 
@@ -271,13 +275,16 @@ fn add_module<'src>(
     files: &Files<'src, '_>,
     os: Os,
     compilation: &mut Compilation<'src>,
-    pending: &mut Vec<Pending<'src>>,
+    queue: &mut Queue<'src>,
     next: &Pending<'src>,
     first: usize,
-) -> Result<(), Error<'src>> {
+) -> Result<(), Error<'src>>
+    ensures { OnOk result (length compilation.new.modules.items ≡ length compilation.old.modules.items + 1) }
+{
     let module = compilation.modules.len();
     add_node(alloc, compilation, next, first)?;
-    find_all(alloc, files, os, compilation, pending, first, module)
+    queue.enter(next, module)?;
+    find_all(alloc, files, os, compilation, queue, first, module)
 }
 
 /// Loads all files that can be reached from the root file, which is the first file, given the files by
@@ -344,7 +351,7 @@ fn load_text<'src, E: Expander>(
     let source = root_source(sources, root)?;
     let mut numerator = Numerator::new(CONSTANT_COUNT);
     let read = read_file(alloc, config, expander, &mut numerator, source, 0, 0);
-    add_file(compilation, read)?;
+    add_file(&mut compilation.files, read)?;
     load_behind(
         alloc,
         config,

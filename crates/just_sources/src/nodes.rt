@@ -1,33 +1,14 @@
 //! Modules as they are loaded.
+ghost use Rattle.std.specs.Prelude.{◌≡◌, ◌+◌, length, OnOk};
 
-use crate::submodules::Pending;
+use crate::queue::Pending;
 use just_compilation::{Compilation, ModuleNode};
-use justfile_syntax::{Name, Text};
 use std::alloc::{AllocError, Global};
-
-/// The path of the module at the place, empty where there is none.
-fn path_at<'node>(modules: &'node [ModuleNode<'_>], place: Option<usize>) -> &'node str {
-    match place {
-        Some(place) if place < modules.len() => modules[place].path.as_str(),
-        _ => "",
-    }
-}
-
-/// The path of a module: its name behind its parent's path.
-fn path_text(alloc: Global, parent: &str, name: Option<Name<'_>>) -> Result<Text, AllocError> {
-    let text = match &name {
-        Some(name) if parent.is_empty() => String::from_str(alloc, name.lexeme())?,
-        Some(name) => format!(in alloc; "{parent}::{name}")?,
-        None => String::from_str(alloc, parent)?,
-    };
-    Ok(Text::from_string(text))
-}
 
 /// A module that keeps nothing yet.
 fn new_node<'src>(
     alloc: Global,
     pending: &Pending<'src>,
-    path: Text,
     first_file: usize,
     end_file: usize,
 ) -> ModuleNode<'src> {
@@ -35,7 +16,6 @@ fn new_node<'src>(
         parent: pending.parent,
         name: pending.name,
         item: pending.item,
-        path,
         source: pending.source.key,
         first_file,
         end_file,
@@ -56,7 +36,9 @@ fn note_submodule(
     compilation: &mut Compilation<'_>,
     parent: Option<usize>,
     submodule: usize,
-) -> Result<(), AllocError> {
+) -> Result<(), AllocError>
+    ensures { OnOk result (length compilation.new.modules.items ≡ length compilation.old.modules.items) }
+{
     if let Some(parent) = parent {
         if let Some(node) = compilation.modules.get_mut(parent) {
             node.submodules.push(submodule)?;
@@ -72,29 +54,11 @@ pub fn add_node<'src>(
     compilation: &mut Compilation<'src>,
     pending: &Pending<'src>,
     first_file: usize,
-) -> Result<(), AllocError> {
-    let parent = path_at(compilation.modules.as_slice(), pending.parent);
-    let path = path_text(alloc, parent, pending.name)?;
+) -> Result<(), AllocError>
+    ensures { OnOk result (length compilation.new.modules.items ≡ length compilation.old.modules.items + 1) }
+{
     let place = compilation.modules.len();
-    let node = new_node(alloc, pending, path, first_file, compilation.files.len());
+    let node = new_node(alloc, pending, first_file, compilation.files.len());
     compilation.add_module(node)?;
     note_submodule(compilation, pending.parent, place)
-}
-
-/// Whether the file is that of the module or of one above it.
-pub fn is_above(modules: &[ModuleNode<'_>], module: usize, key: &str) -> bool {
-    let mut place = module;
-    for _ in 0..modules.len() {
-        if place >= modules.len() {
-            return false;
-        }
-        if modules[place].source == key {
-            return true;
-        }
-        let Some(parent) = modules[place].parent else {
-            return false;
-        };
-        place = parent;
-    }
-    false
 }

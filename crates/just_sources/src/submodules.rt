@@ -2,20 +2,11 @@
 
 use crate::imports::key_at;
 use crate::items::{items_of, module_of};
-use crate::nodes::is_above;
+use crate::queue::{Pending, Queue};
 use crate::search::Files;
-use just_compilation::{Compilation, Error, File, ModuleNode, Place, Source};
+use just_compilation::{Compilation, Error, File, Place, Source};
 use justfile_syntax::{Item, Name, Os};
 use std::alloc::Global;
-
-/// A module that is still to load.
-#[derive(Clone, Copy)]
-pub struct Pending<'src> {
-    pub source: Source<'src>,
-    pub parent: Option<usize>,
-    pub item: Option<Place>,
-    pub name: Option<Name<'src>>,
-}
 
 /// A submodule that a file has, and its file.
 #[derive(Clone, Copy)]
@@ -79,24 +70,23 @@ fn submodules_at<'src>(
 }
 
 /// Puts the submodule of the file at the place, which is one of the module, with those that are still to
-/// load.
+/// load. The module was loaded last.
 ///
 /// Refused as `CircularImport` where its file is that of the module or of one above it.
 fn add_pending<'src>(
     all: &[File<'src>],
-    modules: &[ModuleNode<'src>],
-    pending: &mut Vec<Pending<'src>>,
+    queue: &mut Queue<'src>,
     submodule: Submodule<'src>,
     file: usize,
     module: usize,
 ) -> Result<(), Error<'src>> {
-    if is_above(modules, module, submodule.source.key) {
+    if queue.is_above(submodule.source.key) {
         return Err(Error::CircularImport {
             current: key_at(all, file),
             import: submodule.source.key,
         });
     }
-    pending.push(Pending {
+    queue.push(Pending {
         source: submodule.source,
         parent: Some(module),
         item: Some(Place {
@@ -109,38 +99,37 @@ fn add_pending<'src>(
 }
 
 /// Puts the submodules of the file at the place, which is one of the module, with those that are still to
-/// load.
+/// load. The module was loaded last.
 fn find_submodules<'src>(
     alloc: Global,
     files: &Files<'src, '_>,
     os: Os,
     compilation: &Compilation<'src>,
-    pending: &mut Vec<Pending<'src>>,
+    queue: &mut Queue<'src>,
     place: usize,
     module: usize,
 ) -> Result<(), Error<'src>> {
     let all = compilation.files.as_slice();
-    let modules = compilation.modules.as_slice();
     let found = submodules_at(alloc, files, os, all, place)?;
     for submodule in found.as_slice() {
-        add_pending(all, modules, pending, *submodule, place, module)?;
+        add_pending(all, queue, *submodule, place, module)?;
     }
     Ok(())
 }
 
 /// Puts the submodules of the module's files, which are those from the place `first` on, with those that
-/// are still to load.
+/// are still to load. The module was loaded last.
 pub fn find_all<'src>(
     alloc: Global,
     files: &Files<'src, '_>,
     os: Os,
     compilation: &Compilation<'src>,
-    pending: &mut Vec<Pending<'src>>,
+    queue: &mut Queue<'src>,
     first: usize,
     module: usize,
 ) -> Result<(), Error<'src>> {
     for place in first..compilation.files.len() {
-        find_submodules(alloc, files, os, compilation, pending, place, module)?;
+        find_submodules(alloc, files, os, compilation, queue, place, module)?;
     }
     Ok(())
 }

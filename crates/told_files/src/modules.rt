@@ -1,7 +1,7 @@
 //! What compiling makes of files, in words: what each module keeps, or the refusal and its place.
 use crate::files::Unchanged;
 use just_host::Config;
-use just_modules::{Compilation, Compiler, Error, ModuleNode, Place};
+use just_modules::{Compilation, Compiler, Error, ModuleNode, Modulepath, Place};
 use std::alloc::{AllocError, Global};
 use std::collections::BTreeMap;
 
@@ -48,9 +48,12 @@ fn tell_others(
 fn tell_module(
     compilation: &Compilation,
     out: &mut String,
+    module: usize,
     node: &ModuleNode,
 ) -> Result<(), AllocError> {
-    write!(out, "[{}]", node.path)?;
+    let modules = compilation.modules.as_slice();
+    let path = Modulepath::of_module(*out.allocator(), modules, module)?;
+    write!(out, "[{path}]")?;
     tell_places(compilation, out, "aliases", node.aliases.as_slice())?;
     tell_places(compilation, out, "disabled", node.disabled.as_slice())?;
     tell_places(compilation, out, "functions", node.functions.as_slice())?;
@@ -67,7 +70,7 @@ fn tell_modules(compilation: &Compilation, out: &mut String) -> Result<(), Alloc
             return Ok(());
         };
         if let Some(node) = compilation.module(module) {
-            tell_module(compilation, out, node)?;
+            tell_module(compilation, out, module, node)?;
             for submodule in node.submodules.iter().rev() {
                 open.push(*submodule)?;
             }
