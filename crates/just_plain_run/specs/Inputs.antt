@@ -1,5 +1,5 @@
 -- What a call is given, by contents.
-use Rattle.std.specs.Prelude.{◌≡◌, ℕ, List, [], ◌∷◌, Option, Some, None, map}
+use Rattle.std.specs.Prelude.{◌≡◌, ℕ, cond, List, [], ◌∷◌, Option, Some, None, map}
 use Rattle.std.specs.Option.{option_map, option_cmp}
 use Rattle.std.specs.Prelude.{String}
 use Rattle.std.specs.String.{string_bytes}
@@ -8,6 +8,7 @@ use Rattle.std.specs.Cmp.Lexicographic.{slice_cmp}
 use Rattle.std.specs.BTreeMap.{BTreeMap, get_by, get_by_text}
 use Rattle.justfile_syntax.specs.PlainShapes.{RecipeShape}
 use Rattle.justfile_syntax.specs.Plain.{plain_of}
+use Rattle.just_compilation.specs.Paths.{is_clean}
 use Rattle.just_tree.specs.Files.{ItemShape}
 use Rattle.just_expressions.specs.Literals.{Expansion}
 use Rattle.justfile_syntax.specs.Reads.{Reads}
@@ -15,9 +16,9 @@ use Rattle.semver.specs.declared.Version.{Version}
 use Rattle.just_value.specs.Words.{split}
 use Rattle.just_value.specs.declared.positional.Positional.{Positional}
 
--- the text at a path
+-- the text at a path, if the path is clean and there is one
 abbrev pub text_at : {A B : Type 0} → BTreeMap (String A) (String B) → List ℕ → Option (List ℕ)
-text_at sources path = option_map string_bytes (get_by_text sources path)
+text_at sources path = cond (is_clean path) (option_map string_bytes (get_by_text sources path)) None
 
 -- the path of the root file for a search directory, or for none
 abbrev pub root_at : {A B : Type 0} → BTreeMap (Option (String A)) (String B) → Option (List ℕ) → Option (List ℕ)

@@ -11,6 +11,7 @@ ghost use Rattle.std.specs.Option.{option_map};
 ghost use Rattle.std.specs.String.{string_bytes};
 
 use crate::fault::Fault;
+use just_compilation::is_clean;
 use just_value::{CONSTANT_COUNT, Positional};
 use justfile_syntax::file_law::file_law;
 use justfile_syntax::plain_files::{Ast, plain};
@@ -55,6 +56,19 @@ fn find_root<'src>(
     }
 }
 
+/// The text at the path, if the path is clean and there is one.
+fn text_of<'src>(sources: &'src BTreeMap<String, String>, path: &str) -> Option<&'src str>
+    ensures { option_map (λ text. text.now) result ≡ text_at sources.now path.now }
+{
+    if !is_clean(path) {
+        return None;
+    }
+    match sources.get(path) {
+        Some(text) => Some(text.as_str()),
+        None => None,
+    }
+}
+
 /// The text at the root file's path.
 fn find_text<'src>(
     alloc: Global,
@@ -64,8 +78,8 @@ fn find_text<'src>(
     ensures ok { IfOk result (λ text. text_at sources.now path.now ≡ Some text.now) }
     ensures err { IfErr result (λ fault. IsMissing path.now (text_at sources.now path.now) (verdict fault)) }
 {
-    match sources.get(path) {
-        Some(text) => Ok(text.as_str()),
+    match text_of(sources, path) {
+        Some(text) => Ok(text),
         None => Err(Fault::MissingRoot(Text::from_text(alloc, path)?)),
     }
 }
@@ -107,7 +121,7 @@ fn root_of<'src>(
 
 /// Reads the root file that `roots` name for the words' search directory. The constants' numbers come before its own.
 ///
-/// Refused as `NoRootForWord` and `MissingRoot` where there is none, as `Syntax` where its text is no justfile, and where memory is.
+/// Refused as `NoRootForWord` where there is none, as `MissingRoot` where its path isn't clean or has no text, as `Syntax` where its text is no justfile, and where memory is.
 pub fn read_root<'src, E: Expander>(
     alloc: Global,
     words: &Positional,

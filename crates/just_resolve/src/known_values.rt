@@ -4,19 +4,16 @@ use crate::settled::settled;
 use just_analysis::{KnownValues, ModuleLists, ModuleReads};
 use just_builtins::Settings;
 use just_compilation::{Compilation, ModuleNode};
+use just_functions::paths;
 use just_text::{Number, Text};
-use just_value::{Scope, ValueFault, path};
+use just_value::{Scope, path};
 use std::alloc::{AllocError, Global};
 use std::collections::BTreeMap;
 
-/// The folder of the file with this key.
+/// The folder of the file with this key: the parent of its path below the base.
 fn folder_of(alloc: Global, base: &str, key: &str) -> Result<Text, AllocError> {
     let file = path::join(alloc, base, key)?;
-    match path::parent_directory(alloc, file.as_str()) {
-        Ok(folder) => Ok(Text::from_string(folder)),
-        Err(ValueFault::OutOfMemory) => Err(AllocError),
-        Err(_) => Ok(Text::from_string(String::new(alloc))),
-    }
+    Text::from_text(alloc, paths::parent(file.as_str()).unwrap_or(""))
 }
 
 /// The folder of each module's file.

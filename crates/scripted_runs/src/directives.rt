@@ -101,6 +101,7 @@ fn flagged<'a>(way: Way<'a>, flag: &str) -> Option<Way<'a>> {
 /// The way with this text or number.
 fn valued<'a>(way: Way<'a>, name: &str, value: &'a str) -> Option<Way<'a>> {
     match name {
+        "base" => Some(Way { base: value, ..way }),
         "shell" => Some(Way {
             shell: Some(value),
             ..way

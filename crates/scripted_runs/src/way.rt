@@ -43,6 +43,8 @@ pub struct Way<'a> {
     pub loquacious: bool,
     pub no_dependencies: bool,
     pub jobs: Option<u32>,
+    /// The folder of the justfile, in which the root's commands run.
+    pub base: &'a str,
     /// The shell in place of the justfile's.
     pub shell: Option<&'a str>,
     /// The shell's one word before a command in place of the justfile's.
@@ -69,6 +71,7 @@ pub const RUN: Way<'static> = Way {
     loquacious: false,
     no_dependencies: false,
     jobs: None,
+    base: "/base",
     shell: None,
     shell_arg: None,
     is_shallow: false,
@@ -89,8 +92,8 @@ fn without_shell(alloc: Global, way: Way<'_>) -> Result<Config, AllocError> {
     Ok(Config {
         os: Os::Linux,
         arch: String::from_str(alloc, "x86_64")?,
-        base: String::from_str(alloc, "/base")?,
-        working_directory: String::from_str(alloc, "/base")?,
+        base: String::from_str(alloc, way.base)?,
+        working_directory: String::from_str(alloc, way.base)?,
         invocation_directory: String::from_str(alloc, "/started")?,
         dry_run: way.dry_run,
         yes: way.yes,
@@ -123,7 +126,7 @@ fn alone(alloc: Global, word: Option<&str>) -> Result<Option<Vec<String>>, Alloc
     Ok(Some(words))
 }
 
-/// What a run in this way is told: it is of the folder `/base`, and was started in `/started`.
+/// What a run in this way is told: it was started in `/started`.
 pub(crate) fn config(alloc: Global, way: Way<'_>) -> Result<Config, AllocError> {
     let mut config = without_shell(alloc, way)?;
     config.shell = optional(alloc, way.shell)?;
