@@ -1,6 +1,6 @@
 -- An operand that stands alone is of every rank.
-use Rattle.std.proofs.Common.{◌≡◌, ◌≢◌, ◌-◌, ℕ, zero, suc, Bool, true, false, List, [], ◌∷◌, Result, Ok, Err, Option, Some, None, refl, ◌∙◌, arith, inl, inr, ◌⊎◌}
-use Rattle.std.specs.Prelude.{◌==◌, not}
+use Rattle.std.proofs.Common.{◌≡◌, ◌≢◌, ◌-◌, ℕ, zero, suc, true, false, List, [], ◌∷◌, Result, Ok, Err, Option, Some, None, refl, ◌∙◌, arith, inl, inr, ◌⊎◌}
+use Rattle.std.specs.Prelude.{◌==◌}
 use Rattle.std.specs.Str.{bytes_eq}
 use Rattle.just_text.specs.Tokens.{Word}
 use Rattle.just_text.specs.declared.token_kind.TokenKind.{TokenKind}
@@ -12,7 +12,7 @@ use Rattle.just_expressions.specs.Alone.{is_alone, is_end, goes_on}
 use Rattle.just_expressions.specs.Words.{is_kind, if_keyword}
 use Rattle.just_expressions.specs.Literals.{Expansion}
 use Rattle.just_expressions.specs.Operators.{operator_of}
-use Rattle.just_expressions.specs.Reading.{◌>>=◌, on, Stop, Read, accept, operator_if, operator_at, prefix_at, taken_if, literal_at, named_at, primary_at, operand_at, expression_at}
+use Rattle.just_expressions.specs.Reading.{◌>>=◌, Stop, Read, accept, operator_at, prefix_at, taken_if, literal_at, named_at, primary_at, operand_at, expression_at}
 use Rattle.just_expressions.proofs.Taken.{is_kind-same, test}
 
 module _ {T : Type 0} (word : T → Word) where

@@ -17,3 +17,4 @@ pub mod Elements
 pub mod Interpolations
 pub mod Formats
 pub mod Operands
+pub mod Nexts

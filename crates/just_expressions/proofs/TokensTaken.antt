@@ -1,11 +1,9 @@
 -- What taking a token says of the words.
-use Rattle.std.proofs.Common.{◌≡◌, ℕ, suc, Bool, true, false, List, [], ◌∷◌, map, length, Result, Ok, Err, Option, Some, None, refl, sym, ap, subst, ◌∙◌, inl, inr, ◌⊎◌}
+use Rattle.std.proofs.Common.{◌≡◌, ℕ, suc, true, false, List, [], ◌∷◌, map, length, Ok, Some, None, refl, sym, ap, ◌∙◌, inl, inr}
 use Rattle.just_text.specs.Tokens.{Word}
 use Rattle.just_text.specs.declared.token_kind.TokenKind.{TokenKind}
-use Rattle.just_text.specs.contracts.token_kind.TokenKind.{the_type}
-use denote.Enum.Bare.{same_true, true_same}
 use Rattle.just_expressions.specs.Words.{is_kind, Begins, Mark, Lacks}
-use Rattle.just_expressions.specs.Reading.{◌>>=◌, Read, accept, expect, is_next}
+use Rattle.just_expressions.specs.Reading.{Read, accept, expect, is_next}
 use Rattle.just_expressions.proofs.Taken.{is_kind-same, is_kind-itself, inspect, test, ok_is, some_is, same_front, clash}
 
 -- ---- words

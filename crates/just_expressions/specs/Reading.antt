@@ -131,6 +131,10 @@ module _ {T : Type 0} (word : T → Word) where
   unfoldable pub command_at : T → List T → Read T Shape
   command_at t ts = if is_script (word t).text then Err (refused t kinds.BacktickShebang) else Ok (command (word t).text, ts)
 
+  -- a command with its token
+  abbrev pub command_next : List T → Read T Shape
+  command_next ts = expect Backtick ts >>= λ p. command_at p.0 p.1
+
   -- a part of a format string of this kind, and whether an interpolation follows
   unfoldable pub part_at : StringKind → List T → Read T (List ℕ × Bool)
   part_at kind ts =
@@ -142,9 +146,17 @@ module _ {T : Type 0} (word : T → Word) where
   unfoldable pub closing_at : List T → Result (List T) (Stop T)
   closing_at ts = on (accept Comma ts) (expect ParenR ts) (λ p. expect ParenR p.1) >>= λ p. Ok p.1
 
+  -- a left side alone, or with the operator of that rank behind it and its right side
+  abbrev pub behind_at : (ℕ → List T → Read T Shape) → ℕ → Shape × List T → Read T Shape
+  behind_at deeper k l = on (operator_at k l.1) (Ok l) (λ o. deeper (right_rank o.0.1) o.1 >>= λ r. Ok (binary o.0.1 l.0 r.0, r.1))
+
   module _ (expansion : Expansion) where
     unfoldable pub literal_at : T → List T → Read T Shape
     literal_at t ts = taken_if t (cooked expansion (word t).text) >>= λ s. Ok (literal s, ts)
+
+    -- a string with its token
+    abbrev pub literal_next : List T → Read T Shape
+    literal_next ts = expect StringToken ts >>= λ p. literal_at p.0 p.1
 
     module _ (deeper : ℕ → List T → Read T Shape) where
       -- Elements up to a closing mark. The number bounds the turns, for which the count of the tokens is always enough.
@@ -175,6 +187,10 @@ module _ {T : Type 0} (word : T → Word) where
           then (interpolations_at (suc (length ts)) (kind_of s) ts >>= λ hs. Ok (format s hs.0, hs.1))
           else Ok (format s closed, ts)
 
+      -- a format string with its first token
+      abbrev pub format_next : List T → Read T Shape
+      format_next ts = expect FormatStringStart ts >>= λ p. format_at p.0 p.1
+
       unfoldable pub braces_at : List T → Read T Shape
       braces_at ts = expect BraceL ts >>= λ b. deeper 6 b.1 >>= λ e. expect BraceR e.1 >>= λ d. Ok (e.0, d.1)
 
@@ -199,18 +215,28 @@ module _ {T : Type 0} (word : T → Word) where
           (expect ParenR c.1 >>= λ p. Ok (assertion_alone c.0, p.1))
           (λ p. message_at p.1 >>= λ m. Ok (asserted c.0 m.0, m.1))
 
+      -- the arguments of a call behind its parenthesis
+      abbrev pub arguments_at : List ℕ → List T → Read T Shape
+      arguments_at x ts = elements_at (suc (length ts)) ParenR ts >>= λ es. Ok (call x es.0, es.1)
+
       -- what stands behind a name and a parenthesis
       unfoldable pub call_at : List ℕ → List T → Read T Shape
-      call_at x ts = if bytes_eq x assert_keyword then assertion_at ts else elements_at (suc (length ts)) ParenR ts >>= λ es. Ok (call x es.0, es.1)
+      call_at x ts = if bytes_eq x assert_keyword then assertion_at ts else arguments_at x ts
 
       -- what a name begins
       unfoldable pub named_at : List ℕ → List T → Read T Shape
       named_at x ts = if bytes_eq x if_keyword then choice_at ts else on (accept ParenL ts) (Ok (variable x, ts)) (λ p. call_at x p.1)
 
+      -- a name, and what it begins
+      abbrev pub named_next : List T → Read T Shape
+      named_next ts = expect Identifier ts >>= λ p. named_at (word p.0).text p.1
+
+      abbrev pub listing_at : List T → Read T Shape
+      listing_at ts = expect BracketL ts >>= λ p. elements_at (suc (length p.1)) BracketR p.1 >>= λ es. Ok (listing es.0, es.1)
+
       unfoldable pub bracketed_at : List T → Read T Shape
       bracketed_at ts =
-          on (accept ParenL ts)
-          (expect BracketL ts >>= λ p. elements_at (suc (length p.1)) BracketR p.1 >>= λ es. Ok (listing es.0, es.1))
+          on (accept ParenL ts) (listing_at ts)
           (λ p. deeper 6 p.1 >>= λ e. expect ParenR e.1 >>= λ q. Ok (group e.0, q.1))
 
       unfoldable pub primary_at : List T → Read T Shape
@@ -228,8 +254,7 @@ module _ {T : Type 0} (word : T → Word) where
       operand_at zero ts = primary_at ts
       operand_at (suc j) ts =
           on (prefix_at (suc j) ts)
-          (operand_at j ts >>= λ l. on (operator_at (suc j) l.1) (Ok l)
-          (λ o. deeper (right_rank o.0.1) o.1 >>= λ r. Ok (binary o.0.1 l.0 r.0, r.1)))
+          (operand_at j ts >>= behind_at deeper (suc j))
           (λ p. deeper (suc j) p.1 >>= λ e. Ok (prefixed p.0.1 e.0, e.1))
 
     -- an expression where rank k is allowed, with so many levels left

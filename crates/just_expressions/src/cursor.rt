@@ -83,6 +83,7 @@ impl<'t, 'src> Cursor<'t, 'src> {
 
     /// Whether the next token is of that kind.
     #[tactic(auto, unfolding(crate::specs::Reading::accept, crate::specs::Reading::is_next))]
+    #[inline(never)]
     pub fn is_next(&mut self, kind: TokenKind) -> bool
         ensures value { result ≡ is_next word_of kind (ahead self.old) }
         ensures stays { ahead self.new ≡ ahead self.old }
@@ -95,6 +96,7 @@ impl<'t, 'src> Cursor<'t, 'src> {
 
     /// Whether the next token is an identifier with that text.
     #[tactic(auto, unfolding(crate::specs::Reading::is_keyword))]
+    #[inline(never)]
     pub fn is_keyword(&mut self, keyword: &str) -> bool
         ensures value { result ≡ is_keyword word_of keyword.now (ahead self.old) }
         ensures stays { ahead self.new ≡ ahead self.old }

@@ -1,15 +1,15 @@
 //! A parser of expressions by recursive descent, no deeper than their levels.
-ghost use Rattle.std.specs.Prelude.{◌≡◌, Err, IfOk, IfSome, List, length, suc};
+ghost use Rattle.std.specs.Prelude.{◌≡◌, ◌≢◌, Err, IfOk, IfSome, IsSome, List, length, suc};
 ghost use Rattle.just_text.specs.Tokens.{word_of, lexeme};
 ghost use Rattle.just_text.specs.declared.token.Token.{Token};
 ghost use Rattle.just_expression_tree.specs.Shape.{Shape, inner_shape, shape_of, shapes_of, interpolations_of};
-ghost use Rattle.just_expressions.specs.Literals.{AreCooked, AreInterpolationsCooked, IsCooked};
-ghost use Rattle.just_expressions.specs.Reading.{Fails, Gives, ahead, first, too_deep, elements_at, interpolations_at, format_at, braces_at, otherwise_at, choice_at, closing_at, message_at, assertion_at, call_at, named_at, bracketed_at, primary_at, operand_at, expression_at};
+ghost use Rattle.just_expressions.specs.Literals.{AreCooked, AreInterpolationsCooked, Expansion, IsCooked};
+ghost use Rattle.just_expressions.specs.Reading.{Gives, ahead, first, too_deep, elements_at, interpolations_at, format_at, format_next, braces_at, otherwise_at, choice_at, closing_at, message_at, assertion_at, call_at, named_next, arguments_at, listing_at, bracketed_at, primary_at, prefix_at, behind_at, operand_at, expression_at};
 ghost use Rattle.just_expressions.specs.Words.{assert_keyword};
 
 use crate::cursor::Cursor;
 use crate::fault::Fault;
-use crate::literal::{format_part, is_open, string_literal};
+use crate::literal::{format_part, is_open};
 use crate::node::{assertion, binary, conditional, prefixed};
 use just_expression_tree::{Expression, StringKind, StringLiteral};
 use just_text::{CompileErrorKind, Expander, Name, Token, TokenKind, both, nesting_limit};
@@ -64,20 +64,24 @@ impl<'t, 'src> Cursor<'t, 'src> {
         self.elements(expander, close, nesting_limit())
     }
 
-    // What stands in the way where no level is left.
-    fn too_deep(&mut self) -> Fault<'src>
-        ensures { Fails {Y = Shape × List Token} result (Err (too_deep (first (ahead self.old)))) }
+    // The refusal of an expression for which no level is left.
+    #[inline(never)]
+    fn too_deep(&mut self) -> Result<Expression<'src>, Fault<'src>>
+        ensures gives { Gives {Y = Shape × List Token} (λ e. (shape_of e, ahead self.new)) result (Err (too_deep (first (ahead self.old)))) }
+        ensures cooked { (expansion : Expansion) → IfOk result (IsCooked expansion) }
     {
         match self.peek() {
             Some(token) => {
-                Fault::Refused(token, CompileErrorKind::ParsingRecursionDepthExceeded)
+                let kind = CompileErrorKind::ParsingRecursionDepthExceeded;
+                Err(Fault::Refused(token, kind))
             }
-            None => Fault::Unexpected(None),
+            None => Err(Fault::Unexpected(None)),
         }
     }
 
     // An expression where that rank is allowed, with so many levels left.
     #[cycle(expression)]
+    #[inline(never)]
     #[tactic(auto, unfolding(crate::specs::Reading::expression_at))]
     fn ranked<E: Expander>(
         &mut self,
@@ -89,7 +93,7 @@ impl<'t, 'src> Cursor<'t, 'src> {
         ensures cooked { IfOk result (IsCooked (E.expansion expander.now)) }
     {
         if levels == 0 {
-            return Err(self.too_deep());
+            return self.too_deep();
         }
         // (most are a string or a name, for which no rank need be tried)
         if self.is_alone() {
@@ -100,6 +104,7 @@ impl<'t, 'src> Cursor<'t, 'src> {
 
     // The same in a box, as expressions stand inside of others.
     #[cycle(expression)]
+    #[inline(never)]
     fn boxed<E: Expander>(
         &mut self,
         expander: &E,
@@ -113,9 +118,10 @@ impl<'t, 'src> Cursor<'t, 'src> {
         Ok(Box::new(self.alloc, expression)?)
     }
 
-    // An operand of that rank, where what it holds has so many levels left.
+    // An operand of that rank, where what it holds has so many levels left: ranks are tried from that of what stands first
+    // up, in one frame of the stack.
     #[cycle(expression)]
-    #[tactic(auto, unfolding(crate::specs::Reading::operand_at))]
+    #[inline(never)]
     fn operand<E: Expander>(
         &mut self,
         expander: &E,
@@ -125,14 +131,68 @@ impl<'t, 'src> Cursor<'t, 'src> {
         ensures gives { Gives (λ e. (shape_of e, ahead self.new)) result (operand_at word_of (E.expansion expander.now) (expression_at word_of (E.expansion expander.now) levels) rank (ahead self.old)) }
         ensures cooked { IfOk result (IsCooked (E.expansion expander.now)) }
     {
+        let first = self.prefix_rank(rank);
+        let mut lhs = self.unary(expander, first, levels)?;
+        for below in first..rank {
+            lhs = self.behind(expander, lhs, below + 1, levels)?;
+        }
+        Ok(lhs)
+    }
+
+    // What stands first in an operand: an operator of that rank without a left side and its operand; of rank 0 what stands
+    // alone or in brackets.
+    #[cycle(expression)]
+    #[tactic(auto, unfolding(crate::specs::Reading::operand_at))]
+    fn unary<E: Expander>(
+        &mut self,
+        expander: &E,
+        rank: u8,
+        levels: u16,
+    ) -> Result<Expression<'src>, Fault<'src>>
+        requires { rank ≢ 0 → IsSome (prefix_at word_of rank (ahead self.now)) }
+        ensures gives { Gives (λ e. (shape_of e, ahead self.new)) result (operand_at word_of (E.expansion expander.now) (expression_at word_of (E.expansion expander.now) levels) rank (ahead self.old)) }
+        ensures cooked { IfOk result (IsCooked (E.expansion expander.now)) }
+    {
         if rank == 0 {
             return self.primary(expander, levels);
         }
-        if let Some((token, prefix)) = self.prefix(rank) {
-            let operand = self.boxed(expander, rank, levels)?;
-            return Ok(prefixed(token, prefix, operand));
-        }
-        let lhs = self.operand(expander, rank - 1, levels)?;
+        self.prefixed(expander, rank, levels)
+    }
+
+    // An operator of that rank without a left side, and its operand.
+    #[cycle(expression)]
+    #[inline(never)]
+    fn prefixed<E: Expander>(
+        &mut self,
+        expander: &E,
+        rank: u8,
+        levels: u16,
+    ) -> Result<Expression<'src>, Fault<'src>>
+        requires binds { rank ≢ 0 }
+        requires begins { IsSome (prefix_at word_of rank (ahead self.now)) }
+        ensures gives { Gives (λ e. (shape_of e, ahead self.new)) result (operand_at word_of (E.expansion expander.now) (expression_at word_of (E.expansion expander.now) levels) rank (ahead self.old)) }
+        ensures cooked { IfOk result (IsCooked (E.expansion expander.now)) }
+    {
+        let Some((token, prefix)) = self.prefix(rank) else {
+            unreachable!();
+        };
+        let operand = self.boxed(expander, rank, levels)?;
+        Ok(prefixed(token, prefix, operand))
+    }
+
+    // The left side alone, or with the operator of that rank that stands here and its right side.
+    #[cycle(expression)]
+    #[inline(never)]
+    fn behind<E: Expander>(
+        &mut self,
+        expander: &E,
+        lhs: Expression<'src>,
+        rank: u8,
+        levels: u16,
+    ) -> Result<Expression<'src>, Fault<'src>>
+        ensures gives { Gives (λ e. (shape_of e, ahead self.new)) result (behind_at word_of (expression_at word_of (E.expansion expander.now) levels) rank (shape_of lhs.entry, ahead self.old)) }
+        ensures cooked { IsCooked (E.expansion expander.now) lhs.entry → IfOk result (IsCooked (E.expansion expander.now)) }
+    {
         let Some((token, operator)) = self.operator(rank) else {
             return Ok(lhs);
         };
@@ -151,18 +211,17 @@ impl<'t, 'src> Cursor<'t, 'src> {
         ensures gives { Gives (λ e. (shape_of e, ahead self.new)) result (primary_at word_of (E.expansion expander.now) (expression_at word_of (E.expansion expander.now) levels) (ahead self.old)) }
         ensures cooked { IfOk result (IsCooked (E.expansion expander.now)) }
     {
-        if let Some(token) = self.accept(TokenKind::StringToken) {
-            let string_literal = string_literal(self.alloc, token, expander)?;
-            return Ok(Expression::StringLiteral { string_literal });
+        if self.is_next(TokenKind::StringToken) {
+            return self.literal(expander);
         }
-        if let Some(token) = self.accept(TokenKind::Backtick) {
-            return self.command(token);
+        if self.is_next(TokenKind::Backtick) {
+            return self.backtick();
         }
-        if let Some(token) = self.accept(TokenKind::FormatStringStart) {
-            return self.format_string(expander, token, levels);
+        if self.is_next(TokenKind::FormatStringStart) {
+            return self.format(expander, levels);
         }
-        if let Some(token) = self.accept(TokenKind::Identifier) {
-            return self.named(expander, token, levels);
+        if self.is_next(TokenKind::Identifier) {
+            return self.named(expander, levels);
         }
         self.bracketed(expander, levels)
     }
@@ -170,6 +229,7 @@ impl<'t, 'src> Cursor<'t, 'src> {
     // An expression in parentheses, or a list.
     #[cycle(expression)]
     #[tactic(auto, unfolding(crate::specs::Reading::bracketed_at))]
+    #[inline(never)]
     fn bracketed<E: Expander>(
         &mut self,
         expander: &E,
@@ -183,23 +243,37 @@ impl<'t, 'src> Cursor<'t, 'src> {
             self.expect(TokenKind::ParenR)?;
             return Ok(Expression::Group { contents });
         }
+        self.list(expander, levels)
+    }
+
+    #[cycle(expression)]
+    #[inline(never)]
+    fn list<E: Expander>(
+        &mut self,
+        expander: &E,
+        levels: u16,
+    ) -> Result<Expression<'src>, Fault<'src>>
+        ensures gives { Gives (λ e. (shape_of e, ahead self.new)) result (listing_at word_of (E.expansion expander.now) (expression_at word_of (E.expansion expander.now) levels) (ahead self.old)) }
+        ensures cooked { IfOk result (IsCooked (E.expansion expander.now)) }
+    {
         let token = self.expect(TokenKind::BracketL)?;
         let elements = self.elements(expander, TokenKind::BracketR, levels)?;
         Ok(Expression::List { elements, token })
     }
 
-    // What this name begins.
+    // A name, and what it begins.
     #[cycle(expression)]
     #[tactic(auto, unfolding(crate::specs::Reading::named_at))]
+    #[inline(never)]
     fn named<E: Expander>(
         &mut self,
         expander: &E,
-        token: Token<'src>,
         levels: u16,
     ) -> Result<Expression<'src>, Fault<'src>>
-        ensures gives { Gives (λ e. (shape_of e, ahead self.new)) result (named_at word_of (E.expansion expander.now) (expression_at word_of (E.expansion expander.now) levels) (lexeme token.entry) (ahead self.old)) }
+        ensures gives { Gives (λ e. (shape_of e, ahead self.new)) result (named_next word_of (E.expansion expander.now) (expression_at word_of (E.expansion expander.now) levels) (ahead self.old)) }
         ensures cooked { IfOk result (IsCooked (E.expansion expander.now)) }
     {
+        let token = self.expect(TokenKind::Identifier)?;
         let name = Name::from_token(token);
         if token.lexeme() == "if" {
             return self.conditional(expander, levels);
@@ -213,6 +287,7 @@ impl<'t, 'src> Cursor<'t, 'src> {
     // What stands behind this name and a parenthesis.
     #[cycle(expression)]
     #[tactic(auto, unfolding(crate::specs::Reading::call_at))]
+    #[inline(never)]
     fn call<E: Expander>(
         &mut self,
         expander: &E,
@@ -225,6 +300,21 @@ impl<'t, 'src> Cursor<'t, 'src> {
         if name.lexeme() == "assert" {
             return self.assertion(expander, name, levels);
         }
+        self.arguments(expander, name, levels)
+    }
+
+    // The arguments of a call behind its parenthesis.
+    #[cycle(expression)]
+    #[inline(never)]
+    fn arguments<E: Expander>(
+        &mut self,
+        expander: &E,
+        name: Name<'src>,
+        levels: u16,
+    ) -> Result<Expression<'src>, Fault<'src>>
+        ensures gives { Gives (λ e. (shape_of e, ahead self.new)) result (arguments_at word_of (E.expansion expander.now) (expression_at word_of (E.expansion expander.now) levels) (lexeme name.entry.token) (ahead self.old)) }
+        ensures cooked { IfOk result (IsCooked (E.expansion expander.now)) }
+    {
         let arguments = self.elements(expander, TokenKind::ParenR, levels)?;
         Ok(Expression::Call { name, arguments })
     }
@@ -232,6 +322,7 @@ impl<'t, 'src> Cursor<'t, 'src> {
     // What stands behind `assert` and its parenthesis.
     #[cycle(expression)]
     #[tactic(auto, unfolding(crate::specs::Reading::assertion_at))]
+    #[inline(never)]
     fn assertion<E: Expander>(
         &mut self,
         expander: &E,
@@ -272,6 +363,7 @@ impl<'t, 'src> Cursor<'t, 'src> {
 
     // The end of a call, perhaps behind a comma.
     #[tactic(auto, unfolding(crate::specs::Reading::closing_at))]
+    #[inline(never)]
     fn close_call(&mut self) -> Result<(), Fault<'src>>
         ensures gives { Gives (λ _. ahead self.new) result (closing_at word_of (ahead self.old)) }
     {
@@ -283,6 +375,7 @@ impl<'t, 'src> Cursor<'t, 'src> {
     // What stands behind `if`.
     #[cycle(expression)]
     #[tactic(auto, unfolding(crate::specs::Reading::choice_at))]
+    #[inline(never)]
     fn conditional<E: Expander>(
         &mut self,
         expander: &E,
@@ -319,6 +412,7 @@ impl<'t, 'src> Cursor<'t, 'src> {
 
     #[cycle(expression)]
     #[tactic(auto, unfolding(crate::specs::Reading::braces_at))]
+    #[inline(never)]
     fn braces<E: Expander>(
         &mut self,
         expander: &E,
@@ -335,6 +429,7 @@ impl<'t, 'src> Cursor<'t, 'src> {
 
     // Elements up to the closing mark, a comma behind each, which the last may lack.
     #[cycle(expression)]
+    #[inline(never)]
     fn elements<E: Expander>(
         &mut self,
         expander: &E,
@@ -357,7 +452,23 @@ impl<'t, 'src> Cursor<'t, 'src> {
 
     // A format string, from its first part on.
     #[cycle(expression)]
+    #[inline(never)]
+    fn format<E: Expander>(
+        &mut self,
+        expander: &E,
+        levels: u16,
+    ) -> Result<Expression<'src>, Fault<'src>>
+        ensures gives { Gives (λ e. (shape_of e, ahead self.new)) result (format_next word_of (E.expansion expander.now) (expression_at word_of (E.expansion expander.now) levels) (ahead self.old)) }
+        ensures cooked { IfOk result (IsCooked (E.expansion expander.now)) }
+    {
+        let token = self.expect(TokenKind::FormatStringStart)?;
+        self.format_string(expander, token, levels)
+    }
+
+    // A format string behind the token of its first part.
+    #[cycle(expression)]
     #[tactic(auto, unfolding(crate::specs::Reading::format_at))]
+    #[inline(never)]
     fn format_string<E: Expander>(
         &mut self,
         expander: &E,
@@ -379,6 +490,7 @@ impl<'t, 'src> Cursor<'t, 'src> {
 
     // The interpolations of a format string, each with the part behind it.
     #[cycle(expression)]
+    #[inline(never)]
     fn interpolations<E: Expander>(
         &mut self,
         expander: &E,

@@ -6,8 +6,8 @@ ghost use Rattle.just_expression_tree.specs.Kinds.{kind_of};
 ghost use Rattle.just_expression_tree.specs.Cooking.{cooked, command as cooked_command};
 ghost use Rattle.just_expression_tree.specs.Parts.{cooked_part};
 ghost use Rattle.just_expressions.specs.declared.fault.Fault.TheVariants.{OutOfMemory, Refused};
-ghost use Rattle.just_expressions.specs.Literals.{held_by, is_open, of_command};
-ghost use Rattle.just_expressions.specs.Reading.{Gives, ahead, taken_if, command_at, part_at};
+ghost use Rattle.just_expressions.specs.Literals.{Expansion, held_by, is_open, of_command, IsCooked};
+ghost use Rattle.just_expressions.specs.Reading.{Gives, ahead, taken_if, literal_next, command_at, command_next, part_at};
 ghost use Rattle.just_expression_tree.specs.Shape.{command, shape_of, written};
 
 use crate::cursor::Cursor;
@@ -30,6 +30,7 @@ fn refused<'src>(token: Token<'src>, error: CompileError<'src>) -> Fault<'src>
 }
 
 /// A string.
+#[inline(never)]
 pub(crate) fn string_literal<'src, E: Expander>(
     alloc: Global,
     token: Token<'src>,
@@ -47,6 +48,7 @@ pub(crate) fn string_literal<'src, E: Expander>(
 }
 
 /// A part of a format string of this kind.
+#[inline(never)]
 pub(crate) fn format_part<'src>(
     alloc: Global,
     kind: StringKind,
@@ -75,8 +77,34 @@ pub(crate) fn is_open(part: &str) -> bool
 }
 
 impl<'t, 'src> Cursor<'t, 'src> {
+    // A string as an expression.
+    #[inline(never)]
+    #[tactic(auto, unfolding(crate::specs::Reading::literal_at))]
+    pub(crate) fn literal<E: Expander>(
+        &mut self,
+        expander: &E,
+    ) -> Result<Expression<'src>, Fault<'src>>
+        ensures gives { Gives (λ e. (shape_of e, ahead self.new)) result (literal_next word_of (E.expansion expander.now) (ahead self.old)) }
+        ensures cooked { IfOk result (IsCooked (E.expansion expander.now)) }
+    {
+        let token = self.expect(TokenKind::StringToken)?;
+        let string_literal = string_literal(self.alloc, token, expander)?;
+        Ok(Expression::StringLiteral { string_literal })
+    }
+
+    // A command, with its token.
+    #[inline(never)]
+    pub(crate) fn backtick(&mut self) -> Result<Expression<'src>, Fault<'src>>
+        ensures gives { Gives (λ e. (shape_of e, ahead self.new)) result (command_next word_of (ahead self.old)) }
+        ensures cooked { (expansion : Expansion) → IfOk result (IsCooked expansion) }
+    {
+        let token = self.expect(TokenKind::Backtick)?;
+        self.command(token)
+    }
+
     // A command.
     #[tactic(auto, unfolding(crate::specs::Reading::command_at))]
+    #[inline(never)]
     pub(crate) fn command(&self, token: Token<'src>) -> Result<Expression<'src>, Fault<'src>>
         ensures gives { Gives (λ e. (shape_of e, ahead self.now)) result (command_at word_of token.entry (ahead self.now)) }
         ensures shape { IfOk result (λ e. shape_of e ≡ command (lexeme token.entry)) }
@@ -91,6 +119,7 @@ impl<'t, 'src> Cursor<'t, 'src> {
 
     // A part of a format string of this kind, and whether an interpolation follows.
     #[tactic(auto, unfolding(crate::specs::Reading::part_at))]
+    #[inline(never)]
     pub(crate) fn part(
         &mut self,
         kind: StringKind,

@@ -29,6 +29,7 @@ fn goes_on(kind: TokenKind) -> bool
 impl<'t, 'src> Cursor<'t, 'src> {
     /// Whether the next token is a whole operand, of every rank.
     #[tactic(auto, unfolding(crate::specs::Alone::is_alone))]
+    #[inline(never)]
     pub(crate) fn is_alone(&mut self) -> bool
         ensures value { result ≡ is_alone word_of (ahead self.old) }
         ensures stays { ahead self.new ≡ ahead self.old }

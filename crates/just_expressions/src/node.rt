@@ -12,6 +12,7 @@ use just_expression_tree::Expression;
 use just_text::{Name, Token};
 
 /// An operator and its two sides.
+#[inline(never)]
 pub(crate) fn binary<'src>(
     lhs: Box<Expression<'src>>,
     token: Token<'src>,
@@ -49,6 +50,7 @@ pub(crate) fn binary<'src>(
 }
 
 /// An operator without a left side, and its operand.
+#[inline(never)]
 pub(crate) fn prefixed<'src>(
     token: Token<'src>,
     prefix: Prefix,
@@ -68,6 +70,7 @@ pub(crate) fn prefixed<'src>(
 }
 
 /// A call of `assert`.
+#[inline(never)]
 pub(crate) fn assertion<'src>(
     name: Name<'src>,
     condition: Box<Expression<'src>>,
@@ -84,6 +87,7 @@ pub(crate) fn assertion<'src>(
 }
 
 /// A conditional.
+#[inline(never)]
 pub(crate) fn conditional<'src>(
     condition: Box<Expression<'src>>,
     then: Box<Expression<'src>>,

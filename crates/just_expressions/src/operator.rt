@@ -1,5 +1,5 @@
 //! Operators and how they bind.
-ghost use Rattle.std.specs.Prelude.{◌≡◌, option_map, IfNone};
+ghost use Rattle.std.specs.Prelude.{◌≡◌, ◌≢◌, ◌<◌, ◌≤◌, ℕ, None, option_map, IfNone, IsSome};
 ghost use Rattle.std.specs.Option.{option_map as mapped};
 ghost use Rattle.just_text.specs.Tokens.{word_of};
 ghost use Rattle.just_expressions.specs.Operators.{operator_of, rank, right_rank};
@@ -98,6 +98,25 @@ impl<'t, 'src> Cursor<'t, 'src> {
             1 => Some((self.accept(TokenKind::Bang)?, Prefix::Not)),
             2 => Some((self.accept(TokenKind::Slash)?, Prefix::Join)),
             _ => None,
+        }
+    }
+
+    /// The greatest rank, up to that one, of which the next token is an operator without a left side; 0 where there is none.
+    #[tactic(auto, unfolding(crate::specs::Reading::prefix_at, crate::specs::Reading::accept))]
+    #[inline(never)]
+    pub(crate) fn prefix_rank(&mut self, rank: u8) -> u8
+        ensures within { result ≤ rank }
+        ensures found { result ≢ 0 → IsSome (prefix_at word_of result (ahead self.old)) }
+        ensures others { (other : ℕ) → result < other → other ≤ rank → prefix_at word_of other (ahead self.old) ≡ None }
+        ensures stays { ahead self.new ≡ ahead self.old }
+    {
+        let Some(token) = self.peek() else {
+            return 0;
+        };
+        match token.kind {
+            TokenKind::Bang if rank >= 1 => 1,
+            TokenKind::Slash if rank >= 2 => 2,
+            _ => 0,
         }
     }
 }

@@ -1,31 +1,31 @@
 -- What the loops read, and what lists, calls, format strings and operands are.
-use Rattle.std.proofs.Common.{◌≡◌, ◌≢◌, ◌∙◌, ◌∷◌, ◌++◌, [], ◌-◌, true, false, None, Ok, ap, sym, rules, arith}
+use Rattle.std.proofs.Common.{◌≡◌, ◌≢◌, ◌∙◌, ◌∷◌, ◌++◌, ◌+◌, [], ◌-◌, true, false, None, Ok, ap, sym, rules, arith}
 use Rattle.std.proofs.lemmas.Result.{err_from_is_err_and}
 use Rattle.just_text.specs.Tokens.{word_of, lexeme}
-use Rattle.just_text.specs.declared.token_kind.TokenKind.TheVariants.{Comma}
+use Rattle.just_text.specs.declared.token_kind.TokenKind.TheVariants.{Backtick, Comma, FormatStringStart, Identifier, StringToken}
 use Rattle.just_expression_tree.specs.Kinds.{kind_of}
 use Rattle.just_expression_tree.specs.Parts.{cooked_part}
 use Rattle.just_expression_tree.specs.declared.expression.Expression.{Expression}
 use Rattle.just_expression_tree.specs.Shape.{Shape, shape_of, written}
 use Rattle.just_expressions.specs.Literals.{is_open}
-use Rattle.just_expressions.specs.Reading.{ahead, accept, expect, operator_at, prefix_at, part_at, operand_at, expression_at, Fails}
-use Rattle.just_expressions.specs.Operators.{right_rank}
-use Rattle.just_expressions.specs.Seen.{operator_seen, prefix_seen}
+use Rattle.just_expressions.specs.Reading.{ahead, accept, expect, is_next, prefix_at, part_at, operand_at, expression_at, Fails}
+use Rattle.just_expressions.specs.Seen.{prefix_seen}
 use Rattle.just_expressions.specs.Alone.{is_alone}
 use Rattle.just_expressions.proofs.Alone.{expression_alone, expression_step}
 use Rattle.just_expressions.proofs.Cooked.{call_cooked, listing_cooked}
 use Rattle.just_expressions.proofs.Elements.{no_element, no_close, is_last, goes_on, at_end, element_shorter, one_more_cooked, taken}
 use Rattle.just_expressions.proofs.Interpolations.{no_interpolation, no_part, is_last_interpolation, more_interpolations, interpolation_shorter, one_more_interpolation_cooked}
 use Rattle.just_expressions.proofs.Formats.{format_closed, format_open, format_fails}
-use Rattle.just_expressions.proofs.Operands.{operand_fails, prefixed_read, left_fails, left_alone, right_fails, both_read}
+use Rattle.just_expressions.proofs.Operands.{operand_fails, prefixed_read, next_rank, rank_fails}
+use Rattle.just_expressions.proofs.Nexts.{at_string, at_command, at_format, at_name, at_bracket}
 use Rattle.just_expressions.proofs.Together.{both_given, second_refused}
 use Rattle.just_expressions.proofs.cursor.Cursor.+expression.Goals as goal
 
-pub bracketed-returns-clause-cooked : goal.bracketed-returns-clause-cooked
-bracketed-returns-clause-cooked g t c = listing_cooked (g.E.Expander.expansion c.args.expander.now) c.in_ok-elements.elements c.in_ok-token.token c.in_ok-elements.ensures.cooked
+pub list-returns-clause-cooked : goal.list-returns-clause-cooked
+list-returns-clause-cooked g t c = listing_cooked (g.E.Expander.expansion c.args.expander.now) c.in_ok-elements.elements c.in_ok-token.token c.in_ok-elements.ensures.cooked
 
-pub call-returns-clause-cooked : goal.call-returns-clause-cooked
-call-returns-clause-cooked g t c = call_cooked (g.E.Expander.expansion c.args.expander.now) c.in_ok-arguments.arguments c.args.name c.in_ok-arguments.ensures.cooked
+pub arguments-returns-clause-cooked : goal.arguments-returns-clause-cooked
+arguments-returns-clause-cooked g t c = call_cooked (g.E.Expander.expansion c.args.expander.now) c.in_ok-arguments.arguments c.args.name c.in_ok-arguments.ensures.cooked
 
 pub elements-returns-in_err-ranked-clause-gives : goal.elements-returns-in_err-ranked-clause-gives
 elements-returns-in_err-ranked-clause-gives g t c =
@@ -193,58 +193,97 @@ ranked-returns-clause-gives g t c =
     let read = rw same at c.operand.ensures.gives in
     rw (expression_step word_of (g.E.Expander.expansion c.args.expander.now) c.args.levels c.args.rank (ahead c.args.self.now) left) read
 
-pub operand-returns-in_err-operand-clause-gives : goal.operand-returns-in_err-operand-clause-gives
-operand-returns-in_err-operand-clause-gives g t c =
-    let binds : c.args.rank ≢ 0 = omega arith in
+pub prefixed-returns-in_err-operand-clause-gives : goal.prefixed-returns-in_err-operand-clause-gives
+prefixed-returns-in_err-operand-clause-gives g t c =
+    let binds : c.args.rank ≢ 0 = c.requires.binds in
     let p = err_from_is_err_and c.from_residual.result c.from_residual.ensures.1 in
     rw (p.1, p.2) (operand_fails (g.E.Expander.expansion c.args.expander.now) c.args.levels c.args.rank (ahead c.args.self.now) binds ((c.in-Some.token, prefix_seen c.in-Some.prefix), ahead c.prefix.new.self) c.in-Some.ensures.accepted c.in_err-operand.field-0.0 c.in_err-operand.ensures.gives)
 
-pub operand-returns-in-Some-clause-gives : goal.operand-returns-in-Some-clause-gives
-operand-returns-in-Some-clause-gives g t c =
-    let binds : c.args.rank ≢ 0 = omega arith in
+pub prefixed-returns-clause-gives : goal.prefixed-returns-clause-gives
+prefixed-returns-clause-gives g t c =
+    let binds : c.args.rank ≢ 0 = c.requires.binds in
     let read = prefixed_read (g.E.Expander.expansion c.args.expander.now) c.args.levels c.args.rank (ahead c.args.self.now) binds ((c.in-Some.token, prefix_seen c.in-Some.prefix), ahead c.prefix.new.self) c.in-Some.ensures.accepted (shape_of c.in_ok-operand.operand.value, ahead c.boxed.new.self) c.in_ok-operand.ensures.gives in
     read ∙ ap (λ (e : Shape). Ok (e, ahead c.boxed.new.self)) (sym c.prefixed.ensures.shape)
 
 pub operand-returns-in_err-lhs-clause-gives : goal.operand-returns-in_err-lhs-clause-gives
 operand-returns-in_err-lhs-clause-gives g t c =
     let x = g.E.Expander.expansion c.args.expander.now in
-    let binds : c.args.rank ≢ 0 = omega arith in
-    let alone : prefix_at word_of c.args.rank (ahead c.args.self.now) ≡ None = grind arith in
-    let same : ahead c.prefix.new.self ≡ ahead c.args.self.now = grind arith in
-    let failed : Fails c.in_err-lhs.field-0.0 (operand_at word_of x (expression_at word_of x c.args.levels) (c.args.rank - 1) (ahead c.args.self.now)) = rw same at c.in_err-lhs.ensures.gives in
-    let p = err_from_is_err_and c.from_residual-in_err-lhs.result c.from_residual-in_err-lhs.ensures.1 in
-    rw (p.1, p.2) (left_fails x c.args.levels c.args.rank (ahead c.args.self.now) binds alone c.in_err-lhs.field-0.0 failed)
+    let first = c.prefix_rank-first.result in
+    let same : ahead c.prefix_rank-first.new.self ≡ ahead c.args.self.now = c.prefix_rank-first.ensures.stays in
+    let failed : Fails c.in_err-lhs.field-0.0 (operand_at word_of x (expression_at word_of x c.args.levels) first (ahead c.args.self.now)) = rw same at c.in_err-lhs.ensures.gives in
+    let p = err_from_is_err_and c.from_residual.result c.from_residual.ensures.1 in
+    rw (p.1, p.2) (rank_fails x c.args.levels (ahead c.args.self.now) first c.args.rank c.prefix_rank-first.ensures.within c.prefix_rank-first.ensures.others c.in_err-lhs.field-0.0 failed)
 
-pub operand-returns-in_default-operator-clause-gives : goal.operand-returns-in_default-operator-clause-gives
-operand-returns-in_default-operator-clause-gives g t c =
+pub operand-returns-in_err-lhs-2-clause-gives : goal.operand-returns-in_err-lhs-2-clause-gives
+operand-returns-in_err-lhs-2-clause-gives g t c =
     let x = g.E.Expander.expansion c.args.expander.now in
-    let binds : c.args.rank ≢ 0 = omega arith in
-    let alone : prefix_at word_of c.args.rank (ahead c.args.self.now) ≡ None = grind arith in
-    let same : ahead c.prefix.new.self ≡ ahead c.args.self.now = grind arith in
-    let left : operand_at word_of x (expression_at word_of x c.args.levels) (c.args.rank - 1) (ahead c.args.self.now) ≡ Ok (shape_of c.in_ok-lhs.lhs, ahead c.operand.new.self) = rw same at c.in_ok-lhs.ensures.gives in
-    let lacks : operator_at word_of c.args.rank (ahead c.operand.new.self) ≡ None = grind arith in
-    let same_again : ahead c.operator.new.self ≡ ahead c.operand.new.self = grind arith in
-    rw same_again (left_alone x c.args.levels c.args.rank (ahead c.args.self.now) binds alone (shape_of c.in_ok-lhs.lhs, ahead c.operand.new.self) left lacks)
+    let l = c.loop-below in
+    let ts = ahead c.args.self.now in
+    let lacks : prefix_at word_of (l.below + 1) ts ≡ None = c.prefix_rank-first.ensures.others (l.below + 1) (omega arith) (omega arith) in
+    let next = next_rank x c.args.levels ts l.below lacks (shape_of l.lhs, ahead l.self) l.invariant.0 in
+    let failed : Fails c.in_err-lhs-2.field-0.0 (operand_at word_of x (expression_at word_of x c.args.levels) (l.below + 1) ts) = rw next c.in_err-lhs-2.ensures.gives in
+    let p = err_from_is_err_and c.from_residual-in_err-lhs-2.result c.from_residual-in_err-lhs-2.ensures.1 in
+    rw (p.1, p.2) (rank_fails x c.args.levels ts (l.below + 1) c.args.rank (omega arith) (λ other more less. c.prefix_rank-first.ensures.others other (omega (arith, more)) less) c.in_err-lhs-2.field-0.0 failed)
 
-pub operand-returns-in_err-rhs-clause-gives : goal.operand-returns-in_err-rhs-clause-gives
-operand-returns-in_err-rhs-clause-gives g t c =
+pub operand-loop-below-preserved : goal.operand-loop-below-preserved
+operand-loop-below-preserved g t c =
     let x = g.E.Expander.expansion c.args.expander.now in
-    let binds : c.args.rank ≢ 0 = omega arith in
-    let alone : prefix_at word_of c.args.rank (ahead c.args.self.now) ≡ None = grind arith in
-    let same : ahead c.prefix.new.self ≡ ahead c.args.self.now = grind arith in
-    let left : operand_at word_of x (expression_at word_of x c.args.levels) (c.args.rank - 1) (ahead c.args.self.now) ≡ Ok (shape_of c.in_ok-lhs.lhs, ahead c.operand.new.self) = rw same at c.in_ok-lhs.ensures.gives in
-    let failed : Fails c.in_err-rhs.field-0.0 (expression_at word_of x c.args.levels (right_rank (operator_seen c.in-Some-operator.operator)) (ahead c.operator.new.self)) = rw c.right_rank.ensures at c.in_err-rhs.ensures.gives in
-    let p = err_from_is_err_and c.from_residual-in_err-rhs.result c.from_residual-in_err-rhs.ensures.1 in
-    rw (p.1, p.2) (right_fails x c.args.levels c.args.rank (ahead c.args.self.now) binds alone (shape_of c.in_ok-lhs.lhs, ahead c.operand.new.self) left ((c.in-Some-operator.token, operator_seen c.in-Some-operator.operator), ahead c.operator.new.self) c.in-Some-operator.ensures.accepted c.in_err-rhs.field-0.0 failed)
+    let l = c.loop-below in
+    let ts = ahead c.args.self.now in
+    let lacks : prefix_at word_of (l.below + 1) ts ≡ None = c.prefix_rank-first.ensures.others (l.below + 1) (omega arith) (omega arith) in
+    let next = next_rank x c.args.levels ts l.below lacks (shape_of l.lhs, ahead l.self) l.invariant.0 in
+    (next ∙ c.in_ok-lhs-2.ensures.gives, c.in_ok-lhs-2.ensures.cooked l.invariant.1)
 
-pub operand-returns-clause-gives : goal.operand-returns-clause-gives
-operand-returns-clause-gives g t c =
+pub primary-returns-then-is_next-clause-gives : goal.primary-returns-then-is_next-clause-gives
+primary-returns-then-is_next-clause-gives g t c =
     let x = g.E.Expander.expansion c.args.expander.now in
-    let binds : c.args.rank ≢ 0 = omega arith in
-    let alone : prefix_at word_of c.args.rank (ahead c.args.self.now) ≡ None = grind arith in
-    let same : ahead c.prefix.new.self ≡ ahead c.args.self.now = grind arith in
-    let left : operand_at word_of x (expression_at word_of x c.args.levels) (c.args.rank - 1) (ahead c.args.self.now) ≡ Ok (shape_of c.in_ok-lhs.lhs, ahead c.operand.new.self) = rw same at c.in_ok-lhs.ensures.gives in
-    let right : expression_at word_of x c.args.levels (right_rank (operator_seen c.in-Some-operator.operator)) (ahead c.operator.new.self) ≡ Ok (shape_of c.in_ok-rhs.rhs.value, ahead c.boxed-2.new.self) = rw c.right_rank.ensures at c.in_ok-rhs.ensures.gives in
-    let read = both_read x c.args.levels c.args.rank (ahead c.args.self.now) binds alone (shape_of c.in_ok-lhs.lhs, ahead c.operand.new.self) left ((c.in-Some-operator.token, operator_seen c.in-Some-operator.operator), ahead c.operator.new.self) c.in-Some-operator.ensures.accepted (shape_of c.in_ok-rhs.rhs.value, ahead c.boxed-2.new.self) right in
-    let same_left : c.in_ok-lhs-2.lhs.value ≡ c.in_ok-lhs.lhs = search rules in
-    read ∙ ap (λ (e : Shape). Ok (e, ahead c.boxed-2.new.self)) (sym (rw same_left at c.binary.ensures.shape))
+    let ts = ahead c.args.self.now in
+    let same : ahead c.is_next.new.self ≡ ts = c.is_next.ensures.stays in
+    let here : is_next word_of StringToken ts ≡ true = grind arith in
+    let read = rw same at c.literal.ensures.gives in
+    rw (at_string word_of x (expression_at word_of x c.args.levels) ts here) read
+
+pub primary-returns-then-is_next-2-clause-gives : goal.primary-returns-then-is_next-2-clause-gives
+primary-returns-then-is_next-2-clause-gives g t c =
+    let x = g.E.Expander.expansion c.args.expander.now in
+    let ts = ahead c.args.self.now in
+    let same : ahead c.is_next-2.new.self ≡ ts = grind arith in
+    let no_string : is_next word_of StringToken ts ≡ false = grind arith in
+    let here : is_next word_of Backtick ts ≡ true = grind arith in
+    let read = rw same at c.backtick.ensures.gives in
+    rw (at_command word_of x (expression_at word_of x c.args.levels) ts no_string here) read
+
+pub primary-returns-then-is_next-3-clause-gives : goal.primary-returns-then-is_next-3-clause-gives
+primary-returns-then-is_next-3-clause-gives g t c =
+    let x = g.E.Expander.expansion c.args.expander.now in
+    let ts = ahead c.args.self.now in
+    let same : ahead c.is_next-3.new.self ≡ ts = grind arith in
+    let no_string : is_next word_of StringToken ts ≡ false = grind arith in
+    let no_command : is_next word_of Backtick ts ≡ false = grind arith in
+    let here : is_next word_of FormatStringStart ts ≡ true = grind arith in
+    let read = rw same at c.format.ensures.gives in
+    rw (at_format word_of x (expression_at word_of x c.args.levels) ts no_string no_command here) read
+
+pub primary-returns-then-is_next-4-clause-gives : goal.primary-returns-then-is_next-4-clause-gives
+primary-returns-then-is_next-4-clause-gives g t c =
+    let x = g.E.Expander.expansion c.args.expander.now in
+    let ts = ahead c.args.self.now in
+    let same : ahead c.is_next-4.new.self ≡ ts = grind arith in
+    let no_string : is_next word_of StringToken ts ≡ false = grind arith in
+    let no_command : is_next word_of Backtick ts ≡ false = grind arith in
+    let no_format : is_next word_of FormatStringStart ts ≡ false = grind arith in
+    let here : is_next word_of Identifier ts ≡ true = grind arith in
+    let read = rw same at c.named.ensures.gives in
+    rw (at_name word_of x (expression_at word_of x c.args.levels) ts no_string no_command no_format here) read
+
+pub primary-returns-clause-gives : goal.primary-returns-clause-gives
+primary-returns-clause-gives g t c =
+    let x = g.E.Expander.expansion c.args.expander.now in
+    let ts = ahead c.args.self.now in
+    let same : ahead c.is_next-4.new.self ≡ ts = grind arith in
+    let no_string : is_next word_of StringToken ts ≡ false = grind arith in
+    let no_command : is_next word_of Backtick ts ≡ false = grind arith in
+    let no_format : is_next word_of FormatStringStart ts ≡ false = grind arith in
+    let other : is_next word_of Identifier ts ≡ false = grind arith in
+    let read = rw same at c.bracketed.ensures.gives in
+    rw (at_bracket word_of x (expression_at word_of x c.args.levels) ts no_string no_command no_format other) read

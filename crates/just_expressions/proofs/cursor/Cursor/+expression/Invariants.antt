@@ -1,8 +1,9 @@
 -- The measures of the parser, and what its loops have read so far.
-use Rattle.std.proofs.Common.{◌≡◌, ℕ, suc, ◌+◌, ◌*◌, ◌<◌, length}
+use Rattle.std.proofs.Common.{◌≡◌, ℕ, suc, ◌+◌, ◌*◌, ◌<◌, Ok, length}
 use Rattle.just_text.specs.Tokens.{word_of}
-use Rattle.just_expressions.specs.Literals.{AreCooked, AreInterpolationsCooked}
-use Rattle.just_expressions.specs.Reading.{ahead, elements_at, interpolations_at, expression_at}
+use Rattle.just_expressions.specs.Literals.{AreCooked, AreInterpolationsCooked, IsCooked}
+use Rattle.just_expression_tree.specs.Shape.{shape_of}
+use Rattle.just_expressions.specs.Reading.{ahead, elements_at, interpolations_at, operand_at, expression_at}
 use Rattle.just_expressions.proofs.Elements.{before}
 use Rattle.just_expressions.proofs.Interpolations.{before_interpolations}
 use Rattle.just_expressions.proofs.cursor.Cursor.+expression.Given as goal
@@ -14,13 +15,25 @@ abbrev pub decreases-boxed : goal.decreases-boxed
 decreases-boxed g l = 1024 * l.levels + 1
 
 abbrev pub decreases-operand : goal.decreases-operand
-decreases-operand g l = 1024 * l.levels + 500 + l.rank
+decreases-operand g l = 1024 * l.levels + 500
+
+abbrev pub decreases-unary : goal.decreases-unary
+decreases-unary g l = 1024 * l.levels + 400
+
+abbrev pub decreases-prefixed : goal.decreases-prefixed
+decreases-prefixed g l = 1024 * l.levels + 300
+
+abbrev pub decreases-behind : goal.decreases-behind
+decreases-behind g l = 1024 * l.levels + 300
 
 abbrev pub decreases-primary : goal.decreases-primary
 decreases-primary g l = 1024 * l.levels + 10
 
+abbrev pub decreases-format : goal.decreases-format
+decreases-format g l = 1024 * l.levels + 9
+
 abbrev pub decreases-format_string : goal.decreases-format_string
-decreases-format_string g l = 1024 * l.levels + 9
+decreases-format_string g l = 1024 * l.levels + 8
 
 abbrev pub decreases-named : goal.decreases-named
 decreases-named g l = 1024 * l.levels + 9
@@ -30,6 +43,12 @@ decreases-bracketed g l = 1024 * l.levels + 9
 
 abbrev pub decreases-call : goal.decreases-call
 decreases-call g l = 1024 * l.levels + 8
+
+abbrev pub decreases-list : goal.decreases-list
+decreases-list g l = 1024 * l.levels + 8
+
+abbrev pub decreases-arguments : goal.decreases-arguments
+decreases-arguments g l = 1024 * l.levels + 7
 
 abbrev pub decreases-assertion : goal.decreases-assertion
 decreases-assertion g l = 1024 * l.levels + 7
@@ -69,3 +88,8 @@ invariant-interpolations-loop-interpolations g l =
 
 abbrev pub decreases-interpolations-loop-interpolations : goal.decreases-interpolations-loop-interpolations
 decreases-interpolations-loop-interpolations g l = length (ahead l.self)
+
+abbrev pub invariant-operand-loop-below : goal.invariant-operand-loop-below
+invariant-operand-loop-below g l =
+    (operand_at word_of (g.E.Expander.expansion l.expander) (expression_at word_of (g.E.Expander.expansion l.expander) l.levels) l.below (ahead l.fn.self) ≡ Ok (shape_of l.lhs, ahead l.self))
+    × IsCooked (g.E.Expander.expansion l.expander) l.lhs
