@@ -263,11 +263,11 @@ fn drive_root<'src, E: Expander, H: RunHost + Drop, O: Out>(
 /// A call is refused before anything is asked of the host where a rule is broken: of the files that
 /// are reached, of their modules, names and orders, or of the words. Else all modules open, parents
 /// first, and the recipes that the words name run, each behind all that it depends on, none twice
-/// with the same values, up to the first command that fails; or what they would hand over is written,
-/// and nothing is handed over; or the variables are written, or the one command runs. A file of plain recipes that names no other runs by a shorter way, to the same end.
-/// Want of memory, or of numbers for recipes and bindings, may come in the place of any answer. The
-/// trees of the files are dropped at the end or left, as `trees` says; those of plain recipes are
-/// dropped.
+/// with the same values, up to the first command that fails; or what they would hand over up to there
+/// is written, and nothing is handed over; or the variables are written, or the one command runs. A
+/// file of plain recipes that names no other runs by a shorter way, to the same end. Want of memory,
+/// or of numbers for recipes and bindings, may come in the place of any answer. The trees of the files
+/// are dropped at the end or left, as `trees` says; those of plain recipes are dropped.
 ///
 /// # Errors
 ///
