@@ -3,7 +3,8 @@ use Rattle.std.specs.Prelude.{◌≡◌, ℕ, List, [], Option, Some, None, code
 use Rattle.std.specs.String.{string_bytes}
 use Rattle.just_text.specs.declared.os.Os.{Os}
 use Rattle.just_tree.specs.declared.ast.Item.{Item}
-use Rattle.just_tree.specs.Files.{file_text, item_shapes, printable}
+use Rattle.just_tree.specs.Files.{file_text, item_shapes}
+use Rattle.just_tree.specs.Printable.{printable}
 use Rattle.just_tree.specs.FileIndentation.{file_indentation}
 use Rattle.just_compilation.specs.declared.compilation.Compilation.{Compilation}
 use Rattle.just_compilation.specs.declared.module_node.File.{File}
@@ -21,7 +22,7 @@ formatted_text os items = file_text (unwrap_or (file_indentation os items) (code
 
 -- the same, where the file can be printed so that it is read as it was
 abbrev pub printed_text : Os → List Item → Option (List ℕ)
-printed_text os items = if printable items then Some (formatted_text os items) else None
+printed_text os items = if printable (item_shapes items) then Some (formatted_text os items) else None
 
 -- the place of a module's file among all files; that of the first where there is no module
 abbrev pub file_place : Option ModuleNode → ℕ

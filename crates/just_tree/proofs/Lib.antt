@@ -3,3 +3,4 @@ pub mod RowText
 pub mod Filed
 pub mod First
 pub mod PathNames
+pub mod Apart

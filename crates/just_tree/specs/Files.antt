@@ -1,9 +1,7 @@
 -- Items and files: what they say, and how items are printed.
-use Rattle.std.specs.Prelude.{ℕ, ◌+◌, ◌==◌, Bool, true, false, not, if◌then◌else◌, List, [], ◌∷◌, ◌++◌, map, codes}
-use Rattle.std.specs.List.{list_any}
+use Rattle.std.specs.Prelude.{ℕ, ◌+◌, ◌==◌, Bool, true, false, if◌then◌else◌, List, [], ◌∷◌, ◌++◌, map, codes}
 use Rattle.just_tree.specs.declared.ast.Item.{Item}
 use Rattle.just_tree.specs.declared.ast.Item.TheVariants.{Alias, Assignment, Comment, Function, Import, Module, Newline, Recipe, Set, Unexport}
-use Rattle.just_tree.specs.declared.line.Line.{Line}
 use Rattle.just_attributes.specs.declared.item_kind.ItemKind.{ItemKind}
 use Rattle.just_attributes.specs.declared.item_kind.ItemKind.TheVariants.{Alias as AliasKind, Assignment as AssignmentKind, Comment as CommentKind, Function as FunctionKind, Import as ImportKind, Module as ModuleKind, Newline as NewlineKind, Recipe as RecipeKind, Set as SetKind, Unexport as UnexportKind}
 use Rattle.just_tree.specs.declared.ast.UnstableFeature.{UnstableFeature}
@@ -12,7 +10,6 @@ use Rattle.just_tree.specs.declared.ast.ListFeature.{ListFeature}
 use Rattle.just_tree.specs.declared.ast.ListFeature.TheVariants.{Comparison, Concatenation, ConditionalWithoutElse, Literal, Not, StarredArgument}
 use Rattle.just_attribute_tree.specs.Attributes.{AttributeShape, attributes_text}
 use Rattle.just_tree.specs.Items.{AliasShape, alias_shape, alias_text, AssignmentShape, assignment_shape, assignment_text, FunctionShape, function_shape, function_text, ImportShape, import_shape, import_text, ModuleShape, module_shape, module_text, set_shape, unexport_shape, unexport_text}
-use Rattle.just_tree.specs.Lines.{ends_in_return, last_piece}
 use Rattle.just_tree.specs.Recipes.{RecipeShape, recipe_shape, recipe_text}
 use Rattle.just_attribute_tree.specs.Settings.{SetShape, set_text}
 use Rattle.just_attributes.specs.Sets.{shapes_in}
@@ -120,16 +117,3 @@ file_text_behind indentation blank (item ∷ items) =
 -- a file: between items and at the start a run of blank lines is cut to two, and one newline stands behind the last item
 abbrev pub file_text : List ℕ → List ItemShape → List ℕ
 file_text indentation items = file_text_behind indentation 0 items
-
--- a line ends in a carriage return
-abbrev pub line_has_return : Line → Bool
-line_has_return line = ends_in_return (last_piece line)
-
--- a line of the item's body does
-abbrev pub has_return : Item → Bool
-has_return (Recipe r) = list_any line_has_return r.body.items
-has_return other = false
-
--- no line of a body ends in a carriage return
-abbrev pub printable : List Item → Bool
-printable items = not (list_any has_return items)

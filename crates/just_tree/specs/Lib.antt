@@ -6,3 +6,4 @@ pub mod FileIndentation
 pub mod Paths
 pub mod Contexts
 pub mod Resolving
+pub mod Printable

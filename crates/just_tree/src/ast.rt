@@ -1,13 +1,13 @@
 //! Whole files.
 ghost use Rattle.std.specs.Prelude.{◌≡◌, ◌++◌, Some, codes};
 ghost use Rattle.std.specs.Fmt.{WritesOnOk};
-ghost use Rattle.std.specs.List.{list_any};
 ghost use Rattle.just_attribute_tree.specs.Attributes.{attributes_text};
 ghost use Rattle.just_attributes.specs.Sets.{shapes_in};
 ghost use Rattle.just_tree.specs.Files as spec;
+ghost use Rattle.just_tree.specs.Printable.{printable};
 
 use crate::item::{Alias, Assignment, FunctionDefinition, Import, Module, Unexport};
-use crate::line::Line;
+use crate::printable::are_printable;
 use crate::recipe::{Recipe, UnresolvedDependency};
 use crate::set::Set;
 use just_attributes::{AttributeSet, ItemKind};
@@ -218,11 +218,13 @@ impl Ast<'_> {
         Ok(())
     }
 
-    /// Whether no line of a body ends in a carriage return.
+    /// Whether the file's printed text is read as the file was: no body line ends in a carriage return,
+    /// and no argument or parameter that begins with the name `else` follows a conditional that would
+    /// take it, as one that was in braces behind an `else` would.
     pub fn printable(&self) -> bool
-        ensures { result ≡ spec.printable self.now.items.items }
+        ensures { result ≡ printable (spec.item_shapes self.now.items.items) }
     {
-        !any_return(&self.items)
+        are_printable(self.items.as_slice())
     }
 }
 
@@ -233,28 +235,6 @@ fn is_blank(item: &Item) -> bool
         Item::Newline => true,
         _ => false,
     }
-}
-
-/// Whether a line of the item's body ends in a carriage return.
-fn has_return(item: &Item) -> bool
-    ensures { result ≡ spec.has_return item.now }
-{
-    match item {
-        Item::Recipe(recipe) => body_has_return(&recipe.body),
-        _ => false,
-    }
-}
-
-fn body_has_return(lines: &[Line]) -> bool
-    ensures { result ≡ list_any spec.line_has_return lines.now }
-{
-    lines.iter().any(|line| line.ends_in_return())
-}
-
-fn any_return(items: &[Item]) -> bool
-    ensures { result ≡ list_any spec.has_return items.now }
-{
-    items.iter().any(|item| has_return(item))
 }
 
 /// With an indentation of four spaces.

@@ -7,6 +7,7 @@ mod indentation;
 mod item;
 mod keyed;
 mod line;
+mod printable;
 mod recipe;
 mod rows;
 mod set;
