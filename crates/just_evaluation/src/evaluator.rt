@@ -60,7 +60,7 @@ struct Memory {
 }
 
 /// How many expressions may lie in each other, at up to 1 KiB of the machine's stack. An expression
-/// that is read has at most 256 levels of seven, and 255 calls in each other leave sixteen to a body.
+/// that is read has at most 256 levels of six, and 255 calls in each other leave sixteen to a body.
 const LEVELS: u32 = 4_096;
 
 /// How many calls of the justfile's functions may lie in each other.
