@@ -1,8 +1,8 @@
 //! Plans of runs: a host that hands nothing over, and what a run would hand over, in lines.
 #![tactic(auto)]
 
-mod plan_text;
+mod lines;
 pub mod planning;
 
-pub use plan_text::plan_text;
+pub use lines::plan_text;
 pub use planning::Planning;
