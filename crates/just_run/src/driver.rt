@@ -1,5 +1,5 @@
 //! The whole: from texts and words to what is done.
-ghost use Rattle.std.specs.Prelude.{◌≡◌, IfErr, option_map};
+ghost use Rattle.std.specs.Prelude.{◌≡◌, IfErr, IfSome, option_map};
 ghost use Rattle.justfile_syntax.specs.PlainShapes.{shape_of};
 ghost use Rattle.just_plain_run.specs.Inputs.{Inputs, inputs_of, reader_of};
 ghost use Rattle.just_plain_run.specs.Setup.{setup_of};
@@ -207,7 +207,8 @@ fn run_plain<'src, H: RunHost + Drop>(
 
 /// The plain recipes, where a run is asked for.
 fn to_run<'src>(action: Action, plain: Option<PlainAst<'src>>) -> Option<PlainAst<'src>>
-    ensures { action ≡ Run → result ≡ plain.entry }
+    ensures kept { action ≡ Run → result ≡ plain.entry }
+    ensures run { IfSome result (λ recipes. action ≡ Run) }
 {
     match action {
         Action::Run => plain,

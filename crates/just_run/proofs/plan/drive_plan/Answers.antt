@@ -1,0 +1,21 @@
+use Rattle.std.proofs.Common.{rules, ◌≡◌, ◌++◌, refl, ap, subst, ◌∙◌, IfSome}
+use Rattle.std.specs.String.{string_bytes}
+use Rattle.just_host.specs.Follows.{Follows, questions}
+use Rattle.just_host.specs.Steps.{idle}
+use Rattle.just_builtins.specs.Laws.{asked_nothing}
+use Rattle.just_plan.specs.Plans.{plan_text}
+use Rattle.just_run.proofs.plan.drive_plan.Goals as goal
+
+pub returns : goal.returns
+returns g c =
+    let run = c.perform_task-performed.ensures.asks c.new-planned.result (asked_nothing _ (λ a. (refl, idle g.H.Host.goes g.met.H.Host.nothing a.caller.now)) c.new-planned.result) in
+    let step = run.followed in
+    let begun = ap (λ r. r.host.caller.now) c.new-planned.ensures in
+    let named = step.host.0 ∙ ap (λ r. r.host.caller.ghost_name) c.new-planned.ensures in
+    let followed = subst (λ h. Follows g.H.Host.goes h (questions step.part) c.perform_task-performed.new.host.host.caller.now) begun step.host.1 in
+    let grown = step.entries ∙ ap (λ r. r.entries ++ step.part) c.new-planned.ensures in
+    record {
+      entries = step.part;
+      asked = search (rules, followed, named);
+      written = c.write_plan.ensures (plan_text step.part) (subst (λ l. IfSome c.text_of-text.result (λ text. string_bytes text ≡ plan_text l)) grown c.text_of-text.ensures);
+    }
