@@ -171,8 +171,8 @@ fn shares_subsequents(runner: &Runner, place: usize) -> bool {
     contexts[module].module.settings.share_subsequents
 }
 
-/// Leaves nothing done for subsequents, and gives the calls that were done; none where the subsequents
-/// share them.
+/// Sets aside what was done, so that nothing is done for subsequents; sets nothing aside where they
+/// share it.
 fn set_aside(alloc: Global, done: &mut Done, is_shared: bool) -> Option<Done> {
     if is_shared {
         return None;
@@ -180,8 +180,8 @@ fn set_aside(alloc: Global, done: &mut Done, is_shared: bool) -> Option<Done> {
     Some(mem::replace(done, Done::new(alloc)))
 }
 
-/// The calls that were done before the subsequents are done again, and no other; all where none were
-/// set aside.
+/// Takes back what was set aside, and drops what was done since; keeps that where nothing was set
+/// aside.
 fn restore(done: &mut Done, outer: Option<Done>) {
     if let Some(outer) = outer {
         let _inner = mem::replace(done, outer);
