@@ -15,6 +15,13 @@ pub(crate) struct Entered<'m, 'src> {
     pub(crate) is_dependency: bool,
 }
 
+/// The calls behind a body, and whether they share the table in which its recipe runs.
+#[derive(Drop)]
+pub(crate) struct Subsequents {
+    pub(crate) calls: Pending,
+    pub(crate) are_shared: bool,
+}
+
 /// Calls in order; what follows a call's priors; and what follows its subsequents, with the calls
 /// that were done before those, unless the subsequents shared them.
 #[derive(Drop)]

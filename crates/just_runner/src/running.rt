@@ -7,7 +7,7 @@ ghost use Rattle.just_builtins.specs.Asking.{Asks};
 
 use crate::call::{Call, Done, Pending};
 use crate::enter::{begin, end, entered};
-use crate::frame::{Entered, Frame};
+use crate::frame::{Entered, Frame, Subsequents};
 use crate::plan::{Placed, Runner};
 use crate::stack::Stack;
 use crate::tally::Tally;
@@ -156,25 +156,10 @@ fn turn_calls<'m, 'src, H: RunHost + Drop>(
     Ok(push_entered(stack, call, entered, priors)?)
 }
 
-/// Whether the subsequents of the recipe at the place share the table in which it runs itself, as the
-/// settings of its module say.
-fn shares_subsequents(runner: &Runner, place: usize) -> bool {
-    let recipes = runner.recipes;
-    let contexts = runner.contexts;
-    if place >= recipes.len() {
-        return false;
-    }
-    let module = recipes[place].module;
-    if module >= contexts.len() {
-        return false;
-    }
-    contexts[module].module.settings.share_subsequents
-}
-
 /// Sets aside what was done, so that nothing is done for subsequents; sets nothing aside where they
 /// share it.
-fn set_aside(alloc: Global, done: &mut Done, is_shared: bool) -> Option<Done> {
-    if is_shared {
+fn set_aside(alloc: Global, done: &mut Done, are_shared: bool) -> Option<Done> {
+    if are_shared {
         return None;
     }
     Some(mem::replace(done, Done::new(alloc)))
@@ -195,15 +180,15 @@ fn push_subsequents<'m, 'src>(
     stack: &mut Stack<'m, 'src>,
     done: &mut Done,
     call: Call,
-    subsequents: Pending,
-    is_shared: bool,
+    subsequents: Subsequents,
 ) -> Result<(), AllocError>
-    ensures { OnOk result (stack.new ≡ Calls subsequents ∷ After call ∷ stack.old) }
+    ensures { OnOk result (stack.new ≡ Calls subsequents.calls ∷ After call ∷ stack.old) }
 {
-    let outer = set_aside(alloc, done, is_shared);
+    let Subsequents { calls, are_shared } = subsequents;
+    let outer = set_aside(alloc, done, are_shared);
     stack.push(Frame::After { call, outer })?;
     stack.push(Frame::Calls {
-        pending: subsequents,
+        pending: calls,
         are_dependencies: true,
     })
 }
@@ -216,12 +201,15 @@ fn subsequents<'src, H: RunHost + Drop>(
     placed: &Placed<'_, 'src>,
     entered: &Entered<'_, 'src>,
     place: usize,
-) -> Result<Pending, RunFault<'src>>
-    ensures below { IfOk result (AreBelow place) }
+) -> Result<Subsequents, RunFault<'src>>
+    ensures below { IfOk result (λ behind. AreBelow place behind.calls) }
     ensures asks { Asks H.goes host.old host.new }
 {
     let calls = end(alloc, host, runner, placed, entered)?;
-    ranked(alloc, calls, place)
+    Ok(Subsequents {
+        calls: ranked(alloc, calls, place)?,
+        are_shared: placed.context.module.settings.share_subsequents,
+    })
 }
 
 /// Runs the body of the recipe at the place, if there is one, and gives the calls behind it.
@@ -231,8 +219,8 @@ fn leave<'src, H: RunHost + Drop>(
     runner: &Runner<'_, 'src>,
     place: usize,
     entered: &Entered<'_, 'src>,
-) -> Result<Pending, RunFault<'src>>
-    ensures below { IfOk result (AreBelow place) }
+) -> Result<Subsequents, RunFault<'src>>
+    ensures below { IfOk result (λ behind. AreBelow place behind.calls) }
     ensures asks { Asks H.goes host.old host.new }
 {
     let recipes = runner.recipes;
@@ -265,8 +253,7 @@ fn turn_body<'m, 'src, H: RunHost + Drop>(
     ensures asks { Asks H.goes host.old host.new }
 {
     let subsequents = leave(alloc, host, runner, call.recipe, entered)?;
-    let is_shared = shares_subsequents(runner, call.recipe);
-    Ok(push_subsequents(alloc, stack, done, call, subsequents, is_shared)?)
+    Ok(push_subsequents(alloc, stack, done, call, subsequents)?)
 }
 
 fn run_stack<'m, 'src, H: RunHost + Drop>(
