@@ -1,5 +1,5 @@
 //! A file's text.
-use crate::loader::readable::readable;
+use crate::readable::readable;
 use std::alloc::{AllocError, Global};
 use std::fs;
 use std::io::Read;

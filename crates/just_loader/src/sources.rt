@@ -1,8 +1,8 @@
 //! The texts of a project.
-use crate::loader::naming::names_files;
-use crate::loader::search::Search;
-use crate::loader::text::text_of;
-use crate::loader::walk::{ENTRY_LIMIT, files_below};
+use crate::naming::names_files;
+use crate::search::Search;
+use crate::text::text_of;
+use crate::walk::{ENTRY_LIMIT, files_below};
 use std::alloc::{AllocError, Global};
 use std::collections::BTreeMap;
 use std::rt::Files;

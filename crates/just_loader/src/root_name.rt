@@ -1,6 +1,6 @@
 //! The names that a root file may have.
 ghost use Rattle.std.specs.Prelude.{◌↔◌, IsTrue};
-ghost use Rattle.just_system.specs.Names.{IsRootName};
+ghost use Rattle.just_loader.specs.Names.{IsRootName};
 
 /// Whether a root file may have this name: `justfile` or `.justfile`, in any capitals.
 pub fn is_root_name(name: &str) -> bool

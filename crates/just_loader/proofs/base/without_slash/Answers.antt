@@ -1,7 +1,7 @@
 -- A path that no slash ends stays as it is.
 use Rattle.std.proofs.Common.{◌≢◌, ℕ, List, [], ◌∷◌, ◌++◌, refl, arith, inr}
 use Rattle.std.proofs.lemmas.Str.Pattern.{strip_suffix_char}
-use Rattle.just_system.proofs.loader.base.without_slash.Goals as goal
+use Rattle.just_loader.proofs.base.without_slash.Goals as goal
 
 pub returns-in_default : goal.returns-in_default
 returns-in_default c =

@@ -1,6 +1,6 @@
 //! A folder's path without `.` and `..`.
 
-use crate::loader::readable::readable;
+use crate::readable::readable;
 use std::alloc::{AllocError, Global};
 use std::fs;
 use std::rt::Files;

@@ -1,7 +1,7 @@
 //! The search for the root file.
-use crate::loader::readable::readable;
-use crate::loader::root_name::is_root_name;
-use crate::loader::walk::ENTRY_LIMIT;
+use crate::readable::readable;
+use crate::root_name::is_root_name;
+use crate::walk::ENTRY_LIMIT;
 use std::alloc::{AllocError, Global};
 use std::fs;
 use std::fs::ReadDir;

@@ -1,8 +1,8 @@
 //! The files that texts name.
 
-use crate::loader::index::Index;
-use crate::loader::naming::{Naming, part_naming};
-use crate::loader::root_name::is_root_name;
+use crate::index::Index;
+use crate::naming::{Naming, part_naming};
+use crate::root_name::is_root_name;
 use std::alloc::{AllocError, Global};
 
 /// The search for files by what was read. Files are named by their paths below the folder of the root file; only the last

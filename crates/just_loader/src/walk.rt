@@ -1,6 +1,6 @@
 //! The walk over the files below a folder.
-use crate::loader::readable::readable;
-use crate::loader::text::SIZE_LIMIT;
+use crate::readable::readable;
+use crate::text::SIZE_LIMIT;
 use std::alloc::{AllocError, Global};
 use std::fs;
 use std::path::Path;

@@ -1,7 +1,7 @@
 //! The folder that a root file is sought in.
 ghost use Rattle.std.specs.Prelude.{IfOk, option_copied};
 ghost use Rattle.std.specs.String.{string_bytes};
-ghost use Rattle.just_system.specs.Folders.{IsBase, IsWithoutSlash};
+ghost use Rattle.just_loader.specs.Folders.{IsBase, IsWithoutSlash};
 
 use just_text::Text;
 use std::alloc::{AllocError, Global};
