@@ -28,6 +28,8 @@ pub enum Answers<'a> {
     Always(Reply<'a>),
     /// By the question in words; what no row names is absent.
     Table(&'a [(&'a str, Reply<'a>)]),
+    /// Row after row: each question has the next row, and is absent where that row names another.
+    InTurn(&'a [(&'a str, Reply<'a>)]),
 }
 
 /// The answer that the reply stands for.
@@ -68,6 +70,14 @@ fn known<'a>(table: &[(&'a str, Reply<'a>)], told: &str) -> Reply<'a> {
     Reply::Absent
 }
 
+/// The reply of this row, if it is to the question that is told so.
+fn known_at<'a>(table: &[(&'a str, Reply<'a>)], row: usize, told: &str) -> Reply<'a> {
+    match table.get(row) {
+        Some((question, reply)) if *question == told => *reply,
+        _ => Reply::Absent,
+    }
+}
+
 /// The table's answer to the question.
 fn looked_up(
     alloc: Global,
@@ -78,13 +88,30 @@ fn looked_up(
     answer(alloc, known(table, told.as_str()))
 }
 
+/// The answer of this row to the question.
+fn answered_at(
+    alloc: Global,
+    table: &[(&str, Reply<'_>)],
+    row: usize,
+    question: &Question,
+) -> Result<Answer, AllocError> {
+    let told = question_text(alloc, question)?;
+    answer(alloc, known_at(table, row, told.as_str()))
+}
+
 impl Answers<'_> {
-    /// The answer to the question.
-    pub(crate) fn answer(self, alloc: Global, question: &Question) -> Result<Answer, AllocError> {
+    /// The answer to the question, before which so many were asked.
+    pub(crate) fn answer(
+        self,
+        alloc: Global,
+        question: &Question,
+        before: usize,
+    ) -> Result<Answer, AllocError> {
         match self {
             Answers::Echo => echo(question),
             Answers::Always(reply) => answer(alloc, reply),
             Answers::Table(table) => looked_up(alloc, table, question),
+            Answers::InTurn(table) => answered_at(alloc, table, before, question),
         }
     }
 }

@@ -5,7 +5,7 @@ use crate::given::{Given, given_of};
 use crate::plain::told_plain;
 use crate::way::{RUN, Telling, Way};
 use std::alloc::{AllocError, Global};
-use told_files::{root_of, told_modules, told_printed, told_resolved, told_tokens};
+use told_files::{root_of, told_modules, told_printed, told_resolved, told_steady, told_tokens};
 
 /// The first word that says nothing, if there is one.
 pub fn first_unknown(words: &[String]) -> Option<&str> {
@@ -25,6 +25,7 @@ fn told_in(
         Telling::Plain => told_plain(alloc, way, &given),
         Telling::Modules => told_modules(alloc, &given.config, &given.sources, root),
         Telling::Resolved => told_resolved(alloc, &given.config, &given.sources, root),
+        Telling::Steady => told_steady(alloc, &given.config, &given.sources, root),
         Telling::Printed => told_printed(alloc, text),
         Telling::Tokens(subject) => told_tokens(alloc, subject, text),
     }
@@ -46,7 +47,7 @@ pub fn tell(alloc: Global, words: &[String], files: &str) -> Result<String, Allo
     let pairs = pairs(alloc, words, "pair")?;
     let said = way_of(words).unwrap_or(RUN);
     let way = Way {
-        answers: answers(words, table.as_slice()),
+        answers: answers(words, table.as_slice(), said.in_turn),
         pairs: pairs_or(pairs.as_slice(), said.pairs),
         ..said
     };

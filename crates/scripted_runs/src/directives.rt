@@ -18,6 +18,7 @@ fn find_telling(value: &str) -> Option<Telling> {
         "plain" => Some(Telling::Plain),
         "modules" => Some(Telling::Modules),
         "resolved" => Some(Telling::Resolved),
+        "steady" => Some(Telling::Steady),
         "printed" => Some(Telling::Printed),
         "kinds" => Some(Telling::Tokens(Subject::Kinds)),
         "lexemes" => Some(Telling::Tokens(Subject::Lexemes)),
@@ -90,8 +91,12 @@ fn flagged<'a>(way: Way<'a>, flag: &str) -> Option<Way<'a>> {
             no_dependencies: true,
             ..way
         }),
-        "shallow" => Some(Way {
-            is_shallow: true,
+        "in-turn" => Some(Way {
+            in_turn: true,
+            ..way
+        }),
+        "place" => Some(Way {
+            is_placed: true,
             ..way
         }),
         _ => None,
@@ -112,6 +117,10 @@ fn valued<'a>(way: Way<'a>, name: &str, value: &'a str) -> Option<Way<'a>> {
         }),
         "jobs" => Some(Way {
             jobs: Some(value.parse::<u32>().ok()?),
+            ..way
+        }),
+        "recursion-limit" => Some(Way {
+            recursion_limit: Some(value.parse::<u64>().ok()?),
             ..way
         }),
         "writes" => Some(Way {
@@ -253,9 +262,16 @@ pub(crate) fn table(alloc: Global, words: &[String]) -> Result<Vec<(&str, Reply<
     Ok(table)
 }
 
-/// How all questions are answered: by the table where it has a row, else as the words always say, else
-/// by the text of each command.
-pub(crate) fn answers<'a>(words: &'a [String], table: &'a [(&'a str, Reply<'a>)]) -> Answers<'a> {
+/// How all questions are answered: by the table where it has a row, row after row where it is used in
+/// turn; else as the words always say, else by the text of each command.
+pub(crate) fn answers<'a>(
+    words: &'a [String],
+    table: &'a [(&'a str, Reply<'a>)],
+    in_turn: bool,
+) -> Answers<'a> {
+    if in_turn {
+        return Answers::InTurn(table);
+    }
     if !table.is_empty() {
         return Answers::Table(table);
     }

@@ -1,6 +1,7 @@
 //! Files, words, and what comes of them.
 use crate::faltering::Faltering;
 use crate::given::Given;
+use crate::refused::refused_text;
 use crate::scripted::Scripted;
 use crate::told::told;
 use crate::way::{Telling, Way};
@@ -9,8 +10,12 @@ use just_run::{Collected, Device, Entry, Fault, Out, Outcome, Recorded, Trees, d
 use std::alloc::{AllocError, Global};
 use told_files::Unchanged;
 
-/// What came of it, in words.
-fn answer_text(alloc: Global, answer: Result<Outcome, Fault>) -> Result<String, AllocError> {
+/// What came of it, in words, and where a refusal stands, if that is told.
+fn answer_text(
+    alloc: Global,
+    is_placed: bool,
+    answer: Result<Outcome, Fault>,
+) -> Result<String, AllocError> {
     match answer {
         Ok(Outcome::Ran) => String::from_str(alloc, "ran"),
         Ok(Outcome::Planned) => String::from_str(alloc, "planned"),
@@ -18,7 +23,7 @@ fn answer_text(alloc: Global, answer: Result<Outcome, Fault>) -> Result<String, 
         Ok(Outcome::Dumped) => String::from_str(alloc, "dumped"),
         Ok(Outcome::Listed) => String::from_str(alloc, "listed"),
         Ok(Outcome::Formatted { text, .. }) => Ok(text.into_string()),
-        Err(fault) => fault.to_string(alloc),
+        Err(fault) => refused_text(alloc, is_placed, &fault),
     }
 }
 
@@ -33,13 +38,13 @@ fn told_entries(alloc: Global, telling: Telling, entries: &[Entry]) -> Result<St
 /// The entries, the output and the answer.
 fn told_of(
     alloc: Global,
-    telling: Telling,
+    way: Way<'_>,
     host: &Recorded<Scripted>,
     written: &[u8],
     answer: Result<Outcome, Fault>,
 ) -> Result<String, AllocError> {
-    let answer = answer_text(alloc, answer)?;
-    let mut text = told_entries(alloc, telling, host.entries())?;
+    let answer = answer_text(alloc, way.is_placed, answer)?;
+    let mut text = told_entries(alloc, way.telling, host.entries())?;
     text.push_str(std::str::from_utf8(written).unwrap_or("not text"))?;
     text.push_str(answer.as_str())?;
     Ok(text)
@@ -76,6 +81,7 @@ pub(crate) fn host<'a>(alloc: Global, way: Way<'a>) -> Recorded<Scripted<'a>> {
         confirmation: way.confirmation,
         failing: way.failing,
         left: way.failing_place,
+        asked: 0,
     };
     Recorded::new(alloc, scripted)
 }
@@ -85,7 +91,7 @@ fn told_with_output(alloc: Global, way: Way<'_>, given: &Given) -> Result<String
     let mut host = host(alloc, way);
     let mut out = Collected::new(alloc);
     let answer = drive_into(alloc, way, given, &mut host, &mut out);
-    told_of(alloc, way.telling, &host, out.bytes(), answer)
+    told_of(alloc, way, &host, out.bytes(), answer)
 }
 
 /// What is told where the output fails behind so many writes.
@@ -98,7 +104,7 @@ fn told_with_failing_output(
     let mut host = host(alloc, way);
     let mut out = Device::new(alloc, Faltering { left: writes });
     let answer = drive_into(alloc, way, given, &mut host, &mut out);
-    told_of(alloc, way.telling, &host, out.bytes(), answer)
+    told_of(alloc, way, &host, out.bytes(), answer)
 }
 
 /// What is told of the call: what was asked and handed over, then what was written, then what came of

@@ -10,6 +10,7 @@ mod faltering;
 mod given;
 mod plain;
 mod questions;
+mod refused;
 mod scripted;
 mod told;
 mod way;

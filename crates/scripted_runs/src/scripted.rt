@@ -72,6 +72,8 @@ pub struct Scripted<'a> {
     pub failing: Failing,
     /// How many questions and events are still to come before the one that fails.
     pub left: usize,
+    /// How many questions were asked.
+    pub asked: usize,
 }
 
 impl Scripted<'_> {
@@ -80,6 +82,13 @@ impl Scripted<'_> {
         let fails = self.left == 0;
         self.left = self.left.wrapping_sub(1);
         fails
+    }
+
+    /// How many questions came before this one; counts it.
+    fn before(&mut self) -> usize {
+        let before = self.asked;
+        self.asked = before.wrapping_add(1);
+        before
     }
 }
 
@@ -124,7 +133,8 @@ impl Host for Scripted<'_> {
         if self.fails() {
             return Answer::Fault(self.failing.fault(self.alloc));
         }
-        match self.answers.answer(self.alloc, question) {
+        let before = self.before();
+        match self.answers.answer(self.alloc, question, before) {
             Ok(answer) => answer,
             Err(_) => Answer::Fault(HostFault::Memory),
         }

@@ -22,6 +22,8 @@ pub enum Telling {
     Modules,
     /// Whether names, orders and constants resolve; nothing is asked or handed over.
     Resolved,
+    /// Whether recipes are entered alike as dependencies and by words; nothing is asked or handed over.
+    Steady,
     /// The root as it is printed; nothing is asked or handed over.
     Printed,
     /// The root's tokens; nothing is asked or handed over.
@@ -34,6 +36,10 @@ pub struct Way<'a> {
     pub action: Action,
     pub telling: Telling,
     pub answers: Answers<'a>,
+    /// Whether the answers to single questions are used one behind the other, each once.
+    pub in_turn: bool,
+    /// Whether it is told of a refusal where it stands.
+    pub is_placed: bool,
     /// What files of variables give: names and values.
     pub pairs: &'a [(&'a str, &'a str)],
     pub confirmation: Confirmation,
@@ -49,8 +55,8 @@ pub struct Way<'a> {
     pub shell: Option<&'a str>,
     /// The shell's one word before a command in place of the justfile's.
     pub shell_arg: Option<&'a str>,
-    /// Whether calls of functions may lie in each other 4 deep alone, and not 256.
-    pub is_shallow: bool,
+    /// How deep calls of functions may lie in each other, in place of 256.
+    pub recursion_limit: Option<u64>,
     /// The place of the question or event that fails, from 0; none does at the greatest place.
     pub failing_place: usize,
     pub failing: Failing,
@@ -63,6 +69,8 @@ pub const RUN: Way<'static> = Way {
     action: Action::Run,
     telling: Telling::Short,
     answers: Answers::Echo,
+    in_turn: false,
+    is_placed: false,
     pairs: &[("D", "1")],
     confirmation: Confirmation::Yes,
     dry_run: false,
@@ -74,17 +82,18 @@ pub const RUN: Way<'static> = Way {
     base: "/base",
     shell: None,
     shell_arg: None,
-    is_shallow: false,
+    recursion_limit: None,
     failing_place: usize::MAX,
     failing: Failing::NotStarted,
     writes: None,
 };
 
-/// How deep calls of functions may lie in each other.
-fn recursion_limit(is_shallow: bool) -> u64
+/// How deep calls of functions may lie in each other: as deep as is said, and at least 1.
+fn recursion_limit(said: Option<u64>) -> u64
     ensures { 1 ≤ result }
 {
-    if is_shallow { 4 } else { 256 }
+    let limit = said.unwrap_or(256);
+    if limit == 0 { 1 } else { limit }
 }
 
 /// What the way says, but for the shell.
@@ -104,7 +113,7 @@ fn without_shell(alloc: Global, way: Way<'_>) -> Result<Config, AllocError> {
         jobs: way.jobs,
         shell: None,
         shell_args: None,
-        recursion_limit: recursion_limit(way.is_shallow),
+        recursion_limit: recursion_limit(way.recursion_limit),
         version: Version::new(1, 58, 0),
     })
 }

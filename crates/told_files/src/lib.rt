@@ -8,5 +8,5 @@ mod syntax;
 
 pub use files::{Unchanged, root_of, sources};
 pub use modules::told_modules;
-pub use resolved::told_resolved;
+pub use resolved::{told_resolved, told_steady, write_place};
 pub use syntax::{Subject, told_printed, told_tokens};
