@@ -1,0 +1,4 @@
+pub mod Calls
+pub mod Bodies
+pub mod Read
+pub mod Examples

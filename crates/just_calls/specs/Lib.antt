@@ -1,0 +1,5 @@
+pub mod Named
+pub mod Scopes
+pub mod Groups
+pub mod Bodies
+pub mod Calling

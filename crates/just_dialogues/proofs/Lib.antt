@@ -1,0 +1,9 @@
+pub mod Dialogues
+pub mod Forms
+pub mod Rows
+pub mod Answered
+pub mod Quiet
+pub mod Unfolding
+pub mod Settling
+pub mod Soundness
+pub mod Agreement

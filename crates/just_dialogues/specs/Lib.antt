@@ -1,0 +1,9 @@
+pub mod Faults
+pub mod Dialogue
+pub mod Terms
+pub mod Written
+pub mod Evaluation
+pub mod Calls
+pub mod Answers
+pub mod Constants
+pub mod Meaning

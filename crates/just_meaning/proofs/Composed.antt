@@ -1,0 +1,36 @@
+-- A run for every host is the naive run by the answers that agree with it.
+use Rattle.std.proofs.Common.{◌≡◌, ◌<◌, ℕ, List, [], ◌∷◌, ◌++◌, Bool, true, false, Option, Some, None, Result, Ok, Err, refl, sym, ap, ◌∙◌, subst}
+use Rattle.std.specs.List.{AllByRecursion}
+use Rattle.std.specs.Bool.{Decides}
+use Rattle.just_host.specs.declared.entry.Entry.{Entry}
+use Rattle.just_dialogues.specs.Dialogue.{Lookup, Variable, Reading}
+use Rattle.just_dialogues.specs.Evaluation.{Value}
+use Rattle.just_dialogues.specs.Meaning.{Meaning}
+use Rattle.just_runs.specs.Failures.{Failure}
+use Rattle.just_calls.specs.Named.{Call, Definitions, same_call}
+use Rattle.just_calls.specs.Scopes.{Configuration}
+use Rattle.just_runs.specs.Told.{Answers, holds, Agrees}
+use Rattle.just_runs.specs.Meant.{is_event}
+use Rattle.just_calls.specs.Calling.{Ground, acts}
+use Rattle.just_runs.specs.Acts.{Acts, host_parts, meaning_of}
+use Rattle.just_runs.specs.Tallies.{Tally}
+use Rattle.just_runs.specs.Parts.{Parts}
+use Rattle.just_runs.specs.Goes.{Goes}
+use Rattle.just_runs.specs.Naive.{RunPart, End, CallMeaning, IsSteady, naive}
+use Rattle.just_runs.specs.Laws.{events_of, end_by, IsRanked, OfTrees}
+use Rattle.just_meaning.specs.Opening.{Opened}
+use Rattle.just_meaning.specs.Runs.{HasRun, ground_of, reading_at, steps}
+use Rattle.just_meaning.specs.Meanings.{variables_at, meant_ground, calls_meant, naive_run, IsSteadyRun}
+use Rattle.just_runs.proofs.Acting.{AreSound, acts_go_by}
+use Rattle.just_runs.proofs.Restricted.{only_of, AreClosed, restricted}
+use Rattle.just_runs.proofs.Composed.{acts_are_naive}
+use Rattle.just_calls.proofs.Calls.{calls_decide}
+
+-- for recipes, where what was opened is what variables mean
+pub runs_mean : (c : Configuration) (defined : Definitions) (f : Answers) (n : ℕ) (opened : List Opened) (rank : Call → ℕ) (Of : Call → Type 0) → ground_of c defined opened ≡ meant_ground c defined f n
+    → AreSound (acts (meant_ground c defined f n)) (reading_at c defined opened) (λ call. variables_at c defined f n call.recipe.path) Of → AreClosed (host_parts (acts (meant_ground c defined f n)) (reading_at c defined opened)) Of → IsRanked (calls_meant c defined f n) rank
+    → (calls : List Call) (old new piece : List Entry) (t t' : Tally) (failure : Option Failure) → IsSteadyRun c defined f n calls → AllByRecursion (λ call. rank call < n) calls → AllByRecursion Of calls
+    → HasRun c defined opened calls old t new t' failure → new ≡ old ++ piece → Agrees f piece → naive_run c defined f n calls ≡ record { events = events_of is_event piece; end = end_by failure }
+runs_mean c defined f n opened rank Of same sound closed ranked calls old new piece t t' failure steady lie those run grows agrees =
+    acts_are_naive (acts (meant_ground c defined f n)) calls_decide f (reading_at c defined opened) (λ call. variables_at c defined f n call.recipe.path) rank Of sound closed ranked n calls run.done old new piece t t' failure steady lie those
+    (subst (λ g. Goes (host_parts (acts g) (reading_at c defined opened)) false [] old t calls run.done new t' failure) same run.run) grows agrees

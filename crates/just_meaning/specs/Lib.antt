@@ -1,0 +1,12 @@
+pub mod Menus
+pub mod Reading
+pub mod Opening
+pub mod Meanings
+pub mod Runs
+pub mod Agreement
+pub mod Rows
+pub mod Steady
+pub mod Reach
+pub mod Actions
+pub mod Defining
+pub mod Driving

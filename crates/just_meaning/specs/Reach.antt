@@ -1,0 +1,27 @@
+-- When two inputs agree on what a run reaches.
+use Rattle.std.specs.Prelude.{◌≡◌, ℕ, List, [], Bool, Some, None, Contains}
+use Rattle.just_expression_tree.specs.Shape.{Shape}
+use Rattle.just_rules.specs.Naming.{a_call, occurrences}
+use Rattle.just_calls.specs.Named.{RecipeName, VariableName, RecipeRow, VariableRow, Definitions}
+use Rattle.just_meaning.specs.Opening.{IsReached, IsOpened, named}
+use Rattle.just_meaning.specs.Reading.{Reaches, ReadsIn, expressions_in, function_row}
+
+module _ (defined : Definitions) (no_dependencies : Bool) (invoked : List RecipeName) where
+  -- an expression that may be evaluated in a module, with the names that it hides: the right side of an opening variable that isn't overridden, or one of a reached recipe
+  pub data IsInPlay : List (List ℕ) → Shape → List (List ℕ) → Type 0 where
+    of_variable : {x : VariableName} {row : VariableRow} → IsOpened defined no_dependencies invoked x → defined.override x ≡ None → defined.variable x ≡ Some row → IsInPlay x.path row.value []
+    of_recipe : {r : RecipeName} {row : RecipeRow} {e : Shape} {hidden : List (List ℕ)} → IsReached defined no_dependencies invoked r → defined.recipe r ≡ Some row → Contains (expressions_in row) (e, hidden) → IsInPlay r.path e hidden
+
+-- Two inputs have equal module trees with their rows, and of what is reached equal definitions, each in a file of the same path: rows hold these.
+-- What neither reaches may differ, and no number or place occurs.
+pub record AgreeOnReach (no_dependencies : Bool) (invoked : List RecipeName) (a b : Definitions) : Type 0 where
+  pub modules : a.modules ≡ b.modules
+  pub inside : (path : List (List ℕ)) → a.inside path ≡ b.inside path
+  pub recipes : (r : RecipeName) → IsReached a no_dependencies invoked r → a.recipe r ≡ b.recipe r
+  pub opened : (x : VariableName) → (IsOpened a no_dependencies invoked x → IsOpened b no_dependencies invoked x) × (IsOpened b no_dependencies invoked x → IsOpened a no_dependencies invoked x)
+  pub variables : (x : VariableName) → IsOpened a no_dependencies invoked x → (a.variable x ≡ b.variable x) × (a.override x ≡ b.override x)
+  -- each name stands for the same: a variable, or a constant where there is none; and a function, or a built-in one
+  pub names : (path : List (List ℕ)) (e : Shape) (hidden : List (List ℕ)) (name : List ℕ) → IsInPlay a no_dependencies invoked path e hidden → ReadsIn (a.functions path) e hidden name
+      → (a.variable (named path name) ≡ b.variable (named path name)) × (a.override (named path name) ≡ b.override (named path name))
+  pub functions : (path : List (List ℕ)) (e inner : Shape) (hidden others : List (List ℕ)) (name : List ℕ) (count : ℕ) → IsInPlay a no_dependencies invoked path e hidden → Reaches (a.functions path) e hidden inner others
+      → Contains (occurrences inner) (a_call name count) → function_row name (a.functions path) ≡ function_row name (b.functions path)

@@ -1,0 +1,21 @@
+//! Laws of what a justfile means, which contracts above cite.
+ghost use Rattle.std.specs.Prelude.{◌≡◌};
+ghost use Rattle.just_meaning.specs.Actions.{command_task};
+ghost use Rattle.just_meaning.specs.Agreement.{AgreesRun};
+ghost use Rattle.just_meaning.specs.Driving.{CallGoes};
+ghost use Rattle.just_meaning.specs.Meanings.{IsNaive};
+ghost use Rattle.just_meaning.specs.Menus.{menu_of};
+ghost use Rattle.just_meaning.specs.Opening.{OpensAll};
+ghost use Rattle.just_meaning.specs.Reach.{AgreeOnReach};
+ghost use Rattle.just_meaning.specs.Reading.{RecipeReads};
+ghost use Rattle.just_meaning.specs.Rows.{module_row};
+ghost use Rattle.just_meaning.specs.Runs.{RunGoes};
+ghost use Rattle.just_meaning.specs.Steady.{AreSteady};
+
+/// Brings the laws into the check.
+#[tactic(auto, using(crate::proofs::Composed::runs_mean, crate::proofs::Examples::dependencies_first))]
+pub fn law(number: u8) -> u8
+    ensures { result ≡ number }
+{
+    number
+}

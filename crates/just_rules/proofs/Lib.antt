@@ -1,0 +1,5 @@
+pub mod Kept
+pub mod Reached
+pub mod Unreached
+pub mod Meaning
+pub mod Below

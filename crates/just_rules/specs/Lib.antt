@@ -1,0 +1,10 @@
+pub mod Fixed
+pub mod Naming
+pub mod Reading
+pub mod Graph
+pub mod Depending
+pub mod Overriding
+pub mod Constants
+pub mod Rules
+pub mod Laws
+pub mod Examples

@@ -1,0 +1,25 @@
+//! Laws of the rules.
+ghost use Rattle.just_rules.specs.Examples.{UnreachedIsUnbroken};
+ghost use Rattle.just_rules.specs.Graph.{AreReads};
+ghost use Rattle.just_rules.specs.Laws.{CirclesAreReached, DependenciesStandBelow, MeaningsRestOnNames, MeansAtMostOne, ModulesStandBelow, OverridesAreUnique, UnsaidBreaksNone};
+
+/// Of the overrides of a variable one counts at most.
+pub fn overriding()
+    ensures overrides { OverridesAreUnique }
+{}
+
+/// Rules speak of what is reached, where all of it says something.
+pub fn reached()
+    ensures circles { CirclesAreReached }
+    ensures below { ModulesStandBelow }
+    ensures dependencies { DependenciesStandBelow }
+    ensures unsaid { UnsaidBreaksNone }
+    ensures example { UnreachedIsUnbroken }
+{}
+
+/// What an expression means before anything runs rests on the variables that it names alone, and a
+/// variable means one thing at most.
+pub fn meanings()
+    ensures names { MeaningsRestOnNames }
+    ensures once { MeansAtMostOne }
+{}

@@ -1,0 +1,9 @@
+pub mod Tasks
+pub mod Restricted
+pub mod Acting
+pub mod Pieces
+pub mod Sharing
+pub mod Counted
+pub mod Soundness
+pub mod Composed
+pub mod Examples

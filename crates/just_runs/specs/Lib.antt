@@ -1,0 +1,13 @@
+pub mod Words
+pub mod Invokes
+pub mod Failures
+pub mod Task
+pub mod Told
+pub mod Tallies
+pub mod Parts
+pub mod Goes
+pub mod Counts
+pub mod Naive
+pub mod Laws
+pub mod Meant
+pub mod Acts

@@ -1,0 +1,18 @@
+//! Laws of the stages of evaluation, which contracts above cite.
+ghost use Rattle.std.specs.Prelude.{◌≡◌};
+ghost use Rattle.just_stages.specs.Assigned.{Assigned};
+ghost use Rattle.just_stages.specs.Builtins.{builtin};
+ghost use Rattle.just_stages.specs.Functions.{pure};
+ghost use Rattle.just_stages.specs.Lines.{line_dialogue};
+ghost use Rattle.just_stages.specs.Parameters.{bound_dialogue};
+ghost use Rattle.just_stages.specs.Refusals.{seen};
+ghost use Rattle.just_stages.specs.Stages.{run_stage};
+ghost use Rattle.just_stages.specs.Surroundings.{surroundings_of};
+
+/// Brings the laws into the check.
+#[tactic(auto, using(crate::proofs::Called::call_goes, crate::proofs::Tables::builtin_sound, crate::proofs::Depth::has_value, crate::proofs::Environments::environment_by_name))]
+pub fn law(number: u8) -> u8
+    ensures { result ≡ number }
+{
+    number
+}

@@ -1,0 +1,10 @@
+pub mod Places
+pub mod Firsts
+pub mod Orders
+pub mod Rows
+pub mod Reading
+pub mod Kept
+pub mod Worlds
+pub mod Reached
+pub mod There
+pub mod Blanks

@@ -1,0 +1,6 @@
+-- What is kept.
+use Rattle.just_worlds.proofs.Kept.{keeps_at_most_one}
+use Rattle.just_worlds.proofs.law.keeping.Goals as goal
+
+pub returns-clause-definitions : goal.returns-clause-definitions
+returns-clause-definitions c = keeps_at_most_one
