@@ -1,21 +1,19 @@
 -- The lines of a body one after another, as a loop reads them, are the task of its commands.
-use Rattle.std.proofs.Common.{◌≡◌, ℕ, List, [], ◌∷◌, ◌++◌, append-nil, append_assoc, Bool, true, false, not, cond, ◌&&◌, Option, Some, None, Result, Ok, Err, refl, sym, ap, ◌∙◌, subst, MatchResult, if◌then◌else◌, drop}
+use Rattle.std.proofs.Common.{◌≡◌, ℕ, List, [], ◌∷◌, ◌++◌, append-nil, Bool, true, false, not, cond, ◌&&◌, Result, Ok, Err, refl, sym, ap, ◌∙◌, subst, if◌then◌else◌, drop}
 use Rattle.std.specs.List.{onto_first}
 use Rattle.just_host.specs.declared.entry.Entry.{Entry}
 use Rattle.just_tree.specs.Lines.{Piece, sigil_count, is_comment}
 use Rattle.just_tree.specs.declared.line.Sigils.{Sigils}
-use Rattle.just_dialogues.specs.Faults.{Fault}
 use Rattle.just_dialogues.specs.Dialogue.{Dialogue, Ends, Asks, Reads as ReadsOf, Reading}
 use Rattle.just_dialogues.specs.Dialogue as dialogues
 use Rattle.just_dialogues.proofs.Dialogues.{weaker}
 use Rattle.just_stages.specs.Parameters.{Bound}
-use Rattle.just_runs.specs.Failures.{Failure, Next, goes_on, stops, evaluation}
+use Rattle.just_runs.specs.Failures.{Failure, Next, goes_on, stops}
 use Rattle.just_calls.specs.Named.{RecipeRow}
 use Rattle.just_calls.specs.Scopes.{Configuration, Scene}
 use Rattle.just_calls.specs.Bodies.{first_of, goes_on_below, without_last, cut, commands, closed_if, line_text, command_text, marks_of}
-use Rattle.just_calls.specs.Calling.{running, one_command, lines_task, and_others}
-use Rattle.just_runs.specs.Task.{Task, lift, as_failure, TaskGoes, Begins}
-use Rattle.just_runs.specs.Task as tasks
+use Rattle.just_calls.specs.Calling.{running, one_command, lines_task}
+use Rattle.just_runs.specs.Task.{lift, TaskGoes}
 use Rattle.just_runs.proofs.Tasks.{begins_more, begins_as}
 use Rattle.just_runs.proofs.Tasks as laws
 

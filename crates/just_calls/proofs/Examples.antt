@@ -1,9 +1,9 @@
 -- Small cases that the definitions compute.
-use Rattle.std.specs.Prelude.{◌≡◌, ℕ, List, [], ◌∷◌, ◌++◌, Bool, true, false, codes}
+use Rattle.std.specs.Prelude.{◌≡◌, ℕ, List, [], ◌∷◌, true, codes}
 use Rattle.std.proofs.Common.{refl}
 use Rattle.just_tree.specs.Lines.{Piece, text}
 use Rattle.just_calls.specs.Bodies.{front, rear, commands}
-use Rattle.just_calls.specs.Named.{Modules, no_module, a_module, paths_of}
+use Rattle.just_calls.specs.Named.{no_module, a_module, paths_of}
 
 abbrev line_of : List ℕ → List Piece
 line_of t = text t ∷ []

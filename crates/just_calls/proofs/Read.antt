@@ -1,17 +1,16 @@
 -- What the tasks of a call read: only what the dialogues in them read.
-use Rattle.std.proofs.Common.{◌≡◌, ℕ, List, [], ◌∷◌, Bool, true, false, Option, Some, None, Result, Ok, Err, drop}
+use Rattle.std.proofs.Common.{ℕ, List, [], ◌∷◌, Bool, true, false, Option, Some, None, drop}
 use Rattle.just_expression_tree.specs.Shape.{Shape}
-use Rattle.just_host.specs.declared.host.Status.{Status}
-use Rattle.just_tree.specs.Lines.{Piece, no_sigils, sigil_count}
+use Rattle.just_tree.specs.Lines.{Piece, sigil_count}
 use Rattle.just_tree.specs.declared.line.Sigils.{Sigils}
 use Rattle.just_dialogues.specs.Dialogue.{Lookup, Variable}
 use Rattle.just_stages.specs.Parameters.{Bound}
 use Rattle.just_runs.specs.Failures.{Next, goes_on, stops}
 use Rattle.just_calls.specs.Named.{RecipeRow}
 use Rattle.just_calls.specs.Scopes.{Configuration, Scene, binding, valued}
-use Rattle.just_calls.specs.Bodies.{in_lines, command_text, script_texts, interpreter, is_script, shows_line, shows_script, marks_of, commands}
-use Rattle.just_calls.specs.Calling.{shown_if, prompt_text, confirming, head_task, handing, running, one_command, and_others, lines_task, script_handed, script_task, body_by, body_task}
-use Rattle.just_runs.specs.Task.{Task, ends, shows, lift}
+use Rattle.just_calls.specs.Bodies.{in_lines, command_text, script_texts, interpreter, shows_line, shows_script, marks_of, commands}
+use Rattle.just_calls.specs.Calling.{shown_if, prompt_text, confirming, head_task, handing, running, one_command, and_others, lines_task, script_handed, body_by}
+use Rattle.just_runs.specs.Task.{Task, lift}
 use Rattle.just_runs.proofs.Tasks.{Sound}
 use Rattle.just_runs.proofs.Soundness.{then_sound}
 

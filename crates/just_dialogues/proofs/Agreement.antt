@@ -1,9 +1,8 @@
 -- Two readings that agree on what a dialogue reads lead it alike: numbers for names, or one frame for another.
-use Rattle.std.proofs.Common.{◌≡◌, ℕ, List, Result, Ok, Err, refl, sym, ap, ◌∙◌, subst, MatchResult}
+use Rattle.std.proofs.Common.{◌≡◌, List, Result, Err, subst, MatchResult}
 use Rattle.just_host.specs.declared.entry.Entry.{Entry}
 use Rattle.just_dialogues.specs.Faults.{Fault}
-use Rattle.just_dialogues.specs.Dialogue.{Dialogue, Ends, Asks, Reads, DialogueGoes, Reading, Lookup, Variable}
-use Rattle.just_dialogues.specs.Evaluation.{Value}
+use Rattle.just_dialogues.specs.Dialogue.{Dialogue, Ends, Asks, Reads, DialogueGoes, Reading}
 use Rattle.just_dialogues.proofs.Dialogues.{weaker}
 use Rattle.just_dialogues.proofs.Soundness.{Sound}
 

@@ -1,11 +1,11 @@
 -- Questions and what is told of them.
-use Rattle.std.proofs.Common.{◌≡◌, ◌≢◌, ℕ, List, [], ◌∷◌, ◌++◌, Result, Ok, Err, refl, ◌∙◌, ap}
+use Rattle.std.proofs.Common.{◌≡◌, ◌≢◌, List, [], ◌∷◌, ◌++◌, Result, Err, ◌∙◌, ap}
 use Rattle.just_host.specs.declared.entry.Entry.{Entry}
 use Rattle.just_host.specs.declared.entry.Entry.TheVariants.{Asked}
 use Rattle.just_host.specs.declared.host.Question.{Question}
 use Rattle.just_host.specs.declared.host.Answer.{Answer}
 use Rattle.just_dialogues.specs.Faults.{Fault, memory}
-use Rattle.just_dialogues.specs.Dialogue.{Dialogue, Ends, Asks, DialogueGoes, Evaluates, Reading}
+use Rattle.just_dialogues.specs.Dialogue.{Ends, Asks, Evaluates, Reading}
 use Rattle.just_dialogues.specs.Answers.{IsAnswered}
 
 pub is_answered : {A : Type 0} (question : Question) (tells : Answer → A) (old new : List Entry) (answer : Answer) (told : A) → new ≡ old ++ Asked question answer ∷ [] → told ≡ tells answer → IsAnswered question tells old new told

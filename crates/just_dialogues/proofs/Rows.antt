@@ -1,14 +1,14 @@
 -- Rows of dialogues, one after another.
-use Rattle.std.proofs.Common.{◌≡◌, ◌≢◌, ℕ, suc, ◌+◌, ◌<◌, ◌≤◌, List, [], ◌∷◌, ◌++◌, length, get_or, drop, map, Result, Ok, Err, refl, sym, ap, ◌∙◌, subst, append_assoc, append-nil, add-one, drop-cons, arith, Bool, length-append}
+use Rattle.std.proofs.Common.{◌≡◌, ℕ, suc, ◌+◌, ◌<◌, ◌≤◌, List, [], ◌∷◌, ◌++◌, length, get_or, drop, Result, Ok, Err, refl, sym, ap, ◌∙◌, append_assoc, append-nil, add-one, drop-cons, Bool, length-append}
 use Rattle.std.proofs.lemmas.List.{drop_all}
 use Rattle.std.specs.List.{flat_map}
 use Rattle.just_host.specs.declared.entry.Entry.{Entry}
 use Rattle.just_expression_tree.specs.declared.expression.Expression.{Expression}
 use Rattle.just_expression_tree.specs.declared.string_literal.StringLiteral.{StringLiteral}
 use Rattle.just_value.specs.Values.{joined}
-use Rattle.just_dialogues.specs.Faults.{Fault, memory}
-use Rattle.just_dialogues.specs.Terms.{Term, Terms, Holes, term_of, terms_of, holes_of, hole, listing}
-use Rattle.just_dialogues.specs.Dialogue.{Dialogue, Ends, Asks, Reads, ◌>>=◌, DialogueGoes, Evaluates, Reading}
+use Rattle.just_dialogues.specs.Faults.{Fault}
+use Rattle.just_dialogues.specs.Terms.{term_of, terms_of, holes_of, listing}
+use Rattle.just_dialogues.specs.Dialogue.{Dialogue, Ends, ◌>>=◌, DialogueGoes, Evaluates, Reading}
 use Rattle.just_dialogues.specs.Evaluation.{Value, Stage, row, dialogue, dialogues, filled}
 use Rattle.just_dialogues.specs.Calls.{arguments, as_argument}
 use Rattle.just_dialogues.proofs.Dialogues.{goes_on, stops, then_goes, then_stops, ends}

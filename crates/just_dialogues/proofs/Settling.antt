@@ -1,12 +1,12 @@
 -- What the constant stage settles is what a run means.
-use Rattle.std.proofs.Common.{◌≡◌, ◌≢◌, ℕ, List, [], ◌∷◌, ◌++◌, Bool, true, false, if◌then◌else◌, Option, Some, None, Result, Ok, Err, refl, sym, ap, ◌∙◌, subst, option_and_then}
+use Rattle.std.proofs.Common.{◌≡◌, ◌≢◌, ℕ, List, [], ◌∷◌, ◌++◌, Bool, true, false, if◌then◌else◌, Option, Some, Result, Ok, Err, refl, ap, ◌∙◌}
 use Rattle.just_host.specs.declared.host.Question.{Question}
 use Rattle.just_host.specs.declared.host.Answer.{Answer}
 use Rattle.just_value.specs.Values.{joined}
 use Rattle.just_dialogues.specs.Faults.{Fault, Inconstant, not_constant}
 use Rattle.just_dialogues.specs.Dialogue.{Dialogue, Ends, Asks, Reads, ◌>>=◌, Reading, Lookup, Variable}
 use Rattle.just_dialogues.specs.Constants.{settled, settled_read}
-use Rattle.just_dialogues.specs.Evaluation.{Value, Stage, row, sides, comparing, holding, failing, dialogue, dialogues, filled, is_truthy}
+use Rattle.just_dialogues.specs.Evaluation.{Value, Stage, row, sides, dialogue, dialogues, filled, is_truthy}
 use Rattle.just_dialogues.specs.Meaning.{QuestionAnswers, Meaning, with_meaning, meaning}
 use Rattle.just_dialogues.specs.Calls.{const_stage}
 use Rattle.just_dialogues.specs.Terms.{Term, Terms, Holes, literal, command, format, variable, call, assertion, assertion_alone, both, either, negation, comparison, paired, rooted, appended, choice, choice_alone, listing, group, end, more, closed, hole}

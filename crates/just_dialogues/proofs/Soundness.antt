@@ -1,12 +1,12 @@
 -- What an expression reads is what its dialogue reads.
-use Rattle.std.proofs.Common.{◌≡◌, ◌≢◌, ℕ, zero, suc, ◌+◌, List, [], ◌∷◌, ◌++◌, length, Bool, true, false, if◌then◌else◌, Option, Some, None, Result, Ok, Err, ◌⊎◌, inl, inr, ⊎_elim, refl, sym, ap, ◌∙◌, subst, add-one}
+use Rattle.std.proofs.Common.{◌≡◌, ℕ, suc, ◌+◌, List, [], ◌∷◌, ◌++◌, length, Bool, true, false, if◌then◌else◌, Option, Some, None, Result, Ok, Err, ◌⊎◌, ⊎_elim, refl, ap, subst}
 use Rattle.std.specs.Prelude.{IsSome}
 use Rattle.just_host.specs.declared.host.Answer.{Answer}
 use Rattle.just_value.specs.Values.{joined}
 use Rattle.just_dialogues.specs.Faults.{Fault}
 use Rattle.just_dialogues.specs.Dialogue.{Dialogue, Ends, Asks, Reads, ◌>>=◌, Lookup, around, in_module, Variable}
 use Rattle.just_dialogues.specs.Evaluation.{Value, Stage, row, sides, comparing, holding, failing, dialogue, dialogues, filled, is_truthy, compared}
-use Rattle.just_dialogues.specs.Calls.{arguments, as_argument, Frame, empty, in_frame, or_read, inside}
+use Rattle.just_dialogues.specs.Calls.{arguments, as_argument, Frame, in_frame, or_read, inside}
 use Rattle.just_dialogues.specs.Terms.{Term, Terms, Holes, literal, command, format, variable, call, assertion, assertion_alone, both, either, negation, comparison, paired, rooted, appended, choice, choice_alone, listing, group, end, more, closed, hole}
 
 -- it reads only these variables, and ends in a value of this kind or in a fault

@@ -1,13 +1,12 @@
 -- A run whose variables hold what they mean gives the meaning.
-use Rattle.std.proofs.Common.{◌≡◌, ◌≢◌, ℕ, zero, suc, List, [], ◌∷◌, ◌++◌, append-nil, append_assoc, Option, Some, None, Result, Ok, Err, refl, sym, ap, ◌∙◌, subst, MatchResult, option_and_then}
+use Rattle.std.proofs.Common.{◌≡◌, List, [], ◌∷◌, ◌++◌, append-nil, append_assoc, Some, Result, Ok, Err, refl, sym, ap, ◌∙◌, subst, MatchResult, option_and_then}
 use Rattle.just_host.specs.declared.entry.Entry.{Entry}
 use Rattle.just_host.specs.declared.entry.Entry.TheVariants.{Asked, Line, Script, Confirm, Show, Dotenv}
 use Rattle.just_host.specs.declared.host.Answer.{Answer}
 use Rattle.just_dialogues.specs.Faults.{Fault}
-use Rattle.just_dialogues.specs.Dialogue.{Dialogue, Ends, Asks, Reads, ◌>>=◌, DialogueGoes, Reading, Lookup, Variable}
+use Rattle.just_dialogues.specs.Dialogue.{Dialogue, Ends, Asks, Reads, DialogueGoes, Reading, Lookup, Variable}
 use Rattle.just_dialogues.specs.Evaluation.{Value}
 use Rattle.just_dialogues.specs.Meaning.{QuestionAnswers, Meaning, with_meaning, meaning, AgreesWith}
-use Rattle.just_dialogues.proofs.Dialogues.{weaker}
 
 -- either case of a match
 either_case : {V E : Type 0} {P : V → Type 0} {Q : E → Type 0} {G : Type 0} (o : Result V E) → ((v : V) → o ≡ Ok v → P v → G) → ((e : E) → o ≡ Err e → Q e → G) → MatchResult o P Q → G

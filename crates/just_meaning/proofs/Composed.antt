@@ -1,28 +1,22 @@
 -- A run for every host is the naive run by the answers that agree with it.
-use Rattle.std.proofs.Common.{◌≡◌, ◌<◌, ℕ, List, [], ◌∷◌, ◌++◌, Bool, true, false, Option, Some, None, Result, Ok, Err, refl, sym, ap, ◌∙◌, subst}
+use Rattle.std.proofs.Common.{◌≡◌, ◌<◌, ℕ, List, [], ◌++◌, false, Option, subst}
 use Rattle.std.specs.List.{AllByRecursion}
-use Rattle.std.specs.Bool.{Decides}
 use Rattle.just_host.specs.declared.entry.Entry.{Entry}
-use Rattle.just_dialogues.specs.Dialogue.{Lookup, Variable, Reading}
-use Rattle.just_dialogues.specs.Evaluation.{Value}
-use Rattle.just_dialogues.specs.Meaning.{Meaning}
 use Rattle.just_runs.specs.Failures.{Failure}
-use Rattle.just_calls.specs.Named.{Call, Definitions, same_call}
+use Rattle.just_calls.specs.Named.{Call, Definitions}
 use Rattle.just_calls.specs.Scopes.{Configuration}
-use Rattle.just_runs.specs.Told.{Answers, holds, Agrees}
+use Rattle.just_runs.specs.Told.{Answers, Agrees}
 use Rattle.just_runs.specs.Meant.{is_event}
-use Rattle.just_calls.specs.Calling.{Ground, acts}
-use Rattle.just_runs.specs.Acts.{Acts, host_parts, meaning_of}
+use Rattle.just_calls.specs.Calling.{acts}
+use Rattle.just_runs.specs.Acts.{host_parts}
 use Rattle.just_runs.specs.Tallies.{Tally}
-use Rattle.just_runs.specs.Parts.{Parts}
 use Rattle.just_runs.specs.Goes.{Goes}
-use Rattle.just_runs.specs.Naive.{RunPart, End, CallMeaning, IsSteady, naive}
-use Rattle.just_runs.specs.Laws.{events_of, end_by, IsRanked, OfTrees}
+use Rattle.just_runs.specs.Laws.{events_of, end_by, IsRanked}
 use Rattle.just_meaning.specs.Opening.{Opened}
-use Rattle.just_meaning.specs.Runs.{HasRun, ground_of, reading_at, steps}
+use Rattle.just_meaning.specs.Runs.{HasRun, ground_of, reading_at}
 use Rattle.just_meaning.specs.Meanings.{variables_at, meant_ground, calls_meant, naive_run, IsSteadyRun}
-use Rattle.just_runs.proofs.Acting.{AreSound, acts_go_by}
-use Rattle.just_runs.proofs.Restricted.{only_of, AreClosed, restricted}
+use Rattle.just_runs.proofs.Acting.{AreSound}
+use Rattle.just_runs.proofs.Restricted.{AreClosed}
 use Rattle.just_runs.proofs.Composed.{acts_are_naive}
 use Rattle.just_calls.proofs.Calls.{calls_decide}
 

@@ -1,6 +1,6 @@
 -- Small justfiles, and the commands that their naive runs hand over, as the definitions compute them. (tests/scripted/runs has the same files with what is handed over when they are driven.)
 use Rattle.std.proofs.Common.{refl}
-use Rattle.std.specs.Prelude.{◌≡◌, ℕ, List, [], ◌∷◌, ◌++◌, Bool, true, false, cond, map, Option, Some, None, Ok, codes}
+use Rattle.std.specs.Prelude.{◌≡◌, ℕ, List, [], ◌∷◌, ◌++◌, true, false, cond, map, Option, Some, None, Ok, codes}
 use Rattle.std.specs.Str.{bytes_eq}
 use Rattle.just_text.specs.declared.os.Os.TheVariants.{Linux}
 use Rattle.just_expression_tree.specs.Cooking.{cooked}
@@ -16,13 +16,13 @@ use Rattle.just_host.specs.declared.host.Status.TheVariants.{Code}
 use Rattle.just_tree.specs.Lines.{Piece, text, interpolation, read_sigils}
 use Rattle.just_tree.specs.Recipes.{ArgumentShape}
 use Rattle.just_tree.specs.declared.recipe.ParameterKind.{ParameterKind}
-use Rattle.just_tree.specs.declared.recipe.ParameterKind.TheVariants.{Plus, Singular, Star}
+use Rattle.just_tree.specs.declared.recipe.ParameterKind.TheVariants.{Singular, Star}
 use Rattle.just_functions.specs.Names.{function_names}
 use Rattle.just_dialogues.specs.Faults.{function_failed}
 use Rattle.just_runs.specs.Failures.{Failure, by_code, evaluation}
 use Rattle.just_runs.specs.Told.{Answers}
 use Rattle.just_runs.specs.Naive.{End, went, failed, tree}
-use Rattle.just_calls.specs.Named.{RecipeName, Call, ParameterRow, DependencyRow, RecipeRow, VariableRow, FunctionRow, ModuleRow, no_module, Definitions}
+use Rattle.just_calls.specs.Named.{Call, ParameterRow, DependencyRow, RecipeRow, VariableRow, FunctionRow, ModuleRow, no_module, Definitions}
 use Rattle.just_calls.specs.Scopes.{Configuration}
 use Rattle.just_meaning.specs.Meanings.{naive_run}
 

@@ -23,7 +23,8 @@ use Rattle.just_tree.specs.Files.{ItemShape, assignment_item}
 use Rattle.just_worlds.specs.Keeping.{IsDefined, Keeps}
 use Rattle.just_worlds.specs.Keeping as keeping
 use Rattle.just_rules.specs.Laws.{MeansAtMostOne}
-use Rattle.just_rules.proofs.Kept.{keeps_at_most_one, overrides_are_unique}
+use Rattle.just_worlds.proofs.Kept.{keeps_at_most_one}
+use Rattle.just_rules.proofs.Kept.{overrides_are_unique}
 use Rattle.just_rules.specs.Constants.{Means, by_override, by_side, by_constant, as_read, reading_of, meant, said_by}
 use Rattle.just_worlds.proofs.Places.{contains_first}
 

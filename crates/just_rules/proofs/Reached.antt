@@ -1,5 +1,5 @@
 -- What is reached, and what a compilation begins with.
-use Rattle.std.proofs.Common.{◌≡◌, ◌⊎◌, inl, inr, sym, ◌∙◌, ap, subst, List, ◌∷◌, ◌++◌, ℕ, zero, suc, ◌-◌, ◌<◌, Some, None, refl, arith, length, []}
+use Rattle.std.proofs.Common.{◌≡◌, ◌⊎◌, inl, inr, sym, ◌∙◌, ap, subst, List, ◌∷◌, ℕ, zero, suc, ◌-◌, ◌<◌, Some, refl, arith, length, []}
 use Rattle.std.specs.Prelude.{slice_get}
 use Rattle.std.proofs.lemmas.Option.{none-some, same_Some, slice_get_within}
 use Rattle.just_worlds.specs.Given.{Text, World}

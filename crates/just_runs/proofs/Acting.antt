@@ -1,21 +1,19 @@
 -- The steps of calls go by what they mean.
-use Rattle.std.proofs.Common.{◌≡◌, ℕ, List, [], ◌∷◌, ◌++◌, append-nil, Bool, true, false, Option, Some, None, Result, Ok, Err, refl, sym, ap, ◌∙◌, subst, ◌⊎◌, inl, inr}
-use Rattle.std.specs.List.{AllByRecursion}
+use Rattle.std.proofs.Common.{◌≡◌, List, [], ◌++◌, append-nil, Bool, Result, Ok, Err, refl, sym, ap, ◌∙◌, ◌⊎◌, inl, inr}
 use Rattle.just_host.specs.declared.entry.Entry.{Entry}
 use Rattle.just_dialogues.specs.Dialogue.{Dialogue, Lookup, Variable, Reading}
 use Rattle.just_dialogues.specs.Evaluation.{Value}
-use Rattle.just_dialogues.specs.Meaning.{Meaning, meaning}
+use Rattle.just_dialogues.specs.Meaning.{Meaning}
 use Rattle.just_dialogues.proofs.Unfolding.{IsMeant}
 use Rattle.just_runs.specs.Failures.{Failure}
-use Rattle.just_runs.specs.Task.{Task, ends, lift, ◌>>=◌, TaskLeads}
-use Rattle.just_runs.specs.Told.{Answers, holds, Agrees}
+use Rattle.just_runs.specs.Task.{lift}
+use Rattle.just_runs.specs.Told.{Answers, holds}
 use Rattle.just_runs.specs.Meant.{is_event, ended_as, only, task_meaning}
-use Rattle.just_runs.specs.Naive.{RunPart, End, went, failed, unanswered, CallMeaning}
-use Rattle.just_runs.specs.Parts.{Parts}
+use Rattle.just_runs.specs.Naive.{RunPart, End, went, failed, unanswered}
 use Rattle.just_runs.specs.Acts.{Acts, begin, finish, host_parts, meaning_of}
 use Rattle.just_runs.specs.Laws.{events_of, IsBegun, IsEnded, GoBy}
 use Rattle.just_runs.proofs.Restricted.{only_of}
-use Rattle.just_runs.proofs.Tasks.{Sound, seen_part, unfolds, and_then, and_then_end, meaning_then, lift_means, end_of}
+use Rattle.just_runs.proofs.Tasks.{Sound, unfolds, and_then, and_then_end, meaning_then, lift_means}
 
 -- the tasks of calls of a kind read only what means what is read
 pub record AreSound {Call Bound : Type 0} (a : Acts Call Bound) (reading : Call → Reading) (variables : Call → Lookup → Variable → Meaning Value) (Of : Call → Type 0) : Type 0 where

@@ -1,5 +1,5 @@
 -- A run for every host is the naive run by the answers that agree with it.
-use Rattle.std.proofs.Common.{◌≡◌, ◌<◌, ℕ, List, [], ◌∷◌, ◌++◌, Bool, true, false, Option, Some, None, Result, Ok, Err, refl, sym, ap, ◌∙◌, subst}
+use Rattle.std.proofs.Common.{◌≡◌, ◌<◌, ℕ, List, [], ◌++◌, false, Option}
 use Rattle.std.specs.List.{AllByRecursion}
 use Rattle.std.specs.Bool.{Decides}
 use Rattle.just_host.specs.declared.entry.Entry.{Entry}
@@ -11,9 +11,8 @@ use Rattle.just_runs.specs.Told.{Answers, holds, Agrees}
 use Rattle.just_runs.specs.Meant.{is_event}
 use Rattle.just_runs.specs.Acts.{Acts, host_parts, meaning_of}
 use Rattle.just_runs.specs.Tallies.{Tally}
-use Rattle.just_runs.specs.Parts.{Parts}
 use Rattle.just_runs.specs.Goes.{Goes}
-use Rattle.just_runs.specs.Naive.{RunPart, End, CallMeaning, IsSteady, naive}
+use Rattle.just_runs.specs.Naive.{IsSteady, naive}
 use Rattle.just_runs.specs.Laws.{events_of, end_by, IsRanked, OfTrees}
 use Rattle.just_runs.proofs.Acting.{AreSound, acts_go_by}
 use Rattle.just_runs.proofs.Restricted.{only_of, AreClosed, restricted}

@@ -3,7 +3,7 @@ use Rattle.std.proofs.Common.{refl}
 use Rattle.std.specs.Prelude.{ℕ, List, [], ◌∷◌, Bool, true, false, cond, Option, Some, None, codes}
 use Rattle.std.specs.Str.{bytes_eq}
 use Rattle.just_runs.specs.Words.{Slot, WordMeaning, recipe, Words}
-use Rattle.just_runs.specs.Invokes.{Takes, no_more, one_more, Refuses, here, Invoke, last, more, BreaksWords, at_first, untaken, incomplete, unknown_option, option_value, argument_count}
+use Rattle.just_runs.specs.Invokes.{no_more, one_more, here, Invoke, last, more, BreaksWords, at_first, untaken, incomplete, unknown_option, option_value, argument_count}
 
 abbrev slots_named : List ℕ → List (List ℕ × List Slot) → Option (List Slot)
 slots_named name [] = None

@@ -1,5 +1,5 @@
 -- A run of calls of a kind that is closed under what calls bring about.
-use Rattle.std.proofs.Common.{◌≡◌, List, [], ◌∷◌, Bool, Option, Result, Ok, Err}
+use Rattle.std.proofs.Common.{List, Bool, Option, Ok}
 use Rattle.std.specs.List.{AllByRecursion}
 use Rattle.just_runs.specs.Parts.{Parts}
 use Rattle.just_runs.specs.Goes.{Goes, over, again, entered, not_begun, prior_failed, not_ended, subsequent_failed}

@@ -1,8 +1,7 @@
 -- One task after another, and what a run of a task means.
-use Rattle.std.proofs.Common.{◌≡◌, ℕ, List, [], ◌∷◌, ◌++◌, append-nil, append_assoc, Bool, true, false, Option, Some, None, option_and_then, Result, Ok, Err, refl, sym, ap, ◌∙◌, subst, MatchResult, ◌⊎◌, inl, inr}
-use Rattle.std.specs.List.{AllByRecursion}
+use Rattle.std.proofs.Common.{◌≡◌, List, [], ◌∷◌, ◌++◌, append-nil, append_assoc, Option, Some, None, option_and_then, Result, Ok, Err, refl, sym, ap, ◌∙◌, subst, MatchResult}
 use Rattle.just_host.specs.declared.entry.Entry.{Entry}
-use Rattle.just_host.specs.declared.entry.Entry.TheVariants.{Asked, Line as LineEntry, Script as ScriptEntry, Confirm, Show, Dotenv}
+use Rattle.just_host.specs.declared.entry.Entry.TheVariants.{Asked, Confirm, Show}
 use Rattle.just_host.specs.declared.host.Status.{Status}
 use Rattle.just_host.specs.declared.host.Answer.{Answer}
 use Rattle.just_host.specs.declared.host.Confirmation.{Confirmation}

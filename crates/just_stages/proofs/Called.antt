@@ -1,12 +1,12 @@
 -- The call of a defined function: its body reads its parameters, and else the module's variables.
-use Rattle.std.proofs.Common.{◌≡◌, ◌≢◌, ℕ, zero, suc, ◌-◌, ◌<◌, ◌≤◌, Bool, false, List, [], ◌∷◌, ◌++◌, Option, Some, None, Result, Ok, Err, refl, sym, ap, ◌∙◌, subst, MatchResult, arith}
+use Rattle.std.proofs.Common.{◌≡◌, ℕ, suc, ◌-◌, ◌<◌, Bool, false, List, ◌∷◌, Option, Some, None, Result, Ok, Err, refl, ap, ◌∙◌, subst, MatchResult, arith}
 use Rattle.std.specs.Option.{option_map, option_or}
 use Rattle.just_host.specs.declared.entry.Entry.{Entry}
-use Rattle.just_value.specs.Frames.{BoundRow, Frames, bound_in, found_in, look_up}
-use Rattle.just_dialogues.specs.Faults.{Fault, memory, too_deep}
-use Rattle.just_dialogues.specs.Dialogue.{Dialogue, Ends, Asks, Reads, ◌>>=◌, DialogueGoes, Evaluates, Reading, Lookup, around, in_module, Variable}
+use Rattle.just_value.specs.Frames.{BoundRow, Frames, bound_in, found_in}
+use Rattle.just_dialogues.specs.Faults.{Fault, too_deep}
+use Rattle.just_dialogues.specs.Dialogue.{Dialogue, Ends, Asks, Reads, DialogueGoes, Evaluates, Reading, around, in_module, Variable}
 use Rattle.just_dialogues.specs.Evaluation.{Value, row, dialogue}
-use Rattle.just_dialogues.specs.Calls.{Frame, DefinedFunction, HasValues, empty, with_parameters, in_frame, inside, or_read, value_found, read_in, reading_in_frames, call_defined}
+use Rattle.just_dialogues.specs.Calls.{Frame, DefinedFunction, HasValues, empty, with_parameters, in_frame, inside, or_read, value_found, reading_in_frames, call_defined}
 use Rattle.just_stages.specs.Stages.{calls_left, run_stage}
 use Rattle.just_stages.specs.Surroundings.{Surroundings, Standing}
 use Rattle.just_dialogues.proofs.Dialogues.{then_goes, then_stops, weaker}

@@ -1,12 +1,12 @@
 -- What an expression reads through the functions that it calls, however deep the calls lie.
-use Rattle.std.proofs.Common.{◌≡◌, ◌≢◌, ℕ, zero, suc, List, [], ◌∷◌, length, Bool, true, false, Option, Some, None, Result, Ok, Err, ◌⊎◌, inl, inr, ⊎_elim, refl, sym, ap, ◌∙◌, subst, cond, arith, eq-eqb, ◌==◌}
+use Rattle.std.proofs.Common.{◌≡◌, ℕ, zero, suc, List, [], ◌∷◌, length, Option, Some, None, ◌⊎◌, inl, inr, ⊎_elim, refl, ◌∙◌, arith, eq-eqb}
 use Rattle.std.proofs.lemmas.Bool.{cases_eq}
 use Rattle.std.proofs.lemmas.Bool.Decides.{nat_tests}
 use Rattle.std.specs.Prelude.{IsSome}
 use Rattle.just_functions.specs.Names.{function_of}
-use Rattle.just_dialogues.specs.Dialogue.{Dialogue, Ends, Asks, Reads, ◌>>=◌, Lookup, around, in_module, Variable}
+use Rattle.just_dialogues.specs.Dialogue.{Dialogue, Lookup, around, in_module, Variable}
 use Rattle.just_dialogues.specs.Evaluation.{Value, dialogue, row}
-use Rattle.just_dialogues.specs.Calls.{Calls, DefinedFunction, Frame, call_defined, function_named, empty, bound, with_parameters, in_frame}
+use Rattle.just_dialogues.specs.Calls.{DefinedFunction, Frame, call_defined, function_named, empty, bound, with_parameters, in_frame}
 use Rattle.just_stages.specs.Stages.{call_named, run_stage, calls_left}
 use Rattle.just_stages.specs.Surroundings.{Surroundings, Standing}
 use Rattle.just_dialogues.proofs.Soundness.{Sound, Any, AllSound, then_sound, row_sound, Each, sound, inside_sound}

@@ -1,26 +1,22 @@
 -- The built-in functions read no variable.
-use Rattle.std.proofs.Common.{◌≡◌, ℕ, zero, suc, List, [], ◌∷◌, length, Bool, true, false, Option, Some, None, Result, Ok, Err, refl, subst, sym}
-use Rattle.just_host.specs.declared.host.Answer.{Answer}
+use Rattle.std.proofs.Common.{ℕ, List, [], ◌∷◌, Bool, true, false, Option, Some, None, Result, Ok, Err}
 use Rattle.just_host.specs.declared.host.HostFault.{HostFault}
 use Rattle.just_host.specs.declared.host.MachineFact.{MachineFact}
 use Rattle.just_host.specs.declared.job.Pair.{Pair}
 use Rattle.just_functions.specs.Arguments.{takes_text}
 use Rattle.just_functions.specs.Environment.{last_of}
-use Rattle.just_functions.specs.Names.{function_of}
 use Rattle.just_functions.specs.declared.function.Function.{Function}
 use Rattle.just_functions.specs.declared.function.Function.TheVariants.{Arch, Canonicalize, InvocationDirectory, InvocationDirectoryNative, IsDependency, JustVersion, Justfile, JustfileDirectory, ModuleDirectory, ModuleFile, ModulePath, NumJobs, Os, OsFamily, PathExists, Read, RecipeName, Require, Shell, SourceDirectory, SourceFile, Which}
 use Rattle.just_builtins.specs.Facts.{folder_of, fact_of}
-use Rattle.just_dialogues.specs.Faults.{Fault}
-use Rattle.just_dialogues.specs.Dialogue.{Dialogue, Ends, Asks, Reads, ◌>>=◌, Lookup, around, in_module, Variable}
-use Rattle.just_dialogues.specs.Evaluation.{Value, dialogue, row}
-use Rattle.just_dialogues.specs.Answers.{text_in, optional_in, output}
+use Rattle.just_dialogues.specs.Dialogue.{Dialogue, ◌>>=◌, Lookup, Variable}
+use Rattle.just_dialogues.specs.Evaluation.{Value}
+use Rattle.just_dialogues.specs.Answers.{optional_in}
 use Rattle.just_stages.specs.Functions.{pure, text_at}
-use Rattle.just_dialogues.specs.Calls.{arguments, Calls, DefinedFunction, call_defined, function_named, empty, with_parameters, in_frame, inside}
-use Rattle.just_stages.specs.Builtins.{builtin, determined, told_folder, told_by, sited, machine_folder, machine_fact, exists_dialogue, shell_dialogue, environment_dialogue, first_variable, looked_up, in_files}
-use Rattle.just_stages.specs.Stages.{call_builtin, call_named, command_dialogue, run_stage, calls_left}
+use Rattle.just_dialogues.specs.Calls.{arguments}
+use Rattle.just_stages.specs.Builtins.{builtin, determined, told_folder, told_by, sited, exists_dialogue, shell_dialogue, environment_dialogue, first_variable, looked_up, in_files}
+use Rattle.just_stages.specs.Stages.{call_builtin, command_dialogue}
 use Rattle.just_stages.specs.Surroundings.{Surroundings, Standing}
-use Rattle.just_dialogues.specs.Terms.{Term}
-use Rattle.just_dialogues.proofs.Soundness.{Sound, Any, AllSound, then_sound, row_sound, arguments_sound, ends_sound, Each, sound, inside_sound}
+use Rattle.just_dialogues.proofs.Soundness.{Sound, Any, AllSound, then_sound, arguments_sound, ends_sound}
 
 module _ (P : Lookup → Variable → Type 0) where
   looked_sound : (name variable : List ℕ) (else_ : Dialogue Value) (r : Result (Option (List ℕ)) HostFault) → Sound P Any else_ → Sound P Any (looked_up name variable else_ r)

@@ -10,7 +10,7 @@ ghost use Rattle.just_stages.specs.Stages.{run_stage};
 ghost use Rattle.just_stages.specs.Surroundings.{surroundings_of};
 
 /// Brings the laws into the check.
-#[tactic(auto, using(crate::proofs::Called::call_goes, crate::proofs::Tables::builtin_sound, crate::proofs::Depth::has_value, crate::proofs::Environments::environment_by_name))]
+#[tactic(auto, using(crate::proofs::Called::call_goes, crate::proofs::Tables::builtin_sound, crate::proofs::Depth::has_value, crate::proofs::Environments::environment_by_name, crate::proofs::Examples::unrun_command))]
 pub fn law(number: u8) -> u8
     ensures { result ≡ number }
 {

@@ -1,13 +1,12 @@
 -- What is reached, and what a compilation begins with.
-use Rattle.std.proofs.Common.{◌≡◌, ◌⊎◌, inl, inr, sym, ◌∙◌, ap, subst, List, ◌∷◌, ◌++◌, ℕ, zero, suc, ◌-◌, ◌<◌, Some, None, refl, arith, length, []}
+use Rattle.std.proofs.Common.{◌≡◌, sym, ap, List, ◌∷◌, ◌++◌, ℕ, suc, ◌-◌, Some, None, refl, arith, []}
 use Rattle.std.specs.Prelude.{slice_get}
-use Rattle.std.proofs.lemmas.Option.{none-some, same_Some, slice_get_within}
+use Rattle.std.proofs.lemmas.Option.{none-some}
 use Rattle.just_worlds.specs.Given.{Text, World}
 use Rattle.just_worlds.specs.Sources.{Leads, itself, further, Reached, imported, submodule}
 use Rattle.just_worlds.specs.Sources as sources
 use Rattle.just_worlds.specs.Modules.{IsModule}
 use Rattle.just_worlds.specs.Modules as modules
-use Rattle.just_rules.specs.Laws.{UnsaidBreaksNone}
 use Rattle.just_worlds.specs.Laws.{CompilationsHaveRoot, ModulesAreReached, SettingsStandAlone}
 use Rattle.just_worlds.specs.Compiled.{FileView, NodeView, HasPath}
 use Rattle.just_worlds.specs.Compiled as compiled

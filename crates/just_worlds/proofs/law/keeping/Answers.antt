@@ -2,5 +2,5 @@
 use Rattle.just_worlds.proofs.Kept.{keeps_at_most_one}
 use Rattle.just_worlds.proofs.law.keeping.Goals as goal
 
-pub returns-clause-definitions : goal.returns-clause-definitions
-returns-clause-definitions c = keeps_at_most_one
+pub returns : goal.returns
+returns c = keeps_at_most_one
