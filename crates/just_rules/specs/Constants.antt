@@ -25,7 +25,7 @@ use Rattle.just_rules.specs.Naming as naming
 use Rattle.just_rules.specs.Overriding.{IsOverriddenBy}
 use Rattle.just_rules.specs.Reading as reading
 
--- ---- what it means
+-- ---- what variables and expressions mean
 
 -- what a variable gives by what it means: a value, a fault, or none, which is not constant
 abbrev pub as_read : Text → Meaning Value → Result Value Fault
