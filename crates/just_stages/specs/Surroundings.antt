@@ -6,7 +6,9 @@ use Rattle.std.specs.Option.{option_map}
 use Rattle.std.specs.Ordering.{nat_cmp}
 use Rattle.std.specs.String.{string_bytes}
 use Rattle.semver.specs.Identifiers.{version_text}
+use Rattle.just_text.specs.Names.{joined_names}
 use Rattle.just_text.specs.declared.os.Os.{Os}
+use Rattle.just_compilation.specs.Modulepaths.{path_in}
 use Rattle.just_host.specs.declared.job.Pair.{Pair}
 use Rattle.just_host.specs.declared.job.CommandJob.{CommandJob}
 use Rattle.just_value.specs.Frames.{BoundRow}
@@ -59,7 +61,7 @@ surroundings_of context = record {
   jobs = context.config.now.jobs;
   limit = context.config.now.recursion_limit;
   lists = context.module.now.settings.now.lists;
-  module_path = context.module.now.module_path.now;
+  module_path = joined_names (path_in context.module.now.modules.now context.module.now.place);
   os = context.config.now.os;
   quiet = context.config.now.quiet;
   root = context.root.now;
