@@ -3,11 +3,6 @@ ghost use Rattle.just_rules.specs.Examples.{UnreachedIsUnbroken};
 ghost use Rattle.just_rules.specs.Graph.{AreReads};
 ghost use Rattle.just_rules.specs.Laws.{CirclesAreReached, DependenciesStandBelow, MeaningsRestOnNames, MeansAtMostOne, ModulesStandBelow, OverridesAreUnique, UnsaidBreaksNone};
 
-/// Of the overrides of a variable one counts at most.
-pub fn overriding()
-    ensures overrides { OverridesAreUnique }
-{}
-
 /// Rules speak of what is reached, where all of it says something.
 pub fn reached()
     ensures circles { CirclesAreReached }
@@ -17,9 +12,10 @@ pub fn reached()
     ensures example { UnreachedIsUnbroken }
 {}
 
-/// What an expression means before anything runs rests on the variables that it names alone, and a
-/// variable means one thing at most.
+/// Of the overrides of a variable one counts at most. What an expression means before anything runs
+/// rests on the variables that it names alone, and a variable means one thing at most.
 pub fn meanings()
+    ensures overrides { OverridesAreUnique }
     ensures names { MeaningsRestOnNames }
     ensures once { MeansAtMostOne }
 {}

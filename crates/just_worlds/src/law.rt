@@ -16,11 +16,6 @@ pub fn reading_orders()
     ensures unique { OrdersAreUnique }
 {}
 
-/// Of a kind and name a module keeps one definition at most.
-pub fn keeping()
-    ensures definitions { KeepsAtMostOne }
-{}
-
 /// There is a world for a call whose files were read; two worlds for one call reach the same files and
 /// say the same there; and blank lines and files that nobody reaches make no other world.
 pub fn worlds()
@@ -30,9 +25,10 @@ pub fn worlds()
     ensures layout { LayoutIsUnseen }
 {}
 
-/// The files of a module are reached, a setting counts whatever other files say, and a compilation
-/// begins with the root.
+/// The files of a module are reached, and of a kind and name it keeps one definition at most; a
+/// setting counts whatever other files say, and a compilation begins with the root.
 pub fn reached()
+    ensures definitions { KeepsAtMostOne }
     ensures modules { ModulesAreReached }
     ensures settings { SettingsStandAlone }
     ensures root { CompilationsHaveRoot }

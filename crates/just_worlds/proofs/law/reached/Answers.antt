@@ -1,4 +1,5 @@
 -- What is reached.
+use Rattle.just_worlds.proofs.Kept.{keeps_at_most_one}
 use Rattle.just_worlds.proofs.Reached.{compilations_have_root, modules_are_reached, settings_stand_alone}
 use Rattle.just_worlds.proofs.law.reached.Goals as goal
 
@@ -10,3 +11,6 @@ returns-clause-settings c = settings_stand_alone
 
 pub returns-clause-root : goal.returns-clause-root
 returns-clause-root c = compilations_have_root
+
+pub returns-clause-definitions : goal.returns-clause-definitions
+returns-clause-definitions c = keeps_at_most_one
