@@ -1,4 +1,5 @@
 -- What falls: the levels that are left, each counted five times, so that up to four calls may stay in one.
+use Rattle.std.proofs.Common.{◌+◌, ◌*◌}
 use Rattle.just_builtins.specs.Asking.{Asks}
 use Rattle.just_evaluation.proofs.evaluator.Evaluator.+evaluate.Given as goal
 
