@@ -1,2 +1,3 @@
 mod Driven
+mod Planned
 mod Roots

@@ -1,5 +1,5 @@
 -- What a call does whose root file has plain recipes alone, or none that can be read.
-use Rattle.std.specs.Prelude.{◌≡◌, ℕ, List, Result, Ok, Err, IfErr}
+use Rattle.std.specs.Prelude.{◌≡◌, ℕ, List, Option, Some, None, Result, Ok, Err, IfErr}
 use Rattle.just_host.specs.Record.{Record}
 use Rattle.just_host.specs.Follows.{Follows}
 use Rattle.just_host.specs.declared.entry.Entry.{Entry}
@@ -10,6 +10,11 @@ use Rattle.just_plain_run.specs.Drives.{verdict, NamesBroken, IsRefusal, RunsOf,
 use Rattle.just_plain_run.specs.declared.fault.Fault as plain_fault
 use Rattle.just_plain_run.specs.declared.fault.Fault.TheVariants as plain_faults
 use Rattle.just_plain_run.specs.declared.outcome.Outcome as plain_outcome
+use Rattle.justfile_syntax.specs.declared.plain_files.ast.Ast.{Ast}
+use Rattle.just_run.specs.declared.driver.Way.{Way}
+use Rattle.just_run.specs.declared.driver.Way.TheVariants as ways
+use Rattle.just_run.specs.declared.outcome.Action.{Action}
+use Rattle.just_run.specs.declared.outcome.Action.TheVariants as actions
 use Rattle.just_run.specs.declared.fault.Fault.{Fault}
 use Rattle.just_run.specs.declared.fault.Fault.TheVariants.{OutOfMemory, NoRootForWord, Plain}
 use Rattle.just_run.specs.declared.outcome.Outcome.{Outcome}
@@ -18,6 +23,12 @@ use Rattle.just_run.specs.declared.outcome.Outcome.TheVariants.{Ran}
 -- no root file that can be read says more than plain recipes
 abbrev pub IsPlain : Inputs → Type 0
 IsPlain i = (path : List ℕ) → Broken i (not_yet path) → ⊥
+
+-- plain recipes run where a run is asked for, and are planned where a plan is
+abbrev pub IsWay : Action → Option Ast → Way → Type 0
+IsWay action plain (ways.Run recipes) = (action ≡ actions.Run) × (plain ≡ Some recipes)
+IsWay action plain (ways.Plan recipes) = (action ≡ actions.Plan) × (plain ≡ Some recipes)
+IsWay action plain ways.Files = action ≡ actions.Run → plain ≡ None
 
 -- a fault of plain recipes as the call tells it
 abbrev pub fault_of : plain_fault.Fault → Fault

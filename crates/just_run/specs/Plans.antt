@@ -1,8 +1,9 @@
 -- What a plan of a run does.
-use Rattle.std.specs.Prelude.{◌≡◌, ◌≢◌, ◌++◌, ◌⊎◌, ℕ, List, Result, Ok, Err}
+use Rattle.std.specs.Prelude.{◌≡◌, ◌≢◌, ◌++◌, ◌⊎◌, ℕ, Bool, true, false, List, Result, Ok, Err}
 use Rattle.just_host.specs.Record.{Record}
 use Rattle.just_host.specs.Follows.{Follows, questions}
 use Rattle.just_host.specs.declared.entry.Entry.{Entry}
+use Rattle.just_plain_run.specs.Drives.{Verdict, breaks, verdict}
 use Rattle.just_plain_run.specs.Out.{IsPartOf}
 use Rattle.just_plan.specs.Plans.{plan_text}
 use Rattle.just_run.specs.Writes.{IsKept, GrewBy}
@@ -27,15 +28,25 @@ IsFor action (requests.Task task) = action ≢ actions.Plan
 IsFor action (requests.Plan calls) = action ≡ actions.Plan
 IsFor action (requests.Text text) = action ≡ actions.Plan → text ≡ texts.List
 
+-- a rule of plain recipes or of words for them is broken
+abbrev pub breaks_rule : Verdict → Bool
+breaks_rule (breaks rule) = true
+breaks_rule _ = false
+
 -- a fault that a run may end with, once no rule of files and words is broken
 abbrev pub IsOfRun : Fault → Type 0
 IsOfRun (faults.NoRootForWord word) = ⊥
-IsOfRun (faults.Plain fault) = ⊥
+IsOfRun (faults.Plain fault) = breaks_rule (verdict fault) ≡ false
 IsOfRun (faults.Justfile error) = ⊥
 IsOfRun (faults.Words fault) = ⊥
 IsOfRun (faults.NotPrintable path) = ⊥
 IsOfRun faults.Write = ⊥
 IsOfRun fault = Unit {0}
+
+-- how what was planned ended
+abbrev pub IsEnd : Result Outcome Fault → Type 0
+IsEnd (Ok outcome) = outcome ≡ outcomes.Planned
+IsEnd (Err fault) = IsOfRun fault
 
 -- The plan went out, and that is answered; or the output took no more behind a beginning of it; or memory ran out, and nothing
 -- went out; or the run failed, and the plan of what came before that went out.

@@ -1,10 +1,10 @@
 //! The whole: from texts and words to what is done.
-ghost use Rattle.std.specs.Prelude.{◌≡◌, IfErr, IfSome, option_map};
+ghost use Rattle.std.specs.Prelude.{◌≡◌, IfErr, option_map};
 ghost use Rattle.justfile_syntax.specs.PlainShapes.{shape_of};
 ghost use Rattle.just_plain_run.specs.Inputs.{Inputs, inputs_of, reader_of};
 ghost use Rattle.just_plain_run.specs.Setup.{setup_of};
 ghost use Rattle.just_plain_run.specs.Stages.{IsRead, IsRoot};
-ghost use Rattle.just_run.specs.Plain.{IsPlain, AnswersPlain};
+ghost use Rattle.just_run.specs.Plain.{IsPlain, AnswersPlain, IsWay};
 ghost use Rattle.just_run.specs.Plans.{IsKeptBy, Plans};
 ghost use Rattle.just_run.specs.Writes.{IsKept};
 ghost use Rattle.just_run.specs.declared.outcome.Action.TheVariants.{Plan, Run};
@@ -12,7 +12,7 @@ ghost use Rattle.just_builtins.specs.Asking.{Asks, IsAsked};
 
 use crate::fault::Fault;
 use crate::outcome::{Action, Outcome, Trees};
-use crate::plan::drive_plan;
+use crate::plan::{drive_plan, plan_file};
 use crate::prepared::perform_task;
 use crate::request::{Request, request_of};
 use crate::texts::{tell, write_performed};
@@ -205,14 +205,30 @@ fn run_plain<'src, H: RunHost + Drop>(
     }
 }
 
-/// The plain recipes, where a run is asked for.
-fn to_run<'src>(action: Action, plain: Option<PlainAst<'src>>) -> Option<PlainAst<'src>>
-    ensures kept { action ≡ Run → result ≡ plain.entry }
-    ensures run { IfSome result (λ recipes. action ≡ Run) }
+/// How a call goes.
+#[derive(Drop)]
+enum Way<'src> {
+    /// The plain recipes run.
+    Run(PlainAst<'src>),
+    /// What a run of the plain recipes would hand over is written.
+    Plan(PlainAst<'src>),
+    /// All that the root file names is read.
+    Files,
+}
+
+/// How a call with this action goes, of a root file that has plain recipes alone or has more.
+fn way_of<'src>(action: Action, plain: Option<PlainAst<'src>>) -> Way<'src>
+    ensures { IsWay action plain.entry result }
 {
+    let Some(recipes) = plain else {
+        return Way::Files;
+    };
     match action {
-        Action::Run => plain,
-        _ => None,
+        Action::Run => Way::Run(recipes),
+        Action::Plan => Way::Plan(recipes),
+        Action::Evaluate | Action::Command | Action::Dump | Action::Format | Action::List => {
+            Way::Files
+        }
     }
 }
 
@@ -230,7 +246,7 @@ fn drive_root<'src, E: Expander, H: RunHost + Drop, O: Out>(
     out: &mut O,
 ) -> Result<Outcome, Fault<'src>>
     ensures kept { IfErr result (λ fault. IsKeptBy action (O.written out.old) fault (O.written out.new)) }
-    ensures planned { action ≡ Plan → Plans H.goes host.old (O.written out.old) result host.new (O.written out.new) }
+    ensures planned { action ≡ Plan → (i : Inputs) → i.words ≡ words.now → IsRoot i root.entry.path.now (option_map shape_of root.entry.plain) → Plans H.goes host.old (O.written out.old) result host.new (O.written out.new) }
     ensures plain { action ≡ Run → (i : Inputs) → IsPlain i → i.words ≡ words.now → IsRoot i root.entry.path.now (option_map shape_of root.entry.plain) → AnswersPlain H.goes i (setup_of config.now) result host.old host.new }
     ensures unwritten { action ≡ Run → (i : Inputs) → IsPlain i → IsRoot i root.entry.path.now (option_map shape_of root.entry.plain) → O.written out.new ≡ O.written out.old }
     ensures asks { Asks H.goes host.old host.new }
@@ -241,12 +257,16 @@ fn drive_root<'src, E: Expander, H: RunHost + Drop, O: Out>(
         plain,
         numerator,
     } = root;
-    match to_run(action, plain) {
-        Some(recipes) => {
+    match way_of(action, plain) {
+        Way::Run(recipes) => {
             drop(file);
             run_plain(alloc, config, &recipes, words, host)
         }
-        None => {
+        Way::Plan(recipes) => {
+            drop(file);
+            plan_file(alloc, config, &recipes, words, host, out)
+        }
+        Way::Files => {
             let parsed = Parsed {
                 ast: file,
                 numerator,
@@ -266,9 +286,10 @@ fn drive_root<'src, E: Expander, H: RunHost + Drop, O: Out>(
 /// first, and the recipes that the words name run, each behind all that it depends on, none twice
 /// with the same values, up to the first command that fails; or what they would hand over up to there
 /// is written, and nothing is handed over; or the variables are written, or the one command runs. A
-/// file of plain recipes that names no other runs by a shorter way, to the same end. Want of memory,
-/// or of numbers for recipes and bindings, may come in the place of any answer. The trees of the files
-/// are dropped at the end or left, as `trees` says; those of plain recipes are dropped.
+/// file of plain recipes that names no other runs, or is planned, by a shorter way, to the same end.
+/// Want of memory, or of numbers for recipes and bindings, may come in the place of any answer. The
+/// trees of the files are dropped at the end or left, as `trees` says; those of plain recipes are
+/// dropped.
 ///
 /// # Errors
 ///

@@ -1,10 +1,17 @@
 //! What a run would hand over, as it is written.
-ghost use Rattle.std.specs.Prelude.{◌≡◌, IfErr, IfOk, IfSome, List};
+ghost use Rattle.std.specs.Prelude.{◌≡◌, ℕ, Err, false, IfErr, IfSome, List, true};
 ghost use Rattle.std.specs.String.{string_bytes};
+ghost use Rattle.justfile_syntax.specs.PlainShapes.{shape_of};
+ghost use Rattle.just_host.specs.Follows.{Follows, questions};
 ghost use Rattle.just_host.specs.declared.entry.Entry.{Entry};
+ghost use Rattle.just_plain_run.specs.Drives.{verdict};
+ghost use Rattle.just_plain_run.specs.Inputs.{Inputs};
+ghost use Rattle.just_plain_run.specs.Stages.{IsRead};
 ghost use Rattle.just_plan.specs.Plans.{plan_text};
-ghost use Rattle.just_run.specs.Plans.{IsOfRun, IsPlanned, IsWrittenPlan};
-ghost use Rattle.just_run.specs.declared.outcome.Outcome.TheVariants.{Planned};
+ghost use Rattle.just_run.specs.Plain.{fault_of};
+ghost use Rattle.just_run.specs.Plans as spec;
+ghost use Rattle.just_run.specs.Plans.{IsEnd, IsKeptBy, IsPlanned, IsWrittenPlan, Plans};
+ghost use Rattle.just_run.specs.declared.outcome.Action.TheVariants.{Plan};
 
 use crate::fault::Fault;
 use crate::outcome::Outcome;
@@ -12,11 +19,14 @@ use crate::prepared::perform_task;
 use crate::texts::write_text;
 use just_host::{Config, Recorded, RunHost};
 use just_modules::Compilation;
-use just_plain_run::Out;
+use just_plain_run::{Fault as PlainFault, Out, run_file};
 use just_plan::{Planning, plan_text};
 use just_resolve::Analysis;
 use just_runner::Call;
 use just_tasks::{Performed, Task, TaskFault};
+use just_text::CompileErrorKind;
+use just_value::Positional;
+use justfile_syntax::plain_files::Ast as PlainAst;
 use std::alloc::Global;
 
 /// The text of what was planned; none where memory is or was wanting.
@@ -34,8 +44,7 @@ fn text_of<H>(alloc: Global, planned: &Recorded<H>) -> Option<String>
 
 /// What is answered where what was planned ended so.
 fn ended<'src>(performed: Result<Performed, TaskFault<'src>>) -> Result<Outcome, Fault<'src>>
-    ensures planned { IfOk result (λ outcome. outcome ≡ Planned) }
-    ensures failed { IfErr result IsOfRun }
+    ensures { IsEnd result }
 {
     match performed {
         Ok(_) => Ok(Outcome::Planned),
@@ -46,16 +55,16 @@ fn ended<'src>(performed: Result<Performed, TaskFault<'src>>) -> Result<Outcome,
 /// Writes the text, and answers how what was planned ended.
 fn write_plan<'src, O: Out>(
     text: Option<String>,
-    performed: Result<Performed, TaskFault<'src>>,
+    ended: Result<Outcome, Fault<'src>>,
     out: &mut O,
 ) -> Result<Outcome, Fault<'src>>
-    ensures { (plan : List ℕ) → IfSome text (λ written. string_bytes written ≡ plan) → IsWrittenPlan (O.written out.old) plan result (O.written out.new) }
+    ensures { (plan : List ℕ) → IsEnd ended.entry → IfSome text (λ written. string_bytes written ≡ plan) → IsWrittenPlan (O.written out.old) plan result (O.written out.new) }
 {
     let Some(text) = text else {
         return Err(Fault::OutOfMemory);
     };
     write_text(out, text.as_str())?;
-    ended(performed)
+    ended
 }
 
 /// Opens all modules and runs the calls under a host that passes on questions alone, and writes what
@@ -86,5 +95,70 @@ pub(crate) fn drive_plan<'src, H: RunHost + Drop, O: Out>(
     );
     let text = text_of(alloc, &planned);
     let Planning { caller: _caller } = planned.into_host();
-    write_plan(text, performed, out)
+    write_plan(text, ended(performed), out)
+}
+
+/// Whether a rule is broken, so that no run began.
+fn breaks_rule(fault: &PlainFault) -> bool
+    ensures { result ≡ spec.breaks_rule (verdict fault.now) }
+{
+    match fault {
+        PlainFault::NoRootForWord(_)
+        | PlainFault::MissingRoot(_)
+        | PlainFault::NotYet(_)
+        | PlainFault::Redefinition(_)
+        | PlainFault::UnknownDependency { .. }
+        | PlainFault::CircularRecipe(_)
+        | PlainFault::UnknownOverride(_)
+        | PlainFault::UnknownRecipe(_)
+        | PlainFault::UnknownModule(_)
+        | PlainFault::NoRecipes => true,
+        PlainFault::Syntax(error) => !matches!(error.kind, CompileErrorKind::NumbersUsed),
+        PlainFault::OutOfMemory
+        | PlainFault::Code(_, _)
+        | PlainFault::Signal(_, _)
+        | PlainFault::CouldNotStart(_) => false,
+    }
+}
+
+/// Answers the rule that is broken; or writes the text, and answers how the run failed.
+fn write_failed<'src, O: Out>(
+    text: Option<String>,
+    fault: PlainFault<'src>,
+    out: &mut O,
+) -> Result<Outcome, Fault<'src>>
+    ensures refused { spec.breaks_rule (verdict fault.entry) ≡ true → (result ≡ Err (fault_of fault.entry)) × (O.written out.new ≡ O.written out.old) }
+    ensures failed { spec.breaks_rule (verdict fault.entry) ≡ false → (plan : List ℕ) → IfSome text (λ written. string_bytes written ≡ plan) → IsWrittenPlan (O.written out.old) plan result (O.written out.new) }
+{
+    let is_refused = breaks_rule(&fault);
+    let fault = Fault::from(fault);
+    if is_refused {
+        return Err(fault);
+    }
+    write_plan(text, Err(fault), out)
+}
+
+/// Runs what the words name of a root file of plain recipes under a host that hands nothing over, and
+/// writes what the run hands over to that host, up to its first failure. Nothing is written where a
+/// rule of the recipes or of the words is broken.
+pub(crate) fn plan_file<'src, H: RunHost + Drop, O: Out>(
+    alloc: Global,
+    config: &Config,
+    recipes: &PlainAst<'src>,
+    words: &Positional,
+    host: &mut Recorded<H>,
+    out: &mut O,
+) -> Result<Outcome, Fault<'src>>
+    ensures planned { (i : Inputs) → i.words ≡ words.now → IsRead i (shape_of recipes.now) → Plans H.goes host.old (O.written out.old) result host.new (O.written out.new) }
+    ensures kept { IfErr result (λ fault. IsKeptBy Plan (O.written out.old) fault (O.written out.new)) }
+    ensures followed { (entries : List Entry) × Follows H.goes host.old (questions entries) host.new }
+{
+    let mut planned = Recorded::new(alloc, Planning { caller: host });
+    let ran = run_file(alloc, config, recipes, words, &mut planned);
+    let text = text_of(alloc, &planned);
+    let Planning { caller: _caller } = planned.into_host();
+    match ran {
+        Ok(_) => write_plan(text, Ok(Outcome::Planned), out),
+        Err(fault) => write_failed(text, fault, out),
+    }
 }

@@ -1,16 +1,25 @@
-use Rattle.std.proofs.Common.{◌≡◌, Some, None, option_map, ap, sym, subst}
+use Rattle.std.proofs.Common.{option_map, ap, subst}
+use Rattle.just_host.specs.Follows.{questions}
+use Rattle.just_builtins.specs.Laws.{asked_then}
 use Rattle.justfile_syntax.specs.PlainShapes.{shape_of}
 use Rattle.just_plain_run.specs.Stages.{IsRoot}
 use Rattle.just_run.proofs.driver.drive_root.Goals as goal
 
-pub returns-in-Some-clause-plain : goal.returns-in-Some-clause-plain
-returns-in-Some-clause-plain g c = λ run i plain words rooted.
-    c.run_plain.ensures.plain i words (subst (IsRoot i c.args.root.path.now) (ap (option_map shape_of) (sym (c.in-Some.ensures.kept run))) rooted)
+pub returns-in-Run-clause-plain : goal.returns-in-Run-clause-plain
+returns-in-Run-clause-plain g c = λ run i plain words rooted.
+    c.run_plain.ensures.plain i words (subst (IsRoot i c.args.root.path.now) (ap (option_map shape_of) c.in-Run.ensures.1) rooted)
 
-pub returns-in-None-clause-plain : goal.returns-in-None-clause-plain
-returns-in-None-clause-plain g c = λ run i plain words rooted.
-    absurd (plain c.args.root.path.now (subst (IsRoot i c.args.root.path.now) (ap (option_map shape_of) (sym (c.in-None.ensures.kept run))) rooted))
+pub returns-in-Plan-clause-planned : goal.returns-in-Plan-clause-planned
+returns-in-Plan-clause-planned g c = λ asked i words rooted.
+    c.plan_file.ensures.planned i words (subst (IsRoot i c.args.root.path.now) (ap (option_map shape_of) c.in-Plan.ensures.1) rooted)
 
-pub returns-in-None-clause-unwritten : goal.returns-in-None-clause-unwritten
-returns-in-None-clause-unwritten g c = λ run i plain rooted.
-    absurd (plain c.args.root.path.now (subst (IsRoot i c.args.root.path.now) (ap (option_map shape_of) (sym (c.in-None.ensures.kept run))) rooted))
+pub returns-in-Files-clause-plain : goal.returns-in-Files-clause-plain
+returns-in-Files-clause-plain g c = λ run i plain words rooted.
+    absurd (plain c.args.root.path.now (subst (IsRoot i c.args.root.path.now) (ap (option_map shape_of) (c.in-Files.ensures run)) rooted))
+
+pub returns-in-Files-clause-unwritten : goal.returns-in-Files-clause-unwritten
+returns-in-Files-clause-unwritten g c = λ run i plain rooted.
+    absurd (plain c.args.root.path.now (subst (IsRoot i c.args.root.path.now) (ap (option_map shape_of) (c.in-Files.ensures run)) rooted))
+
+pub returns-in-Plan-clause-asks : goal.returns-in-Plan-clause-asks
+returns-in-Plan-clause-asks g c = asked_then g.H.Host.goes g.met.H.Host.joins c.args.host.now c.plan_file.new.host (questions c.plan_file.ensures.followed.0) c.plan_file.ensures.followed.1

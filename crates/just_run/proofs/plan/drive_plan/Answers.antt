@@ -17,5 +17,5 @@ returns g c =
     record {
       entries = step.part;
       asked = search (rules, followed, named);
-      written = c.write_plan.ensures (plan_text step.part) (subst (λ l. IfSome c.text_of-text.result (λ text. string_bytes text ≡ plan_text l)) grown c.text_of-text.ensures);
+      written = c.write_plan.ensures (plan_text step.part) c.ended.ensures (subst (λ l. IfSome c.text_of-text.result (λ text. string_bytes text ≡ plan_text l)) grown c.text_of-text.ensures);
     }
