@@ -1,3 +1,4 @@
 mod Driven
+mod Early
 mod Planned
 mod Roots

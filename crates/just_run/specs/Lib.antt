@@ -1,5 +1,7 @@
+pub mod Early
 pub mod Plain
 pub mod Plans
+pub mod Requests
 pub mod Statuses
 pub mod Texts
 pub mod Writes

@@ -1,5 +1,5 @@
 -- What a plan of a run does.
-use Rattle.std.specs.Prelude.{◌≡◌, ◌≢◌, ◌++◌, ◌⊎◌, ℕ, Bool, true, false, List, Result, Ok, Err}
+use Rattle.std.specs.Prelude.{◌≡◌, ◌++◌, ◌⊎◌, ℕ, Bool, true, false, List, Result, Ok, Err}
 use Rattle.just_host.specs.Record.{Record}
 use Rattle.just_host.specs.Follows.{Follows, questions}
 use Rattle.just_host.specs.declared.entry.Entry.{Entry}
@@ -13,20 +13,6 @@ use Rattle.just_run.specs.declared.outcome.Action.{Action}
 use Rattle.just_run.specs.declared.outcome.Action.TheVariants as actions
 use Rattle.just_run.specs.declared.outcome.Outcome.{Outcome}
 use Rattle.just_run.specs.declared.outcome.Outcome.TheVariants as outcomes
-use Rattle.just_run.specs.declared.request.Request.{Request}
-use Rattle.just_run.specs.declared.request.Request.TheVariants as requests
-use Rattle.just_run.specs.declared.request.RootText.TheVariants as texts
-
--- something else is asked for than a plan
-abbrev pub IsNoPlan : Request → Type 0
-IsNoPlan (requests.Plan calls) = ⊥
-IsNoPlan request = Unit {0}
-
--- a plan is asked for by its action, which asks for nothing else but the list of recipes
-abbrev pub IsFor : Action → Request → Type 0
-IsFor action (requests.Task task) = action ≢ actions.Plan
-IsFor action (requests.Plan calls) = action ≡ actions.Plan
-IsFor action (requests.Text text) = action ≡ actions.Plan → text ≡ texts.List
 
 -- a rule of plain recipes or of words for them is broken
 abbrev pub breaks_rule : Verdict → Bool

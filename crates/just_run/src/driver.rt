@@ -4,8 +4,10 @@ ghost use Rattle.justfile_syntax.specs.PlainShapes.{shape_of};
 ghost use Rattle.just_plain_run.specs.Inputs.{Inputs, inputs_of, reader_of};
 ghost use Rattle.just_plain_run.specs.Setup.{setup_of};
 ghost use Rattle.just_plain_run.specs.Stages.{IsRead, IsRoot};
+ghost use Rattle.just_run.specs.Early.{IsEarly, IsLate};
 ghost use Rattle.just_run.specs.Plain.{IsPlain, AnswersPlain, IsWay};
 ghost use Rattle.just_run.specs.Plans.{IsKeptBy, Plans};
+ghost use Rattle.just_run.specs.Requests.{IsText};
 ghost use Rattle.just_run.specs.Writes.{IsKept};
 ghost use Rattle.just_run.specs.declared.outcome.Action.TheVariants.{Plan, Run};
 ghost use Rattle.just_builtins.specs.Asking.{Asks, IsAsked};
@@ -40,6 +42,7 @@ fn drive_task<'src, H: RunHost + Drop, O: Out>(
     out: &mut O,
 ) -> Result<Outcome, Fault<'src>>
     ensures kept { IfErr result (λ fault. IsKept (O.written out.old) fault (O.written out.new)) }
+    ensures late { IfErr result IsLate }
     ensures asks { Asks H.goes host.old host.new }
 {
     let performed = perform_task(alloc, compilation, analysis, config, root, host, task)?;
@@ -60,6 +63,8 @@ fn drive_analysis<'src, H: RunHost + Drop, O: Out>(
 ) -> Result<Outcome, Fault<'src>>
     ensures kept { IfErr result (λ fault. IsKeptBy action (O.written out.old) fault (O.written out.new)) }
     ensures planned { action ≡ Plan → Plans H.goes host.old (O.written out.old) result host.new (O.written out.new) }
+    ensures early { IfErr result (λ fault. IsEarly fault host.old (O.written out.old) host.new (O.written out.new)) }
+    ensures silent { IsText action → host.new ≡ host.old }
     ensures asks { Asks H.goes host.old host.new }
 {
     let words = words.arguments.as_slice();
@@ -101,6 +106,8 @@ fn drive_modules<'src, H: RunHost + Drop, O: Out>(
 ) -> Result<Outcome, Fault<'src>>
     ensures kept { IfErr result (λ fault. IsKeptBy action (O.written out.old) fault (O.written out.new)) }
     ensures planned { action ≡ Plan → Plans H.goes host.old (O.written out.old) result host.new (O.written out.new) }
+    ensures early { IfErr result (λ fault. IsEarly fault host.old (O.written out.old) host.new (O.written out.new)) }
+    ensures silent { IsText action → host.new ≡ host.old }
     ensures asks { Asks H.goes host.old host.new }
 {
     let overrides = words.overrides.as_slice();
@@ -142,6 +149,8 @@ fn drive_compilation<'src, H: RunHost + Drop, O: Out>(
 ) -> Result<Outcome, Fault<'src>>
     ensures kept { IfErr result (λ fault. IsKeptBy action (O.written out.old) fault (O.written out.new)) }
     ensures planned { action ≡ Plan → Plans H.goes host.old (O.written out.old) result host.new (O.written out.new) }
+    ensures early { IfErr result (λ fault. IsEarly fault host.old (O.written out.old) host.new (O.written out.new)) }
+    ensures silent { IsText action → host.new ≡ host.old }
     ensures asks { Asks H.goes host.old host.new }
 {
     match number_variables(alloc, &mut compilation) {
@@ -170,6 +179,8 @@ fn drive_files<'src, E: Expander, H: RunHost + Drop, O: Out>(
 ) -> Result<Outcome, Fault<'src>>
     ensures kept { IfErr result (λ fault. IsKeptBy action (O.written out.old) fault (O.written out.new)) }
     ensures planned { action ≡ Plan → Plans H.goes host.old (O.written out.old) result host.new (O.written out.new) }
+    ensures early { IfErr result (λ fault. IsEarly fault host.old (O.written out.old) host.new (O.written out.new)) }
+    ensures silent { IsText action → host.new ≡ host.old }
     ensures asks { Asks H.goes host.old host.new }
 {
     match Compiler::compile_parsed(alloc, config, expander, sources, path, parsed) {
@@ -249,6 +260,8 @@ fn drive_root<'src, E: Expander, H: RunHost + Drop, O: Out>(
     ensures planned { action ≡ Plan → (i : Inputs) → i.words ≡ words.now → IsRoot i root.entry.path.now (option_map shape_of root.entry.plain) → Plans H.goes host.old (O.written out.old) result host.new (O.written out.new) }
     ensures plain { action ≡ Run → (i : Inputs) → IsPlain i → i.words ≡ words.now → IsRoot i root.entry.path.now (option_map shape_of root.entry.plain) → AnswersPlain H.goes i (setup_of config.now) result host.old host.new }
     ensures unwritten { action ≡ Run → (i : Inputs) → IsPlain i → IsRoot i root.entry.path.now (option_map shape_of root.entry.plain) → O.written out.new ≡ O.written out.old }
+    ensures early { (i : Inputs) → i.words ≡ words.now → IsRoot i root.entry.path.now (option_map shape_of root.entry.plain) → IfErr result (λ fault. IsEarly fault host.old (O.written out.old) host.new (O.written out.new)) }
+    ensures silent { IsText action → host.new ≡ host.old }
     ensures asks { Asks H.goes host.old host.new }
 {
     let Root {
@@ -310,6 +323,10 @@ pub fn drive<'src, E: Expander, H: RunHost + Drop, O: Out>(
 ) -> Result<Outcome, Fault<'src>>
     // Where no root file that can be read says more than plain recipes, a run is one of plain recipes.
     ensures plain { action ≡ Run → IsPlain (inputs_of (reader_of (E.expansion expander.now) config.now.version) sources.now roots.now words.now) → AnswersPlain H.goes (inputs_of (reader_of (E.expansion expander.now) config.now.version) sources.now roots.now words.now) (setup_of config.now) result host.old host.new }
+    // Whatever is asked for: a fault that is none of a run or of the output names a rule that is broken; then nothing was asked, handed over or written.
+    ensures early { IfErr result (λ fault. IsEarly fault host.old (O.written out.old) host.new (O.written out.new)) }
+    // Where the text of the root file or the list of recipes is asked for, nothing is asked and nothing handed over.
+    ensures silent { IsText action → host.new ≡ host.old }
     // Where the call is refused nothing is written, unless the output takes no more, or a run fails whose plan is written.
     ensures kept { IfErr result (λ fault. IsKeptBy action (O.written out.old) fault (O.written out.new)) }
     // A plan hands nothing over: what is asked are questions and requests for files of variables alone, and what is written tells what a run would hand over.

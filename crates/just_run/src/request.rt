@@ -1,7 +1,8 @@
 //! What the action and the words ask of a resolved justfile.
-ghost use Rattle.std.specs.Prelude.{IfOk};
-ghost use Rattle.just_run.specs.Plans.{IsFor, IsNoPlan};
+ghost use Rattle.std.specs.Prelude.{◌≡◌, IfOk};
+ghost use Rattle.just_run.specs.Requests.{IsFor, IsNoPlan};
 ghost use Rattle.just_run.specs.declared.outcome.Action.TheVariants.{Plan};
+ghost use Rattle.just_run.specs.declared.request.Request.TheVariants as requests;
 
 use crate::outcome::Action;
 use just_invocations::{Invocation, InvocationParser, WordFault};
@@ -155,7 +156,7 @@ fn text_request<'w>(
     text: RootText,
     words: &'w [Text],
 ) -> Result<Request<'w>, WordFault>
-    ensures { IfOk result IsNoPlan }
+    ensures { IfOk result (λ request. request ≡ requests.Text text) }
 {
     match words.first() {
         Some(word) => Err(WordFault::extra_word(alloc, word.as_str())),

@@ -4,6 +4,7 @@ ghost use Rattle.std.specs.String.{string_bytes};
 ghost use Rattle.just_plain_run.specs.Out.{IsPartOf};
 ghost use Rattle.justfile_analyzer.specs.Justfiles.{place_of};
 ghost use Rattle.justfile_analyzer.specs.Listings.{listing};
+ghost use Rattle.just_run.specs.Early.{IsLate};
 ghost use Rattle.just_run.specs.Texts.{IsFormatted, answered_text, dumped_text, file_place, formatted_text, performed_outcome, performed_text, printed_text, root_file};
 ghost use Rattle.just_run.specs.Writes.{IsKept, Writes};
 ghost use Rattle.just_run.specs.declared.outcome.Outcome.TheVariants as outcomes;
@@ -73,6 +74,7 @@ pub(crate) fn write_performed<'src, O: Out>(
     out: &mut O,
 ) -> Result<Outcome, Fault<'src>>
     ensures kept { IfErr result (λ fault. IsKept (O.written out.old) fault (O.written out.new)) }
+    ensures late { IfErr result IsLate }
     ensures wrote { Writes (record { written = O.written out.old; failed = O.failed out.old }) (performed_text performed) (performed_outcome performed) result (record { written = O.written out.new; failed = O.failed out.new }) }
 {
     match performed {

@@ -44,3 +44,7 @@ pub returns-clause-planned : goal.returns-clause-planned
 returns-clause-planned g c = λ asked.
     c.drive_root.ensures.planned asked (inputs_of (reader_of (g.E.Expander.expansion c.args.expander.now) c.args.config.now.version) c.args.sources.now c.args.roots.now c.args.words.now) (sym c.in_ok-words.ensures)
     (subst (λ w. IsRoot (given (reader_of (g.E.Expander.expansion c.args.expander.now) c.args.config.now.version) c.args.sources.now c.args.roots.now w) c.in_ok-root.root.path.now (option_map shape_of c.in_ok-root.root.plain)) c.in_ok-words.ensures c.in_ok-root.ensures.ok)
+
+pub returns-clause-early : goal.returns-clause-early
+returns-clause-early g c = c.drive_root.ensures.early (inputs_of (reader_of (g.E.Expander.expansion c.args.expander.now) c.args.config.now.version) c.args.sources.now c.args.roots.now c.args.words.now) (sym c.in_ok-words.ensures)
+    (subst (λ w. IsRoot (given (reader_of (g.E.Expander.expansion c.args.expander.now) c.args.config.now.version) c.args.sources.now c.args.roots.now w) c.in_ok-root.root.path.now (option_map shape_of c.in_ok-root.root.plain)) c.in_ok-words.ensures c.in_ok-root.ensures.ok)

@@ -3,6 +3,8 @@ use Rattle.just_host.specs.Follows.{questions}
 use Rattle.just_builtins.specs.Laws.{asked_then}
 use Rattle.justfile_syntax.specs.PlainShapes.{shape_of}
 use Rattle.just_plain_run.specs.Stages.{IsRoot}
+use Rattle.just_plain_run.specs.Setup.{setup_of}
+use Rattle.just_run.proofs.Early.{plain_is_early, plans_is_early}
 use Rattle.just_run.proofs.driver.drive_root.Goals as goal
 
 pub returns-in-Run-clause-plain : goal.returns-in-Run-clause-plain
@@ -23,3 +25,13 @@ returns-in-Files-clause-unwritten g c = λ run i plain rooted.
 
 pub returns-in-Plan-clause-asks : goal.returns-in-Plan-clause-asks
 returns-in-Plan-clause-asks g c = asked_then g.H.Host.goes g.met.H.Host.joins c.args.host.now c.plan_file.new.host (questions c.plan_file.ensures.followed.0) c.plan_file.ensures.followed.1
+
+pub returns-in-Run-clause-early : goal.returns-in-Run-clause-early
+returns-in-Run-clause-early g c = λ i words rooted.
+    plain_is_early g.H.Host.goes i (setup_of c.args.config.now) c.run_plain.result c.args.host.now (g.O.Out.written c.args.out.now) c.run_plain.new.host
+    (c.run_plain.ensures.plain i words (subst (IsRoot i c.args.root.path.now) (ap (option_map shape_of) c.in-Run.ensures.1) rooted))
+
+pub returns-in-Plan-clause-early : goal.returns-in-Plan-clause-early
+returns-in-Plan-clause-early g c = λ i words rooted.
+    plans_is_early g.H.Host.goes c.args.host.now (g.O.Out.written c.args.out.now) c.plan_file.result c.plan_file.new.host (g.O.Out.written c.plan_file.new.out)
+    (c.plan_file.ensures.planned i words (subst (IsRoot i c.args.root.path.now) (ap (option_map shape_of) c.in-Plan.ensures.1) rooted)) c.plan_file.ensures.kept
