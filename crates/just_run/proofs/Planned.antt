@@ -7,12 +7,19 @@ use Rattle.just_plain_run.specs.Inputs.{Inputs}
 use Rattle.just_plain_run.specs.Drives.{Verdict, ran_out, breaks, fails, verdict, NamesBroken}
 use Rattle.just_plain_run.specs.declared.fault.Fault as plain_fault
 use Rattle.just_plain_run.specs.declared.fault.Fault.TheVariants as plain_faults
+use Rattle.std.specs.Result.{result_and}
 use Rattle.just_plan.specs.Plans.{plan_text}
 use Rattle.just_run.specs.Plain.{fault_of}
-use Rattle.just_run.specs.Plans.{IsKeptBy, IsOfRun, IsOther, IsWrittenPlan, Plans, breaks_rule}
+use Rattle.just_run.specs.Plans.{IsEnd, IsKeptBy, IsOfRun, IsOther, IsSent, IsWrittenPlan, Plans, breaks_rule}
 use Rattle.just_run.specs.declared.fault.Fault.{Fault}
 use Rattle.just_run.specs.declared.outcome.Action.TheVariants.{Plan}
 use Rattle.just_run.specs.declared.outcome.Outcome.{Outcome}
+
+-- how what was planned ended, once its plan went out
+pub sent_is_written : {T : Type 0} (old plan : List ℕ) (sent : Result T Fault) (ended : Result Outcome Fault) (new : List ℕ) → IsEnd ended → IsSent old plan sent new → IsWrittenPlan old plan (result_and sent ended) new
+sent_is_written old plan (Ok x) (Ok outcome) new e h = (e, h)
+sent_is_written old plan (Ok x) (Err fault) new e h = inr (inr (e, h))
+sent_is_written old plan (Err fault) ended new e h = elim h [ inl part ↦ inl part | inr none ↦ inr (inl none) ]
 
 -- what went out of a plan
 pub written_is_kept : (old plan : List ℕ) (result : Result Outcome Fault) (new : List ℕ) → IsWrittenPlan old plan result new → IfErr result (λ fault. IsKeptBy Plan old fault new)

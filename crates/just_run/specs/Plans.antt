@@ -34,6 +34,11 @@ abbrev pub IsEnd : Result Outcome Fault → Type 0
 IsEnd (Ok outcome) = outcome ≡ outcomes.Planned
 IsEnd (Err fault) = IsOfRun fault
 
+-- the plan went out; or the output took no more behind a beginning of it; or memory ran out, and nothing went out
+abbrev pub IsSent : {T : Type 0} → List ℕ → List ℕ → Result T Fault → List ℕ → Type 0
+IsSent old plan (Ok sent) new = new ≡ old ++ plan
+IsSent old plan (Err fault) new = ((fault ≡ faults.Write) × IsPartOf old plan new) ⊎ ((fault ≡ faults.OutOfMemory) × (new ≡ old))
+
 -- The plan went out, and that is answered; or the output took no more behind a beginning of it; or memory ran out, and nothing
 -- went out; or the run failed, and the plan of what came before that went out.
 abbrev pub IsWrittenPlan : List ℕ → List ℕ → Result Outcome Fault → List ℕ → Type 0

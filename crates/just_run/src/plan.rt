@@ -10,7 +10,7 @@ ghost use Rattle.just_plain_run.specs.Stages.{IsRead};
 ghost use Rattle.just_plan.specs.Plans.{plan_text};
 ghost use Rattle.just_run.specs.Plain.{fault_of};
 ghost use Rattle.just_run.specs.Plans as spec;
-ghost use Rattle.just_run.specs.Plans.{IsEnd, IsKeptBy, IsPlanned, IsWrittenPlan, Plans};
+ghost use Rattle.just_run.specs.Plans.{IsEnd, IsKeptBy, IsPlanned, IsSent, IsWrittenPlan, Plans};
 ghost use Rattle.just_run.specs.declared.outcome.Action.TheVariants.{Plan};
 
 use crate::fault::Fault;
@@ -52,6 +52,17 @@ fn ended<'src>(performed: Result<Performed, TaskFault<'src>>) -> Result<Outcome,
     }
 }
 
+/// Writes the text.
+fn send<'src, O: Out>(text: Option<String>, out: &mut O) -> Result<(), Fault<'src>>
+    ensures { (plan : List ℕ) → IfSome text (λ written. string_bytes written ≡ plan) → IsSent (O.written out.old) plan result (O.written out.new) }
+{
+    let Some(text) = text else {
+        return Err(Fault::OutOfMemory);
+    };
+    write_text(out, text.as_str())?;
+    Ok(())
+}
+
 /// Writes the text, and answers how what was planned ended.
 fn write_plan<'src, O: Out>(
     text: Option<String>,
@@ -60,11 +71,8 @@ fn write_plan<'src, O: Out>(
 ) -> Result<Outcome, Fault<'src>>
     ensures { (plan : List ℕ) → IsEnd ended.entry → IfSome text (λ written. string_bytes written ≡ plan) → IsWrittenPlan (O.written out.old) plan result (O.written out.new) }
 {
-    let Some(text) = text else {
-        return Err(Fault::OutOfMemory);
-    };
-    write_text(out, text.as_str())?;
-    ended
+    let sent = send(text, out);
+    sent.and(ended)
 }
 
 /// Opens all modules and runs the calls under a host that passes on questions alone, and writes what
