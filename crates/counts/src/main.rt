@@ -1,13 +1,14 @@
 //! Counts what the first word says: the tokens or the items of the text on standard input, or what
-//! comes of lists of texts. benches/lex, benches/parse and benches/values measure it. Behind `told` it
+//! comes of lists of texts. benches/lex, benches/parse and benches/values measure it. After `told` it
 //! writes what comes of files that are driven under a host which answers by a script:
 //! tests/scripted compares it.
 //!
-//! A second word behind `tokens` or `items` is how often it is done (default: once).
+//! A second word after `tokens` or `items` is how often it is done (default: once).
 #![tactic(auto)]
 
 mod input;
 mod items;
+mod keyed;
 mod tokens;
 mod told;
 mod values;

@@ -1,4 +1,4 @@
-//! Drives the files on standard input as the words behind the first say, under a host that answers by
+//! Drives the files on standard input as the words after the first say, under a host that answers by
 //! a script, and writes what is told of them: what tests/scripted compares.
 
 use crate::input::read_text;
@@ -6,7 +6,7 @@ use anyhow::{Context, Result, bail};
 use scripted_runs::{first_unknown, tell};
 use std::env;
 
-/// The words behind the first.
+/// The words after the first.
 fn read_words(rt: &HostRuntime) -> Result<Vec<String>> {
     let mut words = Vec::new(rt.alloc());
     let mut given = env::args(rt).context("could not read the words")?;

@@ -6,19 +6,30 @@
 //! is kept to the end, so that many small lists take as much memory as a few large ones.
 
 use crate::input::read_text;
+use crate::keyed::{bind_all, insert_all};
 use anyhow::{Context, Result, anyhow};
 use just_value::Value;
 use std::alloc::{AllocError, Global};
 
-/// What is done with the lists, which are grown first.
+/// What is done with lists, which are grown first.
 #[derive(Clone, Copy)]
-enum Operation {
+enum ListOperation {
     Push,
     Join,
     Print,
     Copy,
     /// Each with a copy.
     Compare,
+}
+
+/// What is grown.
+#[derive(Clone, Copy)]
+enum Operation {
+    Lists(ListOperation),
+    /// Frames, with a binding for each element.
+    Bind,
+    /// Tables, with an entry for each element.
+    Insert,
 }
 
 /// What is done, with how many elements in how many lists.
@@ -127,31 +138,46 @@ fn count_equal_in_rounds(values: &[Value], copies: &[Value], rounds: u32) -> u64
     sum
 }
 
-/// How many bytes or elements came out.
-fn carry_out(alloc: Global, task: Task) -> Result<u64, AllocError> {
+/// How many bytes or elements came out of the lists.
+fn carry_out_of_lists(
+    alloc: Global,
+    operation: ListOperation,
+    task: Task,
+) -> Result<u64, AllocError> {
     let values = grow_all(alloc, task)?;
-    match task.operation {
-        Operation::Push => Ok(count_elements(&values)),
-        Operation::Join => {
+    match operation {
+        ListOperation::Push => Ok(count_elements(&values)),
+        ListOperation::Join => {
             let texts = join_rounds(alloc, &values, task.rounds)?;
             Ok(count_bytes_of_rounds(&texts))
         }
-        Operation::Print => Ok(count_bytes(&print_all(alloc, &values)?)),
-        Operation::Copy => Ok(count_elements(&copy_all(alloc, &values)?)),
-        Operation::Compare => {
+        ListOperation::Print => Ok(count_bytes(&print_all(alloc, &values)?)),
+        ListOperation::Copy => Ok(count_elements(&copy_all(alloc, &values)?)),
+        ListOperation::Compare => {
             let copies = copy_all(alloc, &values)?;
             Ok(count_equal_in_rounds(&values, &copies, task.rounds))
         }
     }
 }
 
+/// How many bytes, elements, bindings or entries came out.
+fn carry_out(alloc: Global, task: Task) -> Result<u64> {
+    match task.operation {
+        Operation::Lists(operation) => Ok(carry_out_of_lists(alloc, operation, task)?),
+        Operation::Bind => bind_all(alloc, task.elements, task.lists),
+        Operation::Insert => insert_all(alloc, task.elements, task.lists),
+    }
+}
+
 fn read_operation(word: &str) -> Result<Operation> {
     match word {
-        "push" => Ok(Operation::Push),
-        "join" => Ok(Operation::Join),
-        "print" => Ok(Operation::Print),
-        "copy" => Ok(Operation::Copy),
-        "compare" => Ok(Operation::Compare),
+        "push" => Ok(Operation::Lists(ListOperation::Push)),
+        "join" => Ok(Operation::Lists(ListOperation::Join)),
+        "print" => Ok(Operation::Lists(ListOperation::Print)),
+        "copy" => Ok(Operation::Lists(ListOperation::Copy)),
+        "compare" => Ok(Operation::Lists(ListOperation::Compare)),
+        "bind" => Ok(Operation::Bind),
+        "insert" => Ok(Operation::Insert),
         _ => Err(anyhow!("no such operation: {word}")),
     }
 }

@@ -31,7 +31,7 @@ begins_longer [] q r h = tt
 begins_longer (e ∷ p) [] r h = absurd h
 begins_longer (e ∷ p) (f ∷ q) r h = elim h [ inl k ↦ inl (k.0, begins_longer p q r k.1) | inr k ↦ inr k ]
 
--- a beginning of what follows, behind a whole piece
+-- a beginning of what follows, after a whole piece
 pub begins_behind : (p q r : List Entry) → Begins q r → Begins (p ++ q) (p ++ r)
 begins_behind [] q r h = h
 begins_behind (e ∷ p) q r h = inl (refl, begins_behind p q r h)

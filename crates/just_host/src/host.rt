@@ -55,7 +55,7 @@ pub enum Question {
     Fact(MachineFact),
 }
 
-/// Why a question has no answer. It prints as the words behind each.
+/// Why a question has no answer. It prints as the words after each.
 #[derive(Debug, Drop)]
 pub enum HostFault {
     /// A command ended with this code: `exit code N`.

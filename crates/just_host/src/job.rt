@@ -15,9 +15,9 @@ pub struct Pair {
 /// What the commands of a body have in common: a job but for its command.
 #[derive(Drop)]
 pub struct JobTemplate {
-    /// The shell and its words, which a command stands behind.
+    /// The shell and its words, which a command stands after.
     pub shell: Shared<Sequence<Text>>,
-    /// The words behind a command.
+    /// The words after a command.
     pub positional: Shared<Sequence<Text>>,
     /// The variables of the environment, of which a later one of a name counts.
     pub pairs: Shared<Sequence<Pair>>,
@@ -32,10 +32,10 @@ pub struct JobTemplate {
 /// A command, with what it runs under.
 #[derive(Drop)]
 pub struct CommandJob {
-    /// The shell and its words, which the command stands behind.
+    /// The shell and its words, which the command stands after.
     pub shell: Shared<Sequence<Text>>,
     pub command: Text,
-    /// The words behind the command.
+    /// The words after the command.
     pub positional: Shared<Sequence<Text>>,
     /// The variables of the environment, of which a later one of a name counts.
     pub pairs: Shared<Sequence<Pair>>,
@@ -50,11 +50,11 @@ pub struct CommandJob {
 /// A script, with what it runs under.
 #[derive(Drop)]
 pub struct ScriptJob {
-    /// The interpreter's command and its words, which the script's path stands behind.
+    /// The interpreter's command and its words, which the script's path stands after.
     pub interpreter: Sequence<Text>,
     /// The script's lines, without what ends them.
     pub lines: Sequence<Text>,
-    /// The words behind the script's path.
+    /// The words after the script's path.
     pub positional: Sequence<Text>,
     /// The end of the script's name, where one is given.
     pub extension: Option<Text>,

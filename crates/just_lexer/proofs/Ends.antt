@@ -11,7 +11,7 @@ use Rattle.just_lexer.specs.Classes.{first, is_blank, at_line_end, at_byte_order
 use Rattle.just_lexer.specs.Modes.{indentation_of, has_indentation, start_after, line_after, is_over, is_byte_order_mark}
 use Rattle.just_lexer.specs.Longest.{in_line, at_start, is_indent, is_white, is_eol, is_dedent, is_body_kind, is_line_kind, allows, IsLongestIn}
 
--- where a token stands, the end isn't behind
+-- where a token stands, the end isn't after
 pub going_on : (line : Line) (inner : Option Open) (text : List ℕ) (k : TokenKind) (n : ℕ) → IsLongestIn line inner text k n → is_over line ≡ false
 going_on Over inner text k n l = cc (l.allowed)
 going_on Begin inner text k n l = refl

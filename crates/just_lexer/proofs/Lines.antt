@@ -1,4 +1,4 @@
--- What `lines().next()` gives, and what stands behind the last newline of a text.
+-- What `lines().next()` gives, and what stands after the last newline of a text.
 use Rattle.std.proofs.Common.{◌≡◌, ◌≢◌, MatchOption, ℕ, ◌+◌, ◌-◌, ◌<◌, ◌≤◌, List, [], ◌∷◌, Option, Some, None, not, true, false, length, drop, get_or, ap, arith, Bor, cond, subst, sym, ◌∙◌}
 use Rattle.std.specs.declared.str.Lines.{Lines}
 use Rattle.std.specs.Char.{is_newline}

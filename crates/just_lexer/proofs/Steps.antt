@@ -99,7 +99,7 @@ nonempty_from_first (b ∷ bs) h = omega arith
 there : (text : List ℕ) (i : ℕ) → 0 < get_or text i 0 → i < length text
 there text i h = elim (cases_lt i (length text)) [ inl l ↦ l | inr past ↦ absurd (omega (arith, get_or_past text i 0 past)) ]
 
--- behind an ASCII byte that isn't 0 a text may be cut
+-- after an ASCII byte that isn't 0 a text may be cut
 behind_byte : (text : List ℕ) (i b : ℕ) → IsUtf8 text → get_or text i 0 ≡ b → 0 < b → b < 128 → IsCharBoundary text (i + 1)
 behind_byte text i b utf8 e positive ascii = IsCharBoundary-after_ascii text i utf8 (there text i (omega arith)) (omega arith)
 

@@ -1,4 +1,4 @@
--- A tab adds four columns to those of what stands before and behind it.
+-- A tab adds four columns to those of what stands before and after it.
 use Rattle.std.proofs.Common.{◌≡◌, ℕ, ◌+◌, Bool, true, false, not, List, [], ◌∷◌, ◌++◌, length, refl, sym, ap, ◌∙◌, arith, nat_eq, cond, replicate, zero, suc, add-one, ◌<◌, Bor, Option, Some, None, get_or, subst, length-append}
 use Rattle.std.specs.Int.{is_in_range}
 use Rattle.std.specs.List.{list_all}
@@ -51,7 +51,7 @@ printable_spaces : (n : ℕ) → list_all (is_in_range 0x20 0x7E) (replicate n 3
 printable_spaces zero = refl
 printable_spaces (suc n) = printable_spaces n
 
--- as many columns behind a text are added to its own
+-- as many columns after a text are added to its own
 read_before-behind : (xs : List ℕ) (n : ℕ) → (read_before false xs (n, plain)).0 ≡ str_width false xs + n
 unfolding str_width
 read_before-behind xs n =

@@ -7,7 +7,7 @@ use Rattle.std.specs.Char.{is_ascii_alphabetic, is_ascii_alphanumeric}
 abbrev pub first : List ℕ → ℕ
 first text = slice_index text 0
 
--- the byte behind it, or 0
+-- the byte after it, or 0
 abbrev pub second : List ℕ → ℕ
 second text = slice_index text 1
 
@@ -39,7 +39,7 @@ line_end_len text = if first text == 10 then 1 else if at_two 13 10 text then 2 
 abbrev pub at_line_end : List ℕ → Bool
 at_line_end text = nat_lt 0 (line_end_len text)
 
--- the length of the line end behind a backslash at the front, or 0
+-- the length of the line end after a backslash at the front, or 0
 abbrev pub continued_len : List ℕ → ℕ
 continued_len text = if first text == 92 then line_end_len (drop 1 text) else 0
 
@@ -55,7 +55,7 @@ at_braces text = at_two 123 123 text
 abbrev pub at_closing_braces : List ℕ → Bool
 at_closing_braces text = at_two 125 125 text
 
--- two opening braces stand at the front, and not four: an expression begins behind them
+-- two opening braces stand at the front, and not four: an expression begins after them
 abbrev pub opens_format_interpolation : List ℕ → Bool
 opens_format_interpolation text = at_braces text && not (slice_index text 2 == 123 && slice_index text 3 == 123)
 
@@ -68,7 +68,7 @@ unfoldable pub until : (List ℕ → Bool) → List ℕ → ℕ
 until stops [] = 0
 until stops (b ∷ bs) = if stops (b ∷ bs) then 0 else until stops bs + 1
 
--- The same, but a place may take the bytes behind it along, in which none is looked for: `takes` says how many. The first `skip` bytes are taken along.
+-- The same, but a place may take the bytes after it along, in which none is looked for: `takes` says how many. The first `skip` bytes are taken along.
 unfoldable pub until_over : (List ℕ → Bool) → (List ℕ → ℕ) → ℕ → List ℕ → ℕ
 until_over stops takes skip [] = 0
 until_over stops takes (suc skip) (b ∷ bs) = until_over stops takes skip bs + 1

@@ -17,7 +17,7 @@ first_or_empty (line ∷ more) = line
 abbrev pub first_line : List ℕ → List ℕ
 first_line text = first_or_empty (lines text)
 
--- the text behind its last newline
+-- the text after its last newline
 abbrev pub last_line : List ℕ → List ℕ
 last_line text = after_last is_newline text
 
@@ -25,7 +25,7 @@ last_line text = after_last is_newline text
 abbrev pub byte_order_mark : List ℕ
 byte_order_mark = 0xEF ∷ 0xBB ∷ 0xBF ∷ []
 
--- the text behind the byte order mark, if it begins with one
+-- the text after the byte order mark, if it begins with one
 abbrev pub behind_mark : List ℕ → List ℕ
 behind_mark text = if starts_with nat_eq text byte_order_mark then drop (length byte_order_mark) text else text
 

@@ -45,41 +45,41 @@ pub record IsUnknownStart (c : ℕ) (mode : Mode) (rest : List ℕ) : Type 0 whe
   pub begins : rest ≡ encode_utf8 c ++ more
   pub unknown : begins_token c ≡ false
 
--- There the rest begins with an ampersand or a bar, and the same doesn't stand behind it.
+-- There the rest begins with an ampersand or a bar, and the same doesn't stand after it.
 pub record IsAlone (c : ℕ) (mode : Mode) (rest : List ℕ) : Type 0 where
   pub in_code : InCode mode rest
   pub mark : (c ≡ 38) ⊎ (c ≡ 124)
   pub begins : first rest ≡ c
   pub alone : second rest ≢ c
 
--- There the rest begins with a carriage return, and no newline stands behind it.
+-- There the rest begins with a carriage return, and no newline stands after it.
 pub record IsUnpairedReturn (mode : Mode) (rest : List ℕ) : Type 0 where
   pub in_code : InCode mode rest
   pub carriage_return : first rest ≡ 13
   pub unpaired : second rest ≢ 10
 
--- There the rest begins with a backslash, and no line end stands behind it. The escape is the backslash and the character behind it.
+-- There the rest begins with a backslash, and no line end stands after it. The escape is the backslash and the character after it.
 pub record IsInvalidEscape (escape : List ℕ) (mode : Mode) (rest : List ℕ) : Type 0 where
   pub in_code : InCode mode rest
   pub backslash : first rest ≡ 92
   pub no_continuation : at_line_end (drop 1 rest) ≡ false
   pub escaped : escape ≡ flat_map encode_utf8 (take 2 (chars rest))
 
--- a string opens here, also behind `x` or `f`, and nothing ends it
+-- a string opens here, also after `x` or `f`, and nothing ends it
 abbrev pub opens_unclosed : List ℕ → Bool
 opens_unclosed rest = (is_quote (first rest) && is_unclosed false 0 rest) || ((opens_string 120 rest && is_unclosed false 1 rest) || (opens_string 102 rest && is_unclosed true 1 rest))
 
--- behind an expression of a format string a part begins here, and nothing ends it
+-- after an expression of a format string a part begins here, and nothing ends it
 abbrev pub goes_on_unclosed : Option Open → List ℕ → Bool
 goes_on_unclosed (Some (FormatInterpolation q _)) rest = at_closing_braces rest && not (has_end true q (drop 2 rest))
 goes_on_unclosed _ rest = false
 
--- There a string begins or goes on, and nothing behind ends it.
+-- There a string begins or goes on, and nothing after ends it.
 pub record IsUnterminatedString (mode : Mode) (rest : List ℕ) : Type 0 where
   pub in_code : InCode mode rest
   pub unclosed : (opens_unclosed rest || goes_on_unclosed (innermost mode.opened) rest) ≡ true
 
--- There a command begins, and nothing behind ends it.
+-- There a command begins, and nothing after ends it.
 pub record IsUnterminatedBacktick (mode : Mode) (rest : List ℕ) : Type 0 where
   pub in_code : InCode mode rest
   pub backtick : first rest ≡ 96
@@ -138,7 +138,7 @@ Reason MixedLeadingWhitespace mode rest = IsMixedIndentation mode rest
 Reason InconsistentLeadingWhitespace mode rest = IsOtherIndentation mode rest
 Reason _ mode rest = ⊥
 
--- Behind some tokens of the text, at this position, no token stands, for the reason that the kind says.
+-- After some tokens of the text, at this position, no token stands, for the reason that the kind says.
 pub record HasFault (src : List ℕ) (kind : CompileErrorKind) (at : Position) : Type 0 where
   pub before : List Piece
   pub each : AllTokens (start src) before

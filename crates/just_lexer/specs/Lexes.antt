@@ -29,7 +29,7 @@ piece t = record { kind = t.kind; text = lexeme t; at = position_of t }
 abbrev pub pieces : List Token → List Piece
 pieces ts = map piece ts
 
--- a place in a text: what the tokens before it say, where it is, and the text behind it
+-- a place in a text: what the tokens before it say, where it is, and the text after it
 pub record Place : Type 0 where
   pub mode : Mode
   pub at : Position
@@ -39,7 +39,7 @@ pub record Place : Type 0 where
 abbrev pub start : List ℕ → Place
 start text = record { mode = record { line = Begin; opened = [] }; at = record { column = 0; line = 0; offset = 0 }; rest = text }
 
--- the place behind a token
+-- the place after a token
 abbrev pub behind : Place → Piece → Place
 behind p t = record { mode = after p.mode t.kind t.text; at = moved p.at t.kind t.text; rest = drop (length t.text) p.rest }
 
@@ -49,7 +49,7 @@ pub record IsTokenAt (p : Place) (t : Piece) : Type 0 where
   pub front : p.rest ≡ t.text ++ (behind p t).rest
   pub longest : IsLongest p.mode p.rest t.kind (length t.text)
 
--- the tokens stand one behind the other from the place on
+-- the tokens stand one after the other from the place on
 abbrev pub AllTokens : Place → List Piece → Type 0
 AllTokens p [] = Unit {0}
 AllTokens p (t ∷ ts) = IsTokenAt p t × AllTokens (behind p t) ts

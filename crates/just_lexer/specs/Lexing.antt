@@ -64,12 +64,12 @@ closer_kind delimiters.Paren = ParenR
 closer_kind delimiters.Bracket = BracketR
 closer_kind delimiters.Brace = BraceR
 
--- a closing mark behind the innermost that is open
+-- a closing mark after the innermost that is open
 abbrev pub close_token : Option Open → Delimiter → Found
 close_token (Some (Bracket opener)) closer = if closing opener == closing closer then Ok (closer_kind closer, 1) else Err (faults.Mismatched opener closer)
 close_token _ closer = Err (faults.Unexpected closer)
 
--- the part of a format string behind an expression in it
+-- the part of a format string after an expression in it
 abbrev pub part_token : ℕ → List ℕ → Found
 part_token n text = sized (if ends_in_format_interpolation n text then FormatStringContinue else FormatStringEnd) faults.UnclosedString n
 
@@ -153,7 +153,7 @@ body_start_token i text =
     else if has_indentation i text then Ok (Whitespace, indent_width i)
     else Err faults.OtherIndentation
 
--- the token behind the indentation of a body line, outside expressions
+-- the token after the indentation of a body line, outside expressions
 unfoldable pub body_line_token : List ℕ → Found
 body_line_token text =
     if length text == 0 then Ok (Dedent, 0)

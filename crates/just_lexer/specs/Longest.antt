@@ -24,11 +24,11 @@ two a b text = if at_two a b text then 2 else 0
 abbrev pub name_len : List ℕ → ℕ
 name_len text = if is_letter (first text) && not (opens_string 120 text || opens_string 102 text) then prefix_len is_word text else 0
 
--- a string, also behind `x`
+-- a string, also after `x`
 abbrev pub string_len : List ℕ → ℕ
 string_len text = if is_quote (first text) then opened_len false 0 text else if opens_string 120 text then opened_len false 1 text else 0
 
--- the part of a format string behind an expression in it, with the braces and what ends the part
+-- the part of a format string after an expression in it, with the braces and what ends the part
 abbrev pub part_behind : Option Open → List ℕ → ℕ
 part_behind (Some (FormatInterpolation q _)) text = if at_closing_braces text then ended_len true q 2 text else 0
 part_behind _ text = 0

@@ -55,7 +55,7 @@ format_interpolations_of inner lexeme = if ends_in_format_interpolation (length 
 abbrev pub closed : List Open → List Open
 closed opened = take (length opened - 1) opened
 
--- what is open behind a token
+-- what is open after a token
 unfoldable pub open_after : List Open → TokenKind → List ℕ → List Open
 open_after opened ParenL lexeme = opened ++ Bracket delimiters.Paren ∷ []
 open_after opened BracketL lexeme = opened ++ Bracket delimiters.Bracket ∷ []
@@ -69,7 +69,7 @@ open_after opened InterpolationEnd lexeme = closed opened
 open_after opened FormatStringEnd lexeme = closed opened
 open_after opened _ lexeme = opened
 
--- Behind a token at the first column outside bodies. The flag says whether a body may come: a blank line and a comment line keep it, a colon sets it, and each other line clears it.
+-- After a token at the first column outside bodies. The flag says whether a body may come: a blank line and a comment line keep it, a colon sets it, and each other line clears it.
 unfoldable pub start_after : Bool → TokenKind → List ℕ → Line
 start_after may ByteOrderMark lexeme = Start may
 start_after may Eol lexeme = Start may
@@ -80,7 +80,7 @@ start_after may Indent lexeme = if may then BodyLine (indentation_of lexeme) els
 start_after may Eof lexeme = Over
 start_after may _ lexeme = Inside false
 
--- The place in the line behind a token. A line end where something is open leads to no line start, and a colon counts outside brackets.
+-- The place in the line after a token. A line end where something is open leads to no line start, and a colon counts outside brackets.
 unfoldable pub line_after : Line → Option Open → TokenKind → List ℕ → Line
 line_after Begin inner k lexeme = start_after false k lexeme
 line_after (Start may) inner k lexeme = start_after may k lexeme
@@ -101,16 +101,16 @@ line_after (BodyLine i) inner Dedent lexeme = Start false
 line_after (BodyLine i) inner _ lexeme = BodyLine i
 line_after Over inner _ lexeme = Over
 
--- the mode behind a token
+-- the mode after a token
 abbrev pub after : Mode → TokenKind → List ℕ → Mode
 after m k lexeme = record { line = line_after m.line (innermost m.opened) k lexeme; opened = open_after m.opened k lexeme }
 
--- behind the last token
+-- after the last token
 abbrev pub is_over : Line → Bool
 is_over Over = true
 is_over _ = false
 
--- in a line outside bodies, behind its leading white space, or in an expression of a body line
+-- in a line outside bodies, after its leading white space, or in an expression of a body line
 abbrev pub is_in_code : Line → Option Open → List ℕ → Bool
 is_in_code Begin inner rest = not (at_byte_order_mark rest || is_indented rest)
 is_in_code (Start _) inner rest = not (is_indented rest)
@@ -119,12 +119,12 @@ is_in_code (Inside _) inner rest = true
 is_in_code (BodyLine _) inner rest = is_some inner && not (breaks_off rest)
 is_in_code _ inner rest = false
 
--- behind the indentation of a body's line
+-- after the indentation of a body's line
 abbrev pub is_in_body : Line → Bool
 is_in_body (BodyLine _) = true
 is_in_body _ = false
 
--- the position behind a byte
+-- the position after a byte
 abbrev pub advance : Position → ℕ → Position
 advance p b =
     if b == 10 then record { column = 0; line = p.line + 1; offset = p.offset + 1 }
@@ -134,7 +134,7 @@ abbrev pub is_byte_order_mark : TokenKind → Bool
 is_byte_order_mark ByteOrderMark = true
 is_byte_order_mark _ = false
 
--- the position behind a token: columns count behind a byte order mark
+-- the position after a token: columns count after a byte order mark
 abbrev pub moved : Position → TokenKind → List ℕ → Position
 moved p k lexeme =
     if is_byte_order_mark k then record { column = p.column; line = p.line; offset = p.offset + length lexeme }

@@ -39,7 +39,7 @@ at_quotes q text = first text == quote_byte q.quote && (not q.tripled || at_thre
 abbrev pub ends_part : Bool → Quotes → List ℕ → Bool
 ends_part format q text = at_quotes q text || (format && opens_format_interpolation text)
 
--- a backslash takes the byte behind it along, where there are escapes; four braces of a format string stay together
+-- a backslash takes the byte after it along, where there are escapes; four braces of a format string stay together
 abbrev pub part_takes : Bool → Quotes → List ℕ → ℕ
 part_takes format q text = if has_escapes q && first text == 92 then 1 else if format && at_braces text then 3 else 0
 
@@ -55,21 +55,21 @@ has_end format q text = nat_lt (part_len format q text) (length text)
 abbrev pub end_len : Quotes → List ℕ → ℕ
 end_len q text = if at_quotes q text then quotes_len q else 2
 
--- the length of what has a part of a string behind its first n bytes, up to and with the part's end; 0 where it has none
+-- the length of what has a part of a string after its first n bytes, up to and with the part's end; 0 where it has none
 unfoldable pub ended_len : Bool → Quotes → ℕ → List ℕ → ℕ
 ended_len format q n text =
     if has_end format q (drop n text) then n + part_len format q (drop n text) + end_len q (drop (part_len format q (drop n text)) (drop n text))
     else 0
 
--- the same where quotes open behind `letters` bytes
+-- the same where quotes open after `letters` bytes
 abbrev pub opened_len : Bool → ℕ → List ℕ → ℕ
 opened_len format letters text = ended_len format (quotes_at (drop letters text)) (letters + quotes_len (quotes_at (drop letters text))) text
 
--- the letter stands at the front, and a quote behind it
+-- the letter stands at the front, and a quote after it
 abbrev pub opens_string : ℕ → List ℕ → Bool
 opens_string letter text = first text == letter && is_quote (second text)
 
--- the string or command opened here, behind `letters` bytes, has no end
+-- the string or command opened here, after `letters` bytes, has no end
 abbrev pub is_unclosed : Bool → ℕ → List ℕ → Bool
 is_unclosed format letters text = not (has_end format (quotes_at (drop letters text)) (drop (letters + quotes_len (quotes_at (drop letters text))) text))
 

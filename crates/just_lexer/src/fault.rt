@@ -29,7 +29,7 @@ pub enum Fault {
     OtherIndentation,
 }
 
-/// The backslash at the front and the character behind it.
+/// The backslash at the front and the character after it.
 fn escape(alloc: Global, rest: &str) -> Result<Text, AllocError>
     ensures { IfOk result (λ text. text ≡ flat_map encode_utf8 (take 2 (chars rest.now))) }
 {

@@ -29,7 +29,7 @@ pub struct Lexer<'src> {
 impl<'src> Lexer<'src> {
     /// The tokens of the text, the last of which is `Eof`; they borrow from the path and the text.
     ///
-    /// Refused where memory runs out, and where no token stands behind those before. Outside strings,
+    /// Refused where memory runs out, and where no token stands after those before. Outside strings,
     /// comments and the text of bodies that is: a character that no token begins with, an ampersand or a
     /// bar alone, a string or a command that nothing ends, a backslash in front of anything but a line end,
     /// a carriage return without a newline, and a bracket that closes where another is the innermost open
@@ -49,7 +49,7 @@ impl<'src> Lexer<'src> {
         ensures borrowed { IfOk result (λ ts. AllBorrow path.now src.now ts.items) }
         // Where the text has tokens, the answer is these, unless memory runs out.
         ensures only { (ts : List Piece) → Lexes src.now ts → Gives result ts }
-        // An error is a fault behind the tokens before it.
+        // An error is a fault after the tokens before it.
         ensures fault { IfErr result (λ e. FaultStands path.now src.now e.kind e.token) }
     {
         let mut tokens = Vec::new(alloc);

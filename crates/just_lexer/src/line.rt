@@ -27,14 +27,14 @@ pub fn covered<'src>(token: &Token<'src>) -> &'src str
     first_line(token.lexeme())
 }
 
-/// The text behind the byte order mark, if it begins with one.
+/// The text after the byte order mark, if it begins with one.
 fn behind_mark(text: &str) -> &str
     ensures { result.now ≡ behind_mark text.now }
 {
     text.strip_prefix("\u{feff}").unwrap_or(text)
 }
 
-/// The text behind its last newline.
+/// The text after its last newline.
 fn last_line(text: &str) -> &str
     ensures { result.now ≡ last_line text.now }
 {

@@ -33,15 +33,15 @@ pub enum Line {
     Begin,
     /// The first column of a line outside bodies, and whether a body may begin there.
     Start(bool),
-    /// Behind nothing but white space or a comment line, and the same.
+    /// After nothing but white space or a comment line, and the same.
     Ahead(bool),
-    /// Further in such a line, and whether a body may come behind it.
+    /// Further in such a line, and whether a body may come after it.
     Inside(bool),
     /// The first column of a line in a body.
     BodyStart(Indentation),
-    /// Behind the indentation of such a line.
+    /// After the indentation of such a line.
     BodyLine(Indentation),
-    /// Behind the last token.
+    /// After the last token.
     Over,
 }
 
@@ -73,7 +73,7 @@ pub fn in_brackets(inner: Option<Open>) -> bool
     }
 }
 
-/// Opens an expression behind a format string's start, unless the whole string is read.
+/// Opens an expression after a format string's start, unless the whole string is read.
 fn open_format_interpolation(opened: &mut Vec<Open>, lexeme: &str) -> Result<(), AllocFailed<Open>>
     ensures { OnOk result (opened.new.items ≡ opened.old.items ++ spec.format_interpolations_of (spec.innermost opened.old.items) lexeme.now) }
 {
@@ -112,7 +112,7 @@ pub fn step_open(
     }
 }
 
-/// The place behind a token at the first column outside bodies.
+/// The place after a token at the first column outside bodies.
 #[tactic(auto, unfolding(crate::specs::Modes::start_after))]
 fn start_after(body_may_come: bool, kind: TokenKind, lexeme: &str) -> Line
     ensures { result ≡ spec.start_after body_may_come kind lexeme.now }
@@ -138,7 +138,7 @@ impl Line {
         }
     }
 
-    /// The place in the line behind a token, of which `inner` was the innermost open.
+    /// The place in the line after a token, of which `inner` was the innermost open.
     #[tactic(auto, unfolding(crate::specs::Modes::line_after))]
     pub fn after(self, inner: Option<Open>, kind: TokenKind, lexeme: &str) -> Line
         ensures { result ≡ spec.line_after self inner kind lexeme.now }

@@ -22,7 +22,7 @@ impl Position {
         offset: 0,
     };
 
-    /// The position behind a text that begins here.
+    /// The position after a text that begins here.
     fn behind(self, text: &str) -> Position
         requires offset { self.offset + length text.now < 2 ^ 63 }
         requires line { self.line + length text.now < 2 ^ 63 }
@@ -43,7 +43,7 @@ impl Position {
         position
     }
 
-    /// The position behind a token. A byte order mark takes no column.
+    /// The position after a token. A byte order mark takes no column.
     pub fn moved(self, kind: TokenKind, lexeme: &str) -> Position
         requires offset { self.offset + length lexeme.now < 2 ^ 63 }
         requires line { self.line + length lexeme.now < 2 ^ 63 }

@@ -2,23 +2,23 @@
 use Rattle.std.proofs.Common.{◌≡◌, ◌<◌, ℕ, List, [], ◌++◌, false, Option, subst}
 use Rattle.std.specs.List.{AllByRecursion}
 use Rattle.just_host.specs.declared.entry.Entry.{Entry}
-use Rattle.just_runs.specs.Failures.{Failure}
-use Rattle.just_calls.specs.Named.{Call, Definitions}
-use Rattle.just_calls.specs.Scopes.{Configuration}
-use Rattle.just_runs.specs.Told.{Answers, Agrees}
-use Rattle.just_runs.specs.Meant.{is_event}
-use Rattle.just_calls.specs.Calling.{acts}
-use Rattle.just_runs.specs.Acts.{host_parts}
-use Rattle.just_runs.specs.Tallies.{Tally}
-use Rattle.just_runs.specs.Goes.{Goes}
-use Rattle.just_runs.specs.Laws.{events_of, end_by, IsRanked}
+use Rattle.meaning_runs.specs.Failures.{Failure}
+use Rattle.meaning_calls.specs.Named.{Call, Definitions}
+use Rattle.meaning_calls.specs.Scopes.{Configuration}
+use Rattle.meaning_runs.specs.Told.{Answers, Agrees}
+use Rattle.meaning_runs.specs.Meant.{is_event}
+use Rattle.meaning_calls.specs.Calling.{acts}
+use Rattle.meaning_runs.specs.Acts.{host_parts}
+use Rattle.meaning_runs.specs.Tallies.{Tally}
+use Rattle.meaning_runs.specs.Goes.{Goes}
+use Rattle.meaning_runs.specs.Laws.{events_of, end_by, IsRanked}
 use Rattle.just_meaning.specs.Opening.{Opened}
 use Rattle.just_meaning.specs.Runs.{HasRun, ground_of, reading_at}
 use Rattle.just_meaning.specs.Meanings.{variables_at, meant_ground, calls_meant, naive_run, IsSteadyRun}
-use Rattle.just_runs.proofs.Acting.{AreSound}
-use Rattle.just_runs.proofs.Restricted.{AreClosed}
-use Rattle.just_runs.proofs.Composed.{acts_are_naive}
-use Rattle.just_calls.proofs.Calls.{calls_decide}
+use Rattle.meaning_runs.proofs.Acting.{AreSound}
+use Rattle.meaning_runs.proofs.Restricted.{AreClosed}
+use Rattle.meaning_runs.proofs.Composed.{acts_are_naive}
+use Rattle.meaning_calls.proofs.Calls.{calls_decide}
 
 -- for recipes, where what was opened is what variables mean
 pub runs_mean : (c : Configuration) (defined : Definitions) (f : Answers) (n : ℕ) (opened : List Opened) (rank : Call → ℕ) (Of : Call → Type 0) → ground_of c defined opened ≡ meant_ground c defined f n

@@ -3,27 +3,27 @@ use Rattle.std.proofs.Common.{refl}
 use Rattle.std.specs.Prelude.{◌≡◌, ℕ, List, [], ◌∷◌, ◌++◌, true, false, cond, map, Option, Some, None, Ok, codes}
 use Rattle.std.specs.Str.{bytes_eq}
 use Rattle.just_text.specs.declared.os.Os.TheVariants.{Linux}
-use Rattle.just_expression_tree.specs.Cooking.{cooked}
-use Rattle.just_expression_tree.specs.Kinds.{kind_of}
-use Rattle.just_expression_tree.specs.Operators.{concatenation}
-use Rattle.just_expression_tree.specs.Parts.{halved_behind}
-use Rattle.just_expression_tree.specs.Shape.{Shape, literal, command, variable, call, choice, listing, binary, end, more}
-use Rattle.just_expression_tree.specs.Operators.{comparison}
-use Rattle.just_expression_tree.specs.declared.operator.ConditionalOperator.TheVariants.{Equality}
+use Rattle.tree_expressions.specs.Cooking.{cooked}
+use Rattle.tree_expressions.specs.Kinds.{kind_of}
+use Rattle.tree_expressions.specs.Operators.{concatenation}
+use Rattle.tree_expressions.specs.Parts.{halved_behind}
+use Rattle.tree_expressions.specs.Shape.{Shape, literal, command, variable, call, choice, listing, binary, end, more}
+use Rattle.tree_expressions.specs.Operators.{comparison}
+use Rattle.tree_expressions.specs.declared.operator.ConditionalOperator.TheVariants.{Equality}
 use Rattle.just_host.specs.declared.entry.Entry.{Entry}
 use Rattle.just_host.specs.declared.entry.Entry.TheVariants.{Line}
 use Rattle.just_host.specs.declared.host.Status.TheVariants.{Code}
-use Rattle.just_tree.specs.Lines.{Piece, text, interpolation, read_sigils}
-use Rattle.just_tree.specs.Recipes.{ArgumentShape}
-use Rattle.just_tree.specs.declared.recipe.ParameterKind.{ParameterKind}
-use Rattle.just_tree.specs.declared.recipe.ParameterKind.TheVariants.{Singular, Star}
-use Rattle.just_functions.specs.Names.{function_names}
-use Rattle.just_dialogues.specs.Faults.{function_failed}
-use Rattle.just_runs.specs.Failures.{Failure, by_code, evaluation}
-use Rattle.just_runs.specs.Told.{Answers}
-use Rattle.just_runs.specs.Naive.{End, went, failed, tree}
-use Rattle.just_calls.specs.Named.{Call, ParameterRow, DependencyRow, RecipeRow, VariableRow, FunctionRow, ModuleRow, no_module, Definitions}
-use Rattle.just_calls.specs.Scopes.{Configuration}
+use Rattle.tree_items.specs.Lines.{Piece, text, interpolation, read_sigils}
+use Rattle.tree_items.specs.Recipes.{ArgumentShape}
+use Rattle.tree_items.specs.declared.recipe.ParameterKind.{ParameterKind}
+use Rattle.tree_items.specs.declared.recipe.ParameterKind.TheVariants.{Singular, Star}
+use Rattle.evaluate_functions.specs.Names.{function_names}
+use Rattle.meaning_dialogues.specs.Faults.{function_failed}
+use Rattle.meaning_runs.specs.Failures.{Failure, by_code, evaluation}
+use Rattle.meaning_runs.specs.Told.{Answers}
+use Rattle.meaning_runs.specs.Naive.{End, went, failed, tree}
+use Rattle.meaning_calls.specs.Named.{Call, ParameterRow, DependencyRow, RecipeRow, VariableRow, FunctionRow, ModuleRow, no_module, Definitions}
+use Rattle.meaning_calls.specs.Scopes.{Configuration}
 use Rattle.just_meaning.specs.Meanings.{naive_run}
 
 -- ---- justfiles

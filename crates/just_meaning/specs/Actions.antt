@@ -5,18 +5,18 @@ use Rattle.std.specs.List.{flat_map}
 use Rattle.std.specs.Str.{bytes_eq}
 use Rattle.just_host.specs.declared.entry.Entry.{Entry}
 use Rattle.just_host.specs.declared.job.CommandJob.{CommandJob}
-use Rattle.just_tree.specs.Lines.{no_sigils}
+use Rattle.tree_items.specs.Lines.{no_sigils}
 use Rattle.just_value.specs.Values.{joined, value_text}
-use Rattle.just_dialogues.specs.Evaluation.{Value}
-use Rattle.just_stages.specs.Surroundings.{by_name, given, removed}
-use Rattle.just_runs.specs.Failures.{Failure, next_by}
-use Rattle.just_calls.specs.Named.{VariableName, VariableRow, ModuleRow, Modules, no_module, a_module, Definitions, paths_of}
-use Rattle.just_compilation.specs.Modulepaths.{pieces}
-use Rattle.just_calls.specs.Scopes.{Configuration, Scene, surroundings_in}
+use Rattle.meaning_dialogues.specs.Evaluation.{Value}
+use Rattle.meaning_stages.specs.Surroundings.{by_name, given, removed}
+use Rattle.meaning_runs.specs.Failures.{Failure, next_by}
+use Rattle.meaning_calls.specs.Named.{VariableName, VariableRow, ModuleRow, Modules, no_module, a_module, Definitions, paths_of}
+use Rattle.modules_compilation.specs.Modulepaths.{pieces}
+use Rattle.meaning_calls.specs.Scopes.{Configuration, Scene, surroundings_in}
 use Rattle.just_meaning.specs.Opening.{reading_in, Held, held, Opened, OpeningFault, OpensAll, named, opening_standing, scene_in, pairs_of, variable_says, IsOpened}
 use Rattle.just_meaning.specs.Runs.{pairs_at, values_at}
-use Rattle.just_calls.specs.Calling.{without_next}
-use Rattle.just_runs.specs.Task.{Task, TaskLeads, ends, hands, line}
+use Rattle.meaning_calls.specs.Calling.{without_next}
+use Rattle.meaning_runs.specs.Task.{Task, TaskLeads, ends, hands, line}
 
 -- ---- what is evaluated
 

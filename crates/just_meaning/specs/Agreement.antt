@@ -2,12 +2,12 @@
 use Rattle.std.specs.Prelude.{◌≡◌, ℕ, List, ◌++◌, Result}
 use Rattle.just_host.specs.declared.entry.Entry.{Entry}
 use Rattle.just_host.specs.declared.job.Pair.{Pair}
-use Rattle.just_dialogues.specs.Faults.{Fault}
-use Rattle.just_calls.specs.Named.{VariableName, Call, ModuleRow, Definitions}
-use Rattle.just_calls.specs.Scopes.{Configuration}
-use Rattle.just_runs.specs.Told.{Answers, Agrees, AgreesThere}
+use Rattle.meaning_dialogues.specs.Faults.{Fault}
+use Rattle.meaning_calls.specs.Named.{VariableName, Call, ModuleRow, Definitions}
+use Rattle.meaning_calls.specs.Scopes.{Configuration}
+use Rattle.meaning_runs.specs.Told.{Answers, Agrees, AgreesThere}
 use Rattle.just_meaning.specs.Opening.{Held, Opened, OpeningFault, exported_names, Fills, all, has_value, has_none, OpensOne, not_told, opened, refused, OpensAll, none_left, one_more, fault_here, fault_later}
-use Rattle.just_runs.specs.Tallies.{Tally}
+use Rattle.meaning_runs.specs.Tallies.{Tally}
 use Rattle.just_meaning.specs.Runs.{Outcome, Runs}
 use Rattle.just_meaning.specs.Runs as runs
 

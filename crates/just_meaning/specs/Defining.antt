@@ -1,24 +1,24 @@
 -- What is defined, by what modules keep: the rows of recipes, variables, functions and modules.
 use Rattle.std.specs.Prelude.{◌≡◌, ◌⊎◌, ◌↔◌, ◌<◌, ◌≤◌, ◌||◌, ℕ, Bool, true, List, [], ◌∷◌, ◌++◌, map, Some, Contains, codes}
 use Rattle.std.specs.List.Sorted.{IsStrictlySortedBy}
-use Rattle.just_attribute_tree.specs.Attributes.{AttributeShape}
-use Rattle.just_attribute_tree.specs.Settings.{SetShape}
-use Rattle.just_attribute_tree.specs.declared.attribute.AttributeKind.TheVariants.{Default, Private}
-use Rattle.just_compilation.specs.Tables.{text_cmp}
-use Rattle.just_expression_tree.specs.Cutting.{begins}
-use Rattle.just_expression_tree.specs.Shape.{Shape}
-use Rattle.just_tree.specs.Files.{alias_item, assignment_item, function_item, recipe_item}
-use Rattle.just_tree.specs.Items.{AliasShape, AssignmentShape, FunctionShape}
-use Rattle.just_tree.specs.Recipes.{RecipeShape}
-use Rattle.just_dialogues.specs.Evaluation.{Value}
-use Rattle.just_worlds.specs.Given.{Text, World, Overrides}
-use Rattle.just_worlds.specs.Modules.{IsModule}
-use Rattle.just_worlds.specs.Keeping.{an_alias, a_function, a_recipe, a_variable, an_unexport, IsDefined, IsOn, KeepsAt, Keeps}
-use Rattle.just_rules.specs.Naming.{Part}
-use Rattle.just_rules.specs.Overriding.{IsOverriddenBy}
-use Rattle.just_rules.specs.Constants.{HasSetting, IsPartOf, HasValue}
-use Rattle.just_rules.specs.Rules.{has}
-use Rattle.just_calls.specs.Named.{RecipeName, VariableName, RecipeRow, VariableRow, FunctionRow, ModuleRow, Modules, no_module, a_module, paths_of, Definitions}
+use Rattle.tree_attributes.specs.Attributes.{AttributeShape}
+use Rattle.tree_attributes.specs.Settings.{SetShape}
+use Rattle.tree_attributes.specs.declared.attribute.AttributeKind.TheVariants.{Default, Private}
+use Rattle.modules_compilation.specs.Tables.{text_cmp}
+use Rattle.tree_expressions.specs.Cutting.{begins}
+use Rattle.tree_expressions.specs.Shape.{Shape}
+use Rattle.tree_items.specs.Files.{alias_item, assignment_item, function_item, recipe_item}
+use Rattle.tree_items.specs.Items.{AliasShape, AssignmentShape, FunctionShape}
+use Rattle.tree_items.specs.Recipes.{RecipeShape}
+use Rattle.meaning_dialogues.specs.Evaluation.{Value}
+use Rattle.meaning_worlds.specs.Given.{Text, World, Overrides}
+use Rattle.meaning_worlds.specs.Modules.{IsModule}
+use Rattle.meaning_worlds.specs.Keeping.{an_alias, a_function, a_recipe, a_variable, an_unexport, IsDefined, IsOn, KeepsAt, Keeps}
+use Rattle.meaning_rules.specs.Naming.{Part}
+use Rattle.meaning_rules.specs.Overriding.{IsOverriddenBy}
+use Rattle.meaning_rules.specs.Constants.{HasSetting, IsPartOf, HasValue}
+use Rattle.meaning_rules.specs.Rules.{has}
+use Rattle.meaning_calls.specs.Named.{RecipeName, VariableName, RecipeRow, VariableRow, FunctionRow, ModuleRow, Modules, no_module, a_module, paths_of, Definitions}
 use Rattle.just_meaning.specs.Rows.{recipe_row, module_row}
 
 -- ---- names

@@ -6,21 +6,21 @@ use Rattle.just_host.specs.declared.host.HostFault.{HostFault}
 use Rattle.just_host.specs.declared.job.DotenvRequest.{DotenvRequest}
 use Rattle.just_host.specs.declared.job.Pair.{Pair}
 use Rattle.just_value.specs.Values.{joined}
-use Rattle.just_dialogues.specs.Faults.{Fault}
-use Rattle.just_dialogues.specs.Dialogue.{Dialogue, Lookup, Variable, around}
-use Rattle.just_dialogues.specs.Evaluation.{Value}
-use Rattle.just_dialogues.specs.Meaning.{Meaning, variable_meaning}
-use Rattle.just_stages.specs.Parameters.{Bound}
-use Rattle.just_stages.specs.Surroundings.{by_name}
-use Rattle.just_runs.specs.Failures.{Failure}
-use Rattle.just_calls.specs.Named.{RecipeName, VariableName, Call, ModuleRow, Definitions, same_call}
-use Rattle.just_calls.specs.Scopes.{Configuration}
-use Rattle.just_runs.specs.Told.{Answers, of_variables}
+use Rattle.meaning_dialogues.specs.Faults.{Fault}
+use Rattle.meaning_dialogues.specs.Dialogue.{Dialogue, Lookup, Variable, around}
+use Rattle.meaning_dialogues.specs.Evaluation.{Value}
+use Rattle.meaning_dialogues.specs.Meaning.{Meaning, variable_meaning}
+use Rattle.meaning_stages.specs.Parameters.{Bound}
+use Rattle.meaning_stages.specs.Surroundings.{by_name}
+use Rattle.meaning_runs.specs.Failures.{Failure}
+use Rattle.meaning_calls.specs.Named.{RecipeName, VariableName, Call, ModuleRow, Definitions, same_call}
+use Rattle.meaning_calls.specs.Scopes.{Configuration}
+use Rattle.meaning_runs.specs.Told.{Answers, of_variables}
 use Rattle.just_meaning.specs.Opening.{exported_names, side_of, side_dialogue, scene_in, IsOpened}
-use Rattle.just_calls.specs.Calling.{Ground, acts}
-use Rattle.just_runs.specs.Acts.{meaning_of}
-use Rattle.just_runs.specs.Naive.{CallMeaning, RunPart, naive, IsSteady}
-use Rattle.just_runs.specs.Laws.{OfTrees}
+use Rattle.meaning_calls.specs.Calling.{Ground, acts}
+use Rattle.meaning_runs.specs.Acts.{meaning_of}
+use Rattle.meaning_runs.specs.Naive.{CallMeaning, RunPart, naive, IsSteady}
+use Rattle.meaning_runs.specs.Laws.{OfTrees}
 
 module _ (c : Configuration) (defined : Definitions) (f : Answers) where
   -- the pairs that a module asks for; none where the answer is a fault, or there is none

@@ -7,18 +7,18 @@ use Rattle.just_host.specs.declared.host.HostFault.{HostFault}
 use Rattle.just_host.specs.declared.job.DotenvRequest.{DotenvRequest}
 use Rattle.just_host.specs.declared.job.Pair.{Pair}
 use Rattle.just_value.specs.Constants.{constant_rows}
-use Rattle.just_dialogues.specs.Faults.{Fault}
-use Rattle.just_dialogues.specs.Dialogue.{Dialogue, Ends, DialogueGoes, Variable, Reading}
-use Rattle.just_dialogues.specs.Terms.{Term}
-use Rattle.just_dialogues.specs.Evaluation.{Value, dialogue}
-use Rattle.just_stages.specs.Surroundings.{Standing}
-use Rattle.just_stages.specs.Stages.{run_stage, calls_allowed}
-use Rattle.just_dialogues.specs.Calls.{unreadable}
-use Rattle.just_calls.specs.Named.{RecipeName, VariableName, RecipeRow, VariableRow, ModuleRow, Definitions}
-use Rattle.just_dialogues.specs.Written.{term_in, unnumbered}
-use Rattle.just_calls.specs.Scopes.{defined_in, Configuration, Scene, surroundings_in, exported_pair}
+use Rattle.meaning_dialogues.specs.Faults.{Fault}
+use Rattle.meaning_dialogues.specs.Dialogue.{Dialogue, Ends, DialogueGoes, Variable, Reading}
+use Rattle.meaning_dialogues.specs.Terms.{Term}
+use Rattle.meaning_dialogues.specs.Evaluation.{Value, dialogue}
+use Rattle.meaning_stages.specs.Surroundings.{Standing}
+use Rattle.meaning_stages.specs.Stages.{run_stage, calls_allowed}
+use Rattle.meaning_dialogues.specs.Calls.{unreadable}
+use Rattle.meaning_calls.specs.Named.{RecipeName, VariableName, RecipeRow, VariableRow, ModuleRow, Definitions}
+use Rattle.meaning_dialogues.specs.Written.{term_in, unnumbered}
+use Rattle.meaning_calls.specs.Scopes.{defined_in, Configuration, Scene, surroundings_in, exported_pair}
 use Rattle.just_meaning.specs.Reading.{VariableReads, RecipeReads}
-use Rattle.just_runs.specs.Counts.{each_once}
+use Rattle.meaning_runs.specs.Counts.{each_once}
 
 abbrev pub named : List (List ℕ) → List ℕ → VariableName
 named path name = record { path = path; name = name }
@@ -62,7 +62,7 @@ pub data IsOpened (defined : Definitions) (no_dependencies : Bool) (invoked : Li
   by_variable : {x y : VariableName} {row : VariableRow} → defined.variable x ≡ Some row → IsOpened defined no_dependencies invoked y → y.path ≡ x.path → defined.override y ≡ None → VariableReads defined y x.name
       → IsOpened defined no_dependencies invoked x
 
--- an order of the variables of a module that open: each once, and behind all that it reads
+-- an order of the variables of a module that open: each once, and after all that it reads
 pub record IsOrder (defined : Definitions) (Opened : VariableName → Type 0) (path : List (List ℕ)) (names : List (List ℕ)) : Type 0 where
   pub once : each_once bytes_eq names ≡ true
   pub all : (name : List ℕ) → Opened (named path name) → Contains names name

@@ -2,12 +2,12 @@
 use Rattle.std.specs.Prelude.{◌≡◌, ℕ, List, [], ◌∷◌, ◌++◌, false, cond, Option, Some, None, Contains, codes, map}
 use Rattle.std.specs.List.{list_any, flat_map}
 use Rattle.std.specs.Str.{bytes_eq}
-use Rattle.just_expression_tree.specs.Shape.{Shape}
-use Rattle.just_tree.specs.Lines.{Piece}
-use Rattle.just_tree.specs.Lines as pieces
-use Rattle.just_attribute_tree.specs.Settings.{InterpreterShape}
-use Rattle.just_rules.specs.Naming.{a_variable, a_call, occurrences}
-use Rattle.just_calls.specs.Named.{RecipeName, VariableName, ParameterRow, DependencyRow, RecipeRow, VariableRow, FunctionRow, Definitions}
+use Rattle.tree_expressions.specs.Shape.{Shape}
+use Rattle.tree_items.specs.Lines.{Piece}
+use Rattle.tree_items.specs.Lines as pieces
+use Rattle.tree_attributes.specs.Settings.{InterpreterShape}
+use Rattle.meaning_rules.specs.Naming.{a_variable, a_call, occurrences}
+use Rattle.meaning_calls.specs.Named.{RecipeName, VariableName, ParameterRow, DependencyRow, RecipeRow, VariableRow, FunctionRow, Definitions}
 
 -- the first function of a name
 abbrev pub function_row : List ℕ → List FunctionRow → Option FunctionRow

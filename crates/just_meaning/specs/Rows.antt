@@ -2,23 +2,23 @@
 use Rattle.std.specs.Prelude.{ℕ, ◌+◌, List, [], ◌∷◌, ◌++◌, Bool, true, false, ◌||◌, cond, map, filter_map, Option, Some, None, codes}
 use Rattle.std.specs.List.{flat_map}
 use Rattle.std.specs.Str.{bytes_eq}
-use Rattle.just_expression_tree.specs.Shape.{Shape}
-use Rattle.just_expression_tree.specs.Cooking.{cooked}
-use Rattle.just_attribute_tree.specs.Settings.{InterpreterShape, ValueShape, SetShape, truth, expression, interpreter}
-use Rattle.just_attribute_tree.specs.Attributes.{AttributeShape, kind_name, plain, with_prompt, with_pair, with_string, with_interpreter}
-use Rattle.just_attribute_tree.specs.declared.attribute.AttributeKind.{AttributeKind}
-use Rattle.just_attribute_tree.specs.declared.attribute.AttributeKind.TheVariants.{Confirm, Extension, NoCd, NoQuiet, PositionalArguments, Script, WorkingDirectory}
-use Rattle.just_attributes.specs.Order.{in_order}
-use Rattle.just_expressions.specs.Literals.{Expansion, text_or_none}
+use Rattle.tree_expressions.specs.Shape.{Shape}
+use Rattle.tree_expressions.specs.Cooking.{cooked}
+use Rattle.tree_attributes.specs.Settings.{InterpreterShape, ValueShape, SetShape, truth, expression, interpreter}
+use Rattle.tree_attributes.specs.Attributes.{AttributeShape, kind_name, plain, with_prompt, with_pair, with_string, with_interpreter}
+use Rattle.tree_attributes.specs.declared.attribute.AttributeKind.{AttributeKind}
+use Rattle.tree_attributes.specs.declared.attribute.AttributeKind.TheVariants.{Confirm, Extension, NoCd, NoQuiet, PositionalArguments, Script, WorkingDirectory}
+use Rattle.tree_attribute_sets.specs.Order.{in_order}
+use Rattle.parse_expressions.specs.Literals.{Expansion, text_or_none}
 use Rattle.just_host.specs.declared.job.DotenvRequest.{DotenvRequest}
-use Rattle.just_tree.specs.Recipes.{RecipeShape, ParameterShape, DependencyShape}
+use Rattle.tree_items.specs.Recipes.{RecipeShape, ParameterShape, DependencyShape}
 use Rattle.just_value.specs.Paths.{join, parent}
-use Rattle.just_builtins.specs.Folders.{folder_below}
-use Rattle.just_dialogues.specs.Evaluation.{Value}
-use Rattle.just_attributed_items.specs.Options.{meant_for}
-use Rattle.just_rules.specs.Fixed.{options_in}
-use Rattle.just_rules.specs.Rules.{has}
-use Rattle.just_calls.specs.Named.{RecipeName, ParameterRow, DependencyRow, RecipeRow, ModuleRow}
+use Rattle.evaluate_context.specs.Folders.{folder_below}
+use Rattle.meaning_dialogues.specs.Evaluation.{Value}
+use Rattle.parse_attributed_items.specs.Options.{meant_for}
+use Rattle.meaning_rules.specs.Fixed.{options_in}
+use Rattle.meaning_rules.specs.Rules.{has}
+use Rattle.meaning_calls.specs.Named.{RecipeName, ParameterRow, DependencyRow, RecipeRow, ModuleRow}
 
 -- by what strings expand to
 module _ (expansion : Expansion) where

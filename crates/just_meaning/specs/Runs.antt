@@ -4,21 +4,21 @@ use Rattle.std.specs.Str.{bytes_eq}
 use Rattle.std.specs.Cmp.Lexicographic.{pointwise}
 use Rattle.just_host.specs.declared.entry.Entry.{Entry}
 use Rattle.just_host.specs.declared.job.Pair.{Pair}
-use Rattle.just_dialogues.specs.Dialogue.{Reading}
-use Rattle.just_stages.specs.Parameters.{Bound}
-use Rattle.just_stages.specs.Surroundings.{by_name}
-use Rattle.just_runs.specs.Failures.{Failure}
-use Rattle.just_calls.specs.Named.{RecipeName, Call, Definitions, paths_of}
+use Rattle.meaning_dialogues.specs.Dialogue.{Reading}
+use Rattle.meaning_stages.specs.Parameters.{Bound}
+use Rattle.meaning_stages.specs.Surroundings.{by_name}
+use Rattle.meaning_runs.specs.Failures.{Failure}
+use Rattle.meaning_calls.specs.Named.{RecipeName, Call, Definitions, paths_of}
 use Rattle.just_meaning.specs.Menus.{menu_of}
-use Rattle.just_runs.specs.Invokes.{WordRule, Invoke, BreaksWords}
-use Rattle.just_calls.specs.Scopes.{Configuration}
+use Rattle.meaning_runs.specs.Invokes.{WordRule, Invoke, BreaksWords}
+use Rattle.meaning_calls.specs.Scopes.{Configuration}
 use Rattle.just_meaning.specs.Opening.{Held, Opened, OpeningFault, OpensAll, IsOpened, reading_in, pairs_of}
-use Rattle.just_calls.specs.Calling.{Ground, acts}
-use Rattle.just_runs.specs.Acts.{host_parts}
-use Rattle.just_runs.specs.Parts.{Parts}
-use Rattle.just_runs.specs.Tallies.{Tally}
-use Rattle.just_runs.specs.Goes.{Goes}
-use Rattle.just_runs.specs.Counts.{IsCounted}
+use Rattle.meaning_calls.specs.Calling.{Ground, acts}
+use Rattle.meaning_runs.specs.Acts.{host_parts}
+use Rattle.meaning_runs.specs.Parts.{Parts}
+use Rattle.meaning_runs.specs.Tallies.{Tally}
+use Rattle.meaning_runs.specs.Goes.{Goes}
+use Rattle.meaning_runs.specs.Counts.{IsCounted}
 
 abbrev pub same_path : List (List ℕ) → List (List ℕ) → Bool
 same_path a b = pointwise bytes_eq a b
@@ -66,7 +66,7 @@ abbrev pub outcome_of : {Rule : Type 0} → Option Failure → Outcome Rule
 outcome_of None = ran
 outcome_of (Some failure) = failed failure
 
--- The opening, and behind it, where nothing was refused, the run of the invocations over what was opened.
+-- The opening, and after it, where nothing was refused, the run of the invocations over what was opened.
 pub data Runs {Rule : Type 0} (c : Configuration) (defined : Definitions) (calls : List Call) : List Entry → Tally → List Entry → Tally → Outcome Rule → Type 0 where
   refused : {old new : List Entry} {t : Tally} {fault : OpeningFault} → Opens c defined calls old new (Err fault) → Runs c defined calls old t new t (not_opened fault)
   opened : {old mid new : List Entry} {t t' : Tally} {opened : List Opened} {failure : Option Failure} → Opens c defined calls old mid (Ok opened) → HasRun c defined opened calls mid t new t' failure

@@ -1,8 +1,8 @@
 -- Which calls are steady, by what is written.
 use Rattle.std.specs.Prelude.{◌≡◌, List, [], ◌++◌, cond, Some, None, Contains}
-use Rattle.just_expression_tree.specs.Shape.{Shape}
-use Rattle.just_tree.specs.Recipes.{ArgumentShape}
-use Rattle.just_calls.specs.Named.{RecipeName, ParameterRow, DependencyRow, RecipeRow, ModuleRow, Definitions}
+use Rattle.tree_expressions.specs.Shape.{Shape}
+use Rattle.tree_items.specs.Recipes.{ArgumentShape}
+use Rattle.meaning_calls.specs.Named.{RecipeName, ParameterRow, DependencyRow, RecipeRow, ModuleRow, Definitions}
 use Rattle.just_meaning.specs.Reading.{AsksIn}
 
 -- the dependencies whose arguments both flags have to agree on: the priors, and the subsequents where these share the table

@@ -5,10 +5,10 @@ use crate::files::FileRange;
 use crate::keep::{kept, put_all};
 use crate::rules::check_items;
 use crate::truths::Truths;
-use just_compilation::{Compilation, Error, File, ModuleNode, Place, Target};
 use just_host::Config;
-use just_sources::{Parsed, items_of, load_modules, load_root};
 use justfile_syntax::{Alias, Expander, Item, Namepath, Os};
+use modules_compilation::{Compilation, Error, File, ModuleNode, Place, Target};
+use modules_sources::{Parsed, items_of, load_modules, load_root};
 use std::alloc::{AllocError, Global};
 use std::collections::{BTreeMap, BTreeSet};
 
@@ -241,7 +241,7 @@ fn settled<'src>(
 impl Compiler {
     /// The modules of the justfile at the key `root` of the sources: the files that are reached from
     /// it, each read anew for each module that takes it, and what the modules keep. Numbers begin
-    /// behind those of the constants, and no two bindings or recipes have one.
+    /// after those of the constants, and no two bindings or recipes have one.
     ///
     /// Refused as `MissingRoot` where the sources have no such key or it is no clean path, and as
     /// the variants of `Error` say; of several refusals that hold one is answered.
@@ -256,7 +256,7 @@ impl Compiler {
         settled(alloc, config, loaded)
     }
 
-    /// The same for a root file that has been read. Numbers go on behind its own.
+    /// The same for a root file that has been read. Numbers go on after its own.
     pub fn compile_parsed<'src, E: Expander>(
         alloc: Global,
         config: &Config,

@@ -1,9 +1,9 @@
 //! What the files of a module define.
 
 use crate::files::FileRange;
-use just_compilation::{File, ModuleNode, Place, front};
-use just_sources::items_of;
 use justfile_syntax::{Item, Name, Os};
+use modules_compilation::{File, ModuleNode, Place, front};
+use modules_sources::items_of;
 use std::alloc::{AllocError, Global};
 
 /// Names of one space are told apart from one another.
@@ -100,7 +100,7 @@ fn name_of<'src, 'a>(item: &'a Item<'src>, os: Os) -> Option<Named<'src, 'a>> {
     Some(Named { kind, name })
 }
 
-/// Puts what the item at the place defines behind what was found.
+/// Puts what the item at the place defines after what was found.
 fn add_item<'src, 'a>(
     found: &mut Vec<Definition<'src, 'a>>,
     item: &'a Item<'src>,
@@ -113,7 +113,7 @@ fn add_item<'src, 'a>(
     Ok(())
 }
 
-/// Puts what the items of the file at the place define behind what was found.
+/// Puts what the items of the file at the place define after what was found.
 fn add_items<'src, 'a>(
     found: &mut Vec<Definition<'src, 'a>>,
     items: &'a [Item<'src>],
@@ -126,7 +126,7 @@ fn add_items<'src, 'a>(
     Ok(())
 }
 
-/// Puts what the files of the range define behind what was found.
+/// Puts what the files of the range define after what was found.
 fn add_files<'src, 'a>(
     found: &mut Vec<Definition<'src, 'a>>,
     files: &'a [File<'src>],
@@ -192,7 +192,7 @@ fn submodule<'src, 'a>(
     }
 }
 
-/// Puts the submodules at the places of all modules behind what was found.
+/// Puts the submodules at the places of all modules after what was found.
 fn add_submodules<'src, 'a>(
     found: &mut Vec<Definition<'src, 'a>>,
     files: &'a [File<'src>],
@@ -208,7 +208,7 @@ fn add_submodules<'src, 'a>(
 }
 
 /// What the files of a module, which are those of the range, and its submodules, which stand at these places of all modules, define, in
-/// order. Refused only where memory is.
+/// order.
 pub fn definitions<'src, 'a>(
     alloc: Global,
     files: &'a [File<'src>],

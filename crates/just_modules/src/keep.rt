@@ -2,8 +2,8 @@
 
 use crate::definition::{Definition, Kind};
 use crate::truths::Truths;
-use just_compilation::{Error, ModuleNode, Place, RecipeName};
 use justfile_syntax::Name;
+use modules_compilation::{Error, ModuleNode, Place, RecipeName};
 use std::alloc::{AllocError, Global};
 
 /// The refusal of a second definition of a name.
@@ -81,25 +81,25 @@ pub fn kept<'src, 'a>(
     Ok(kept)
 }
 
-/// Puts the place behind the others.
+/// Puts the place after the others.
 fn add(list: &mut Vec<Place>, place: Place) -> Result<(), AllocError> {
     list.push(place)?;
     Ok(())
 }
 
-/// Notes the submodule behind the others.
+/// Notes the submodule after the others.
 fn add_module(list: &mut Vec<usize>, module: usize) -> Result<(), AllocError> {
     list.push(module)?;
     Ok(())
 }
 
-/// Notes the name behind the others.
+/// Notes the name after the others.
 fn add_name<'src>(list: &mut Vec<Name<'src>>, name: Name<'src>) -> Result<(), AllocError> {
     list.push(name)?;
     Ok(())
 }
 
-/// Notes the recipe behind the others.
+/// Notes the recipe after the others.
 fn add_recipe(node: &mut ModuleNode, front: u64, place: Place) -> Result<(), AllocError> {
     node.recipes.push(place)?;
     node.recipe_names.push(RecipeName { front, place })?;

@@ -10,8 +10,8 @@ mod rules;
 mod truths;
 
 pub use compiler::Compiler;
-pub use just_compilation::{
+pub use modules_compilation::{
     Compilation, Error, File, ModuleNode, Modulepath, Place, Source, Table, Target, folder_from,
     is_clean, key_from, path_token,
 };
-pub use just_sources::Parsed;
+pub use modules_sources::Parsed;

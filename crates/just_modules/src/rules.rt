@@ -2,11 +2,11 @@
 
 use crate::lists::{ListUse, list_use};
 use crate::truths::Truths;
-use just_compilation::Error;
 use justfile_syntax::{
     AttributeKind, CompileError, CompileErrorKind, Fragment, Item, Line, Os, Recipe, Token,
     UnresolvedDependency, UnstableFeature,
 };
+use modules_compilation::Error;
 
 /// A feature that may still change, and where it is used.
 #[derive(Clone, Copy)]

@@ -1,9 +1,9 @@
 //! The settings that decide which files are whole.
 
 use crate::definition::{Definition, Kind};
-use just_compilation::{File, Place};
-use just_sources::items_of;
 use justfile_syntax::{Item, Setting};
+use modules_compilation::{File, Place};
+use modules_sources::items_of;
 
 /// Settings of a module that say what its files may hold.
 #[derive(Clone, Copy, Debug, PartialEq, Eq)]

@@ -4,11 +4,11 @@ use crate::known_values::known_values;
 use crate::module_variables::module_variables;
 use crate::overrides::resolve_overrides;
 use crate::recipe_table::recipe_table;
-use just_analysis::{Analysis, KnownValues, ModuleVariables};
-use just_compilation::Compilation;
 use just_host::Config;
 use just_text::Number;
 use just_value::Override;
+use modules_compilation::Compilation;
+use resolve_analysis::{Analysis, KnownValues, ModuleVariables};
 use std::alloc::Global;
 use std::collections::BTreeMap;
 
@@ -59,10 +59,10 @@ impl Analyzer {
     ///
     /// Refused where a value is given for no variable; where an expression reads a name that stands
     /// for nothing, or calls no function or one with another number of arguments; where variables
-    /// read each other in a circle; where a setting is no constant or has no value; where a
+    /// read each other in a cycle; where a setting is no constant or has no value; where a
     /// dependency names no recipe, or one that takes another number of values, also one of a recipe
     /// that is disabled; where a dependency or an alias names a module; where recipes depend on each
-    /// other in a circle; and where memory is. Of recipes and variables those that are kept count.
+    /// other in a cycle; and where memory is. Of recipes and variables those that are kept count.
     pub fn analyze<'a, 'src>(
         alloc: Global,
         compilation: &'a Compilation<'src>,

@@ -1,10 +1,13 @@
 //! Why a justfile can't be resolved.
 ghost use Rattle.std.specs.Prelude.{◌≡◌};
+ghost use Rattle.std.specs.Option.{option_map};
+ghost use Rattle.modules_compilation.specs.Refusals.{start_of};
+ghost use Rattle.just_resolve.specs.Refusals as spec;
 
-use just_analysis::DependencyFault;
-use just_compilation::path_token;
-use just_references::ReadFault;
 use just_text::{Name, Namepath, Sequence, Text, Token};
+use modules_compilation::path_token;
+use resolve_analysis::DependencyFault;
+use resolve_references::ReadFault;
 use std::alloc::{AllocError, AllocFailed};
 
 /// Why a justfile can't be resolved. It prints its name in lower case and its fields between
@@ -14,13 +17,13 @@ pub enum Error<'src> {
     /// Memory ran out.
     OutOfMemory,
     /// The texts make no modules.
-    Compile(just_compilation::Error<'src>),
+    Compile(modules_compilation::Error<'src>),
     /// Each variable reads the next one, and the last is the first again.
     CircularVariable(Sequence<Name<'src>>),
     /// Each recipe depends on the next one, and the last is the first again.
     CircularRecipe(Sequence<Name<'src>>),
     /// A setting is no constant, or a constant that settings read has no value.
-    ConstEval(just_builtins::Error<'src>),
+    ConstEval(evaluate_context::Error<'src>),
     /// The dependency's recipe takes another number of values.
     DependencyArgumentCount {
         recipe: Name<'src>,
@@ -48,7 +51,9 @@ pub enum Error<'src> {
 }
 
 /// The token of the first name.
-fn first_token<'src>(names: &Sequence<Name<'src>>) -> Option<Token<'src>> {
+fn first_token<'src>(names: &Sequence<Name<'src>>) -> Option<Token<'src>>
+    ensures { result ≡ spec.first_of names.now }
+{
     match names.as_slice().first() {
         Some(name) => Some(name.token),
         None => None,
@@ -56,18 +61,22 @@ fn first_token<'src>(names: &Sequence<Name<'src>>) -> Option<Token<'src>> {
 }
 
 /// Where a constant is refused.
-fn const_place<'src>(error: &just_builtins::Error<'src>) -> Option<Token<'src>> {
+fn const_place<'src>(error: &evaluate_context::Error<'src>) -> Option<Token<'src>>
+    ensures { result ≡ spec.const_place error.now }
+{
     match error {
-        just_builtins::Error::Const(error) => Some(error.context()),
+        evaluate_context::Error::Const(error) => Some(error.context()),
         _ => None,
     }
 }
 
 impl<'src> Error<'src> {
     /// Where the refusal stands: at the variable, the call's name, the dependency's path, where the
-    /// circle begins, or where the constant is refused. Refusals of memory, of overrides and of
+    /// cycle begins, or where the constant is refused. Refusals of memory, of overrides and of
     /// modules in place of recipes have no place, nor have some of files and modules.
-    pub fn place(&self) -> Option<Token<'src>> {
+    pub fn place(&self) -> Option<Token<'src>>
+        ensures { option_map start_of result ≡ option_map start_of (spec.refusal_place self.now) }
+    {
         match self {
             Error::OutOfMemory | Error::ModuleAsRecipe(_) | Error::UnknownOverride(_) => None,
             Error::Compile(error) => error.place(),
@@ -104,10 +113,10 @@ impl<T: Drop> From<AllocFailed<T>> for Error<'_> {
     }
 }
 
-impl<'src> From<just_compilation::Error<'src>> for Error<'src> {
-    fn from(error: just_compilation::Error<'src>) -> Self {
+impl<'src> From<modules_compilation::Error<'src>> for Error<'src> {
+    fn from(error: modules_compilation::Error<'src>) -> Self {
         match error {
-            just_compilation::Error::OutOfMemory => Error::OutOfMemory,
+            modules_compilation::Error::OutOfMemory => Error::OutOfMemory,
             other => Error::Compile(other),
         }
     }
@@ -126,10 +135,10 @@ impl<'src> From<ReadFault<'src>> for Error<'src> {
     }
 }
 
-impl<'src> From<just_builtins::Error<'src>> for Error<'src> {
-    fn from(error: just_builtins::Error<'src>) -> Self {
+impl<'src> From<evaluate_context::Error<'src>> for Error<'src> {
+    fn from(error: evaluate_context::Error<'src>) -> Self {
         match error {
-            just_builtins::Error::OutOfMemory => Error::OutOfMemory,
+            evaluate_context::Error::OutOfMemory => Error::OutOfMemory,
             other => Error::ConstEval(other),
         }
     }
@@ -162,7 +171,10 @@ fn module_as_recipe<'src>(path: &Namepath<'src>) -> Error<'src> {
 /// That the alias stands for nothing.
 fn unknown_alias_target<'src>(alias: Name<'src>, target: &Namepath<'src>) -> Error<'src> {
     match target.clone() {
-        Ok(target) => Error::Compile(just_compilation::Error::UnknownAliasTarget { alias, target }),
+        Ok(target) => Error::Compile(modules_compilation::Error::UnknownAliasTarget {
+            alias,
+            target,
+        }),
         Err(_) => Error::OutOfMemory,
     }
 }

@@ -8,7 +8,7 @@ use crate::error::Error;
 use just_text::Name;
 use std::fmt;
 
-/// Writes the names behind the first one, each between backticks and behind a comma.
+/// Writes the names after the first one, each between backticks and after a comma.
 fn write_more<W: fmt::Write>(f: &mut fmt::Formatter<W>, names: &[Name]) -> fmt::Result
     ensures { WritesOnOk W.write_str_gives f.old result (ticked_more (map spec.name_text names.now)) f.new }
 {
@@ -18,7 +18,7 @@ fn write_more<W: fmt::Write>(f: &mut fmt::Formatter<W>, names: &[Name]) -> fmt::
     Ok(())
 }
 
-/// Writes the names behind a colon, if there is one.
+/// Writes the names after a colon, if there is one.
 fn write_names<W: fmt::Write>(f: &mut fmt::Formatter<W>, names: &[Name]) -> fmt::Result
     ensures { WritesOnOk W.write_str_gives f.old result (fields_behind (map spec.name_text names.now)) f.new }
 {
@@ -49,7 +49,7 @@ impl Error<'_> {
         }
     }
 
-    /// Writes what stands behind its name.
+    /// Writes what stands after its name.
     fn write_fields<W: fmt::Write>(&self, f: &mut fmt::Formatter<W>) -> fmt::Result
         ensures { WritesOnOk W.write_str_gives f.old result (spec.behind_name self.now) f.new }
     {

@@ -1,12 +1,12 @@
 //! What is known before anything is evaluated: the texts that words give, settings and folders.
 use crate::error::Error;
 use crate::settled::settled;
-use just_analysis::{KnownValues, ModuleLists, ModuleReads};
-use just_builtins::Settings;
-use just_compilation::{Compilation, ModuleNode};
-use just_functions::paths;
+use evaluate_context::Settings;
+use evaluate_functions::paths;
 use just_text::{Number, Text};
 use just_value::{Scope, path};
+use modules_compilation::{Compilation, ModuleNode};
+use resolve_analysis::{KnownValues, ModuleLists, ModuleReads};
 use std::alloc::{AllocError, Global};
 use std::collections::BTreeMap;
 

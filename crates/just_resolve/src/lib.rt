@@ -2,7 +2,7 @@
 #![tactic(auto)]
 
 pub mod analyzer;
-pub mod circles;
+pub mod cycles;
 pub mod error;
 mod error_text;
 pub mod known_values;
@@ -14,7 +14,7 @@ pub mod settled;
 
 pub use analyzer::Analyzer;
 pub use error::Error;
-pub use just_analysis::{
+pub use resolve_analysis::{
     Analysis, KnownValues, ModuleLists, ModuleVariables, RecipeTable, ResolvedAlias,
     ResolvedRecipe, collect_references, default_recipe, number_variables, views,
 };

@@ -1,10 +1,10 @@
 //! The variables of all modules, what they read, and their orders.
-use crate::circles::variables_in_order;
+use crate::cycles::variables_in_order;
 use crate::error::Error;
-use just_analysis::{ModuleLists, ModuleReads, ModuleVariables, all_lists, reads_of};
-use just_compilation::Compilation;
-use just_references::ReadFault;
 use just_text::Number;
+use modules_compilation::Compilation;
+use resolve_analysis::{ModuleLists, ModuleReads, ModuleVariables, all_lists, reads_of};
+use resolve_references::ReadFault;
 use std::alloc::Global;
 use std::collections::BTreeMap;
 
@@ -53,7 +53,7 @@ fn read_variables<'src, 'a>(
 
 /// What the modules keep and read, where words give texts for the variables of these numbers. Refused
 /// where an expression reads a name that stands for nothing, or calls no function or one with another
-/// number of arguments; where variables read each other in a circle; and where memory is.
+/// number of arguments; where variables read each other in a cycle; and where memory is.
 pub fn module_variables<'src, 'a>(
     alloc: Global,
     compilation: &'a Compilation<'src>,

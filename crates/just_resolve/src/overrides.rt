@@ -1,9 +1,9 @@
 //! Variables that words give a value for.
 use crate::error::Error;
-use just_analysis::{find, find_module};
-use just_compilation::{Compilation, Place};
 use just_text::{Number, Text};
 use just_value::Override;
+use modules_compilation::{Compilation, Place};
+use resolve_analysis::{find, find_module};
 use std::alloc::{AllocError, Global};
 use std::collections::BTreeMap;
 
@@ -22,7 +22,7 @@ fn variable_number(compilation: &Compilation, module: usize, name: &str) -> Opti
     assignment_number(compilation, place)
 }
 
-/// The number of the variable that is called so: by its name in the root, or behind the names of
+/// The number of the variable that is called so: by its name in the root, or after the names of
 /// the modules that lead to it, with `::` between two.
 fn overridden_number(compilation: &Compilation, name: &str) -> Option<Number> {
     match name.rsplit_once("::") {

@@ -1,14 +1,14 @@
 //! The recipes of all modules in their order, and what aliases stand for.
-use crate::circles::recipe_order;
+use crate::cycles::recipe_order;
 use crate::error::Error;
 use crate::recipes::resolved_recipe;
-use just_analysis::{
+use modules_compilation::{Compilation, Place};
+use resolve_analysis::{
     DependencyFault, ItemPlaces, ModuleReads, RecipeNode, RecipeResolver, RecipeTable,
     ResolvedAlias, ResolvedRecipe, all_needs, check_dependencies, ranks, recipe_nodes,
     recipe_places, resolved_aliases, value_counts,
 };
-use just_compilation::{Compilation, Place};
-use just_references::ReadFault;
+use resolve_references::ReadFault;
 use std::alloc::{AllocError, Global};
 
 /// Whether the dependencies of the module's recipes that are disabled name recipes.
@@ -57,7 +57,7 @@ fn check_disabled<'a, 'src>(
     Ok(())
 }
 
-/// Puts the recipe with these needs behind the others.
+/// Puts the recipe with these needs after the others.
 fn add_recipe<'src>(
     alloc: Global,
     node: &RecipeNode<'src, '_>,
@@ -190,10 +190,10 @@ fn table_of_nodes<'src, 'a>(
     resolved_table(alloc, compilation, &resolver, nodes, reads)
 }
 
-/// The recipes that are kept, each behind those that it depends on, and what aliases stand for; the
+/// The recipes that are kept, each after those that it depends on, and what aliases stand for; the
 /// modules read this. Refused where a dependency names no recipe, or one that takes another number of
 /// values, also one of a recipe that is disabled; where a dependency or an alias names a module; where
-/// recipes depend on each other in a circle; where a recipe reads a name that stands for nothing, or
+/// recipes depend on each other in a cycle; where a recipe reads a name that stands for nothing, or
 /// calls no function or one with another number of arguments; and where memory is.
 pub fn recipe_table<'src, 'a>(
     alloc: Global,

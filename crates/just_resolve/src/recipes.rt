@@ -1,8 +1,8 @@
 //! Recipes with what they depend on and read.
-use just_analysis::{RecipeNode, ResolvedRecipe};
-use just_references::{ReadFault, VariableResolver, recipe_references};
-use just_tree::{Recipe, UnresolvedDependency};
+use resolve_analysis::{RecipeNode, ResolvedRecipe};
+use resolve_references::{ReadFault, VariableResolver, recipe_references};
 use std::alloc::{AllocError, Global};
+use tree_items::{Recipe, UnresolvedDependency};
 
 /// The ranks of these places.
 fn ranks_at(alloc: Global, ranks: &[usize], places: &[usize]) -> Result<Vec<usize>, AllocError> {

@@ -1,16 +1,16 @@
 //! The values of each module's settings.
 use crate::error::Error;
-use just_analysis::{ModuleLists, ModuleReads, add_marked};
-use just_attribute_tree::Setting;
-use just_builtins::{AssignmentRef, Settings};
-use just_compilation::{Compilation, Place};
-use just_references::{ReadFault, VariableResolver, set_references};
+use evaluate_context::{AssignmentRef, Settings};
 use just_text::Number;
-use just_tree::Set;
 use just_value::Scope;
 use justfile_evaluator::{ConstEvaluator, evaluate_const_assignments};
+use modules_compilation::{Compilation, Place};
+use resolve_analysis::{ModuleLists, ModuleReads, add_marked};
+use resolve_references::{ReadFault, VariableResolver, set_references};
 use std::alloc::{AllocError, Global};
 use std::collections::{BTreeMap, BTreeSet};
+use tree_attributes::Setting;
+use tree_items::Set;
 
 /// What the setting reads and calls.
 fn reads_of_set<'src>(
@@ -88,7 +88,7 @@ fn set_all<'src>(
     sets: &[Place],
     known: &ConstEvaluator<'_, 'src>,
     settings: &mut Settings,
-) -> Result<(), just_builtins::Error<'src>> {
+) -> Result<(), evaluate_context::Error<'src>> {
     for place in sets {
         if let Some(set) = compilation.set(*place) {
             known.evaluate_set(alloc, settings, set)?;
@@ -103,7 +103,7 @@ fn settings_at<'src>(
     compilation: &Compilation<'src>,
     sets: &[Place],
     known: &ConstEvaluator<'_, 'src>,
-) -> Result<Settings, just_builtins::Error<'src>> {
+) -> Result<Settings, evaluate_context::Error<'src>> {
     let mut settings = Settings::new(alloc);
     match set_all(alloc, compilation, sets, known, &mut settings) {
         Ok(()) => Ok(settings),
@@ -125,7 +125,7 @@ fn known_settings<'src>(
     overrides: &BTreeMap<Number, String>,
     constants: &Scope<'_, 'src>,
     numbers: &BTreeSet<Number>,
-) -> Result<Settings, just_builtins::Error<'src>> {
+) -> Result<Settings, evaluate_context::Error<'src>> {
     let lists = sets_lists(compilation, sets);
     let known = evaluate_const_assignments(
         alloc,
@@ -140,7 +140,7 @@ fn known_settings<'src>(
 }
 
 /// The values of the module's settings, which stand at these places, by constants alone; its
-/// variables' places are given each behind those that it reads. Refused where a setting reads or calls what
+/// variables' places are given each after those that it reads. Refused where a setting reads or calls what
 /// is not there, is no constant or has no value, or where a constant that it reads has none; and
 /// where memory is.
 pub fn settled<'src>(

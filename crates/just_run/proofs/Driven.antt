@@ -4,18 +4,18 @@ use Rattle.just_host.specs.Record.{Record}
 use Rattle.just_host.specs.Follows.{Follows, Nothing}
 use Rattle.just_host.specs.Steps.{idle}
 use Rattle.just_host.specs.declared.entry.Entry.{Entry}
-use Rattle.just_plain_run.specs.Inputs.{Inputs}
-use Rattle.just_plain_run.specs.Setup.{Setup}
-use Rattle.just_plain_run.specs.Rules.{Rule, Broken, is_of_words}
-use Rattle.just_plain_run.specs.Goes.{Failure}
-use Rattle.just_plain_run.specs.Drives.{Verdict, ran_out, breaks, fails, verdict, NamesBroken, IsRefusal, IsRefused, RunsOf, IfRun, Ended}
-use Rattle.just_plain_run.specs.Stages.{IsTold}
-use Rattle.just_plain_run.specs.declared.fault.Fault as plain_fault
-use Rattle.just_plain_run.specs.declared.fault.Fault.TheVariants as plain_faults
-use Rattle.just_plain_run.specs.declared.outcome.Outcome as plain_outcome
+use Rattle.run_plain.specs.Inputs.{Inputs}
+use Rattle.run_plain.specs.Setup.{Setup}
+use Rattle.run_plain.specs.Rules.{Rule, Broken, is_of_words}
+use Rattle.run_plain.specs.Goes.{Failure}
+use Rattle.run_plain.specs.Drives.{Verdict, ran_out, breaks, fails, verdict, NamesBroken, IsRefusal, IsRefused, RunsOf, IfRun, Ended}
+use Rattle.run_plain.specs.Stages.{IsTold}
+use Rattle.run_plain.specs.declared.fault.Fault as plain_fault
+use Rattle.run_plain.specs.declared.fault.Fault.TheVariants as plain_faults
+use Rattle.run_plain.specs.declared.outcome.Outcome as plain_outcome
 use Rattle.just_run.specs.Plain.{AnswersPlain, fault_of, answer_of}
 use Rattle.just_run.specs.declared.fault.Fault.TheVariants.{OutOfMemory}
-use Rattle.just_plain_run.proofs.Driven.{told_refuses, told_answers, told_ends}
+use Rattle.run_plain.proofs.Driven.{told_refuses, told_answers, told_ends}
 
 -- want of memory answers anything
 pub ran_out_answers : {H : Type 0} (goes : H → List Entry → H → Type 0) → Nothing goes → (i : Inputs) (s : Setup) (host : Record H) → AnswersPlain goes i s (Err OutOfMemory) host host

@@ -2,11 +2,11 @@
 use Rattle.std.proofs.Common.{◌≡◌, ℕ, List, Bool, true, false, Result, Ok, Err, IfErr, inl, inr, refl, sym, subst}
 use Rattle.just_host.specs.Record.{Record}
 use Rattle.just_host.specs.declared.entry.Entry.{Entry}
-use Rattle.just_plain_run.specs.Inputs.{Inputs}
-use Rattle.just_plain_run.specs.Setup.{Setup}
-use Rattle.just_plain_run.specs.Drives.{verdict, NamesBroken}
-use Rattle.just_plain_run.specs.declared.fault.Fault as plain_fault
-use Rattle.just_plain_run.specs.declared.outcome.Outcome as plain_outcome
+use Rattle.run_plain.specs.Inputs.{Inputs}
+use Rattle.run_plain.specs.Setup.{Setup}
+use Rattle.run_plain.specs.Drives.{verdict, NamesBroken}
+use Rattle.run_plain.specs.declared.fault.Fault as plain_fault
+use Rattle.run_plain.specs.declared.outcome.Outcome as plain_outcome
 use Rattle.just_run.specs.Early.{IsEarly, IsLate}
 use Rattle.just_run.specs.Plain.{AnswersPlain, answer_of, fault_of}
 use Rattle.just_run.specs.Plans.{IsKeptBy, IsOfRun, IsPlanned, IsWrittenPlan, Plans, breaks_rule}

@@ -3,12 +3,12 @@ use Rattle.std.proofs.Common.{◌≡◌, ℕ, List, Bool, true, false, Result, O
 use Rattle.just_host.specs.Record.{Record}
 use Rattle.just_host.specs.Follows.{Follows, questions}
 use Rattle.just_host.specs.declared.entry.Entry.{Entry}
-use Rattle.just_plain_run.specs.Inputs.{Inputs}
-use Rattle.just_plain_run.specs.Drives.{Verdict, ran_out, breaks, fails, verdict, NamesBroken}
-use Rattle.just_plain_run.specs.declared.fault.Fault as plain_fault
-use Rattle.just_plain_run.specs.declared.fault.Fault.TheVariants as plain_faults
+use Rattle.run_plain.specs.Inputs.{Inputs}
+use Rattle.run_plain.specs.Drives.{Verdict, ran_out, breaks, fails, verdict, NamesBroken}
+use Rattle.run_plain.specs.declared.fault.Fault as plain_fault
+use Rattle.run_plain.specs.declared.fault.Fault.TheVariants as plain_faults
 use Rattle.std.specs.Result.{result_and}
-use Rattle.just_plan.specs.Plans.{plan_text}
+use Rattle.run_plan.specs.Plans.{plan_text}
 use Rattle.just_run.specs.Plain.{fault_of}
 use Rattle.just_run.specs.Plans.{IsEnd, IsKeptBy, IsOfRun, IsOther, IsSent, IsWrittenPlan, Plans, breaks_rule}
 use Rattle.just_run.specs.declared.fault.Fault.{Fault}
@@ -35,7 +35,6 @@ failed_is_of_run plain_faults.OutOfMemory e = tt
 failed_is_of_run (plain_faults.NoRootForWord word) e = absurd (let f : true ≡ false = e in cc)
 failed_is_of_run (plain_faults.MissingRoot path) e = e
 failed_is_of_run (plain_faults.Syntax error) e = e
-failed_is_of_run (plain_faults.NotYet path) e = e
 failed_is_of_run (plain_faults.Redefinition name) e = e
 failed_is_of_run (plain_faults.UnknownDependency recipe dependency) e = e
 failed_is_of_run (plain_faults.CircularRecipe names) e = e

@@ -1,9 +1,9 @@
 -- The root file, read from the lists of files and modules.
 use Rattle.std.proofs.Common.{◌≡◌, ℕ, ◌<◌, List, length, get_or, slice_get, Some, sym, ap, ap₂, ◌∙◌}
 use Rattle.std.proofs.lemmas.Option.{slice_get-get_or}
-use Rattle.just_compilation.specs.declared.compilation.Compilation.{Compilation}
-use Rattle.just_compilation.specs.declared.module_node.File.{File}
-use Rattle.just_compilation.specs.declared.module_node.ModuleNode.{ModuleNode}
+use Rattle.modules_compilation.specs.declared.compilation.Compilation.{Compilation}
+use Rattle.modules_compilation.specs.declared.module_node.File.{File}
+use Rattle.modules_compilation.specs.declared.module_node.ModuleNode.{ModuleNode}
 use Rattle.just_run.specs.Texts.{file_place, root_file}
 
 pub root_is : (compilation : Compilation) (files : List File) (modules : List ModuleNode) (place : ℕ) (file : File) → files ≡ compilation.files.items → modules ≡ compilation.modules.items

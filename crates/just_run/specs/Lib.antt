@@ -1,4 +1,5 @@
 pub mod Early
+pub mod Faulted
 pub mod Plain
 pub mod Plans
 pub mod Requests

@@ -3,13 +3,13 @@ use Rattle.std.specs.Prelude.{◌≡◌, ℕ, List, Option, Some, None, Result, 
 use Rattle.just_host.specs.Record.{Record}
 use Rattle.just_host.specs.Follows.{Follows}
 use Rattle.just_host.specs.declared.entry.Entry.{Entry}
-use Rattle.just_plain_run.specs.Inputs.{Inputs}
-use Rattle.just_plain_run.specs.Setup.{Setup}
-use Rattle.just_plain_run.specs.Rules.{Rule, Broken, not_yet}
-use Rattle.just_plain_run.specs.Drives.{verdict, NamesBroken, IsRefusal, RunsOf, IfRun}
-use Rattle.just_plain_run.specs.declared.fault.Fault as plain_fault
-use Rattle.just_plain_run.specs.declared.fault.Fault.TheVariants as plain_faults
-use Rattle.just_plain_run.specs.declared.outcome.Outcome as plain_outcome
+use Rattle.run_plain.specs.Inputs.{Inputs}
+use Rattle.run_plain.specs.Setup.{Setup}
+use Rattle.run_plain.specs.Rules.{Rule, Broken, not_yet}
+use Rattle.run_plain.specs.Drives.{verdict, NamesBroken, IsRefusal, RunsOf, IfRun}
+use Rattle.run_plain.specs.declared.fault.Fault as plain_fault
+use Rattle.run_plain.specs.declared.fault.Fault.TheVariants as plain_faults
+use Rattle.run_plain.specs.declared.outcome.Outcome as plain_outcome
 use Rattle.justfile_syntax.specs.declared.plain_files.ast.Ast.{Ast}
 use Rattle.just_run.specs.declared.driver.Way.{Way}
 use Rattle.just_run.specs.declared.driver.Way.TheVariants as ways

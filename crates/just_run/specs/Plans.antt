@@ -3,9 +3,9 @@ use Rattle.std.specs.Prelude.{◌≡◌, ◌++◌, ◌⊎◌, ℕ, Bool, true, f
 use Rattle.just_host.specs.Record.{Record}
 use Rattle.just_host.specs.Follows.{Follows, questions}
 use Rattle.just_host.specs.declared.entry.Entry.{Entry}
-use Rattle.just_plain_run.specs.Drives.{Verdict, breaks, verdict}
-use Rattle.just_plain_run.specs.Out.{IsPartOf}
-use Rattle.just_plan.specs.Plans.{plan_text}
+use Rattle.run_plain.specs.Drives.{Verdict, breaks, verdict}
+use Rattle.just_host.specs.Out.{IsPartOf}
+use Rattle.run_plan.specs.Plans.{plan_text}
 use Rattle.just_run.specs.Writes.{IsKept, GrewBy}
 use Rattle.just_run.specs.declared.fault.Fault.{Fault}
 use Rattle.just_run.specs.declared.fault.Fault.TheVariants as faults
@@ -34,12 +34,12 @@ abbrev pub IsEnd : Result Outcome Fault → Type 0
 IsEnd (Ok outcome) = outcome ≡ outcomes.Planned
 IsEnd (Err fault) = IsOfRun fault
 
--- the plan went out; or the output took no more behind a beginning of it; or memory ran out, and nothing went out
+-- the plan went out; or the output took no more after a beginning of it; or memory ran out, and nothing went out
 abbrev pub IsSent : {T : Type 0} → List ℕ → List ℕ → Result T Fault → List ℕ → Type 0
 IsSent old plan (Ok sent) new = new ≡ old ++ plan
 IsSent old plan (Err fault) new = ((fault ≡ faults.Write) × IsPartOf old plan new) ⊎ ((fault ≡ faults.OutOfMemory) × (new ≡ old))
 
--- The plan went out, and that is answered; or the output took no more behind a beginning of it; or memory ran out, and nothing
+-- The plan went out, and that is answered; or the output took no more after a beginning of it; or memory ran out, and nothing
 -- went out; or the run failed, and the plan of what came before that went out.
 abbrev pub IsWrittenPlan : List ℕ → List ℕ → Result Outcome Fault → List ℕ → Type 0
 IsWrittenPlan old plan (Ok outcome) new = (outcome ≡ outcomes.Planned) × (new ≡ old ++ plan)
@@ -60,6 +60,6 @@ IsOther answer = Unit {0}
 abbrev pub Plans : {H : Type 0} → (H → List Entry → H → Type 0) → Record H → List ℕ → Result Outcome Fault → Record H → List ℕ → Type 0
 Plans goes old before result new behind = (IsOther result × (new ≡ old)) ⊎ IsPlanned goes old before result new behind
 
--- nothing went out behind a refusal, unless the output took no more, or a run failed whose plan went out
+-- nothing went out after a refusal, unless the output took no more, or a run failed whose plan went out
 abbrev pub IsKeptBy : Action → List ℕ → Fault → List ℕ → Type 0
 IsKeptBy action old fault new = IsKept old fault new ⊎ ((action ≡ actions.Plan) × (IsOfRun fault × GrewBy old new))

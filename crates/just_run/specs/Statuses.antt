@@ -2,7 +2,7 @@
 use Rattle.std.specs.Prelude.{ℕ, ◌+◌, min}
 use Rattle.just_host.specs.declared.host.Status.{Status}
 use Rattle.just_host.specs.declared.host.Status.TheVariants as ends
-use Rattle.just_plain_run.specs.Faulted.{status_of as plain_status}
+use Rattle.run_plain.specs.Faulted.{status_of as plain_status}
 use Rattle.just_run.specs.declared.fault.Fault.{Fault}
 use Rattle.just_run.specs.declared.fault.Fault.TheVariants.{Plain, Code, Signal, Command}
 

@@ -2,15 +2,15 @@
 use Rattle.std.specs.Prelude.{◌≡◌, ℕ, List, [], Option, Some, None, codes, slice_get, unwrap_or, Result, Ok, Err, if◌then◌else◌}
 use Rattle.std.specs.String.{string_bytes}
 use Rattle.just_text.specs.declared.os.Os.{Os}
-use Rattle.just_tree.specs.declared.ast.Item.{Item}
-use Rattle.just_tree.specs.Files.{file_text, item_shapes}
-use Rattle.just_tree.specs.Printable.{printable}
-use Rattle.just_tree.specs.FileIndentation.{file_indentation}
-use Rattle.just_compilation.specs.declared.compilation.Compilation.{Compilation}
-use Rattle.just_compilation.specs.declared.module_node.File.{File}
-use Rattle.just_compilation.specs.declared.module_node.ModuleNode.{ModuleNode}
-use Rattle.just_tasks.specs.declared.task.Performed.{Performed}
-use Rattle.just_tasks.specs.declared.task.Performed.TheVariants.{Ran, Evaluated}
+use Rattle.tree_items.specs.declared.ast.Item.{Item}
+use Rattle.tree_items.specs.Files.{file_text, item_shapes}
+use Rattle.tree_items.specs.Printable.{printable}
+use Rattle.tree_items.specs.FileIndentation.{file_indentation}
+use Rattle.modules_compilation.specs.declared.compilation.Compilation.{Compilation}
+use Rattle.modules_compilation.specs.declared.module_node.File.{File}
+use Rattle.modules_compilation.specs.declared.module_node.ModuleNode.{ModuleNode}
+use Rattle.run_tasks.specs.declared.task.Performed.{Performed}
+use Rattle.run_tasks.specs.declared.task.Performed.TheVariants.{Ran, Evaluated}
 use Rattle.just_run.specs.declared.fault.Fault.{Fault}
 use Rattle.just_run.specs.declared.fault.Fault.TheVariants.{OutOfMemory, NotPrintable}
 use Rattle.just_run.specs.declared.outcome.Outcome.{Outcome}

@@ -1,6 +1,6 @@
 -- What was written.
 use Rattle.std.specs.Prelude.{◌≡◌, ◌++◌, ◌+◌, ◌<◌, ◌^◌, ◌⊎◌, ℕ, List, Result, Ok, Err}
-use Rattle.just_plain_run.specs.Out.{IsPartOf, Sent}
+use Rattle.just_host.specs.Out.{IsPartOf, Sent}
 use Rattle.just_run.specs.declared.fault.Fault.{Fault}
 use Rattle.just_run.specs.declared.fault.Fault.TheVariants.{OutOfMemory, Write}
 use Rattle.just_run.specs.declared.outcome.Outcome.{Outcome}
@@ -10,11 +10,11 @@ pub record GrewBy (old new : List ℕ) : Type 0 where
   pub sent : List ℕ
   pub bytes : new ≡ old ++ sent
 
--- nothing went out behind a refusal, unless the output took no more
+-- nothing went out after a refusal, unless the output took no more
 abbrev pub IsKept : List ℕ → Fault → List ℕ → Type 0
 IsKept old fault new = (new ≡ old) ⊎ ((fault ≡ Write) × GrewBy old new)
 
--- The text went out, and the outcome is answered; or the output took no more behind a beginning, which counts as one failure; or memory ran out, and nothing went out.
+-- The text went out, and the outcome is answered; or the output took no more after a beginning, which counts as one failure; or memory ran out, and nothing went out.
 abbrev pub Writes : Sent → List ℕ → Outcome → Result Outcome Fault → Sent → Type 0
 Writes old text outcome (Ok answer) new = (answer ≡ outcome) × (new.written ≡ old.written ++ text) × (new.failed ≡ old.failed)
 Writes old text outcome (Err Write) new = IsPartOf old.written text new.written × (old.failed + 1 < 2 ^ 64 → new.failed ≡ old.failed + 1)

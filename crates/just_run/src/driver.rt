@@ -1,16 +1,16 @@
 //! The whole: from texts and words to what is done.
 ghost use Rattle.std.specs.Prelude.{◌≡◌, IfErr, option_map};
 ghost use Rattle.justfile_syntax.specs.PlainShapes.{shape_of};
-ghost use Rattle.just_plain_run.specs.Inputs.{Inputs, inputs_of, reader_of};
-ghost use Rattle.just_plain_run.specs.Setup.{setup_of};
-ghost use Rattle.just_plain_run.specs.Stages.{IsRead, IsRoot};
+ghost use Rattle.run_plain.specs.Inputs.{Inputs, inputs_of, reader_of};
+ghost use Rattle.run_plain.specs.Setup.{setup_of};
+ghost use Rattle.run_plain.specs.Stages.{IsRead, IsRoot};
 ghost use Rattle.just_run.specs.Early.{IsEarly, IsLate};
 ghost use Rattle.just_run.specs.Plain.{IsPlain, AnswersPlain, IsWay};
 ghost use Rattle.just_run.specs.Plans.{IsKeptBy, Plans};
 ghost use Rattle.just_run.specs.Requests.{IsText};
 ghost use Rattle.just_run.specs.Writes.{IsKept};
 ghost use Rattle.just_run.specs.declared.outcome.Action.TheVariants.{Plan, Run};
-ghost use Rattle.just_builtins.specs.Asking.{Asks, IsAsked};
+ghost use Rattle.just_host.specs.Asking.{Asks, IsAsked};
 
 use crate::fault::Fault;
 use crate::outcome::{Action, Outcome, Trees};
@@ -18,14 +18,14 @@ use crate::plan::{drive_plan, plan_file};
 use crate::prepared::perform_task;
 use crate::request::{Request, request_of};
 use crate::texts::{tell, write_performed};
-use just_host::{Config, Recorded, RunHost};
+use just_host::{Config, Out, Recorded, RunHost};
 use just_modules::{Compilation, Compiler, Parsed};
-use just_plain_run::{Out, Root, read_root, run_file};
 use just_resolve::{Analysis, Analyzer, number_variables};
-use just_tasks::Task;
 use just_value::Positional;
 use justfile_syntax::Expander;
 use justfile_syntax::plain_files::Ast as PlainAst;
+use run_plain::{Root, read_root, run_file};
+use run_tasks::Task;
 use std::alloc::Global;
 use std::collections::BTreeMap;
 use std::mem;
@@ -296,7 +296,7 @@ fn drive_root<'src, E: Expander, H: RunHost + Drop, O: Out>(
 ///
 /// A call is refused before anything is asked of the host where a rule is broken: of the files that
 /// are reached, of their modules, names and orders, or of the words. Else all modules open, parents
-/// first, and the recipes that the words name run, each behind all that it depends on, none twice
+/// first, and the recipes that the words name run, each after all that it depends on, none twice
 /// with the same values, up to the first command that fails; or what they would hand over up to there
 /// is written, and nothing is handed over; or the variables are written, or the one command runs. A
 /// file of plain recipes that names no other runs, or is planned, by a shorter way, to the same end.

@@ -1,15 +1,19 @@
 //! Why a call is refused, or how a run failed.
-ghost use Rattle.std.specs.Prelude.{◌≡◌};
+ghost use Rattle.std.specs.Prelude.{◌≡◌, Some};
+ghost use Rattle.std.specs.Fmt.{WritesOnOk};
+ghost use Rattle.std.specs.Option.{option_map};
+ghost use Rattle.modules_compilation.specs.Refusals.{start_of};
+ghost use Rattle.just_run.specs.Faulted as spec;
 ghost use Rattle.just_run.specs.Statuses.{command_status, status_of};
 ghost use Rattle.just_run.specs.declared.fault.Fault.TheVariants.{OutOfMemory, Write};
 
-use just_host::{HostFault, Status};
-use just_invocations::WordFault;
-use just_plain_run::{Fault as PlainFault, WriteFailed};
-use just_runner::RunFault;
-use just_tasks::{CommandFault, TaskFault};
+use analyze_runs::RunFault;
+use analyze_words::WordFault;
+use just_host::{HostFault, Status, WriteFailed};
 use justfile_evaluator::Error as EvaluationError;
 use justfile_syntax::{Name, Text, Token};
+use run_plain::Fault as PlainFault;
+use run_tasks::{CommandFault, TaskFault};
 use std::alloc::{AllocError, AllocFailed};
 use std::fmt;
 
@@ -87,7 +91,9 @@ impl<'src> Fault<'src> {
     }
 
     /// Where in a source the refusal stands, if it has a place.
-    pub fn place(&self) -> Option<Token<'src>> {
+    pub fn place(&self) -> Option<Token<'src>>
+        ensures { option_map start_of result ≡ option_map start_of (spec.fault_place self.now) }
+    {
         match self {
             Fault::Plain(fault) => fault.place(),
             Fault::Justfile(error) => error.place(),
@@ -96,7 +102,9 @@ impl<'src> Fault<'src> {
     }
 
     /// Whether nothing is to be said of it: a command failed, and its exit has no message.
-    pub fn is_silent(&self) -> bool {
+    pub fn is_silent(&self) -> bool
+        ensures { result ≡ spec.is_silent_fault self.now }
+    {
         match self {
             Fault::Code { is_silent, .. } | Fault::Signal { is_silent, .. } => *is_silent,
             Fault::Command(fault) => fault.is_silent,
@@ -106,7 +114,9 @@ impl<'src> Fault<'src> {
 }
 
 /// Writes why a recipe or a command failed, nothing of other faults.
-fn write_failure<W: fmt::Write>(f: &mut fmt::Formatter<W>, fault: &Fault) -> fmt::Result {
+fn write_failure<W: fmt::Write>(f: &mut fmt::Formatter<W>, fault: &Fault) -> fmt::Result
+    ensures { WritesOnOk W.write_str_gives f.old result (spec.failure_text fault.now) f.new }
+{
     match fault {
         Fault::Code { recipe, code, .. } => {
             write!(f, "recipe `{recipe}` failed with exit code {code}")
@@ -122,7 +132,9 @@ fn write_failure<W: fmt::Write>(f: &mut fmt::Formatter<W>, fault: &Fault) -> fmt
 }
 
 /// Writes which rule is broken, nothing of other faults.
-fn write_rule<W: fmt::Write>(f: &mut fmt::Formatter<W>, fault: &Fault) -> fmt::Result {
+fn write_rule<W: fmt::Write>(f: &mut fmt::Formatter<W>, fault: &Fault) -> fmt::Result
+    ensures { WritesOnOk W.write_str_gives f.old result (spec.rule_text fault.now) f.new }
+{
     match fault {
         Fault::Plain(fault) => fmt::Display::fmt(fault, f),
         Fault::Justfile(error) => fmt::Display::fmt(error, f),
@@ -134,6 +146,8 @@ fn write_rule<W: fmt::Write>(f: &mut fmt::Formatter<W>, fault: &Fault) -> fmt::R
 }
 
 impl fmt::Display for Fault<'_> {
+    ghost output = { λ fault. Some (spec.fault_text fault) };
+
     fn fmt<W: fmt::Write>(&self, f: &mut fmt::Formatter<W>) -> fmt::Result {
         match self {
             Fault::OutOfMemory => f.write_str("out of memory"),

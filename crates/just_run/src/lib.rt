@@ -12,10 +12,10 @@ mod texts;
 pub use driver::drive;
 pub use fault::Fault;
 pub use just_host::{
-    Answer, CommandJob, Config, Confirmation, DotenvRequest, Entry, Host, HostFault, MachineFact,
-    Pair, Question, Recorded, RunHost, ScriptJob, Shared, Status,
+    Answer, Collected, CommandJob, Config, Confirmation, Device, DotenvRequest, Entry, Host,
+    HostFault, MachineFact, Out, Pair, Question, Recorded, RunHost, ScriptJob, Shared, Status,
+    WriteFailed, write_all,
 };
-pub use just_plain_run::{Collected, Device, Out, WriteFailed, write_all};
-pub use just_tasks::CommandFault;
 pub use just_value::{Override, Positional};
 pub use outcome::{Action, Outcome, Trees};
+pub use run_tasks::CommandFault;

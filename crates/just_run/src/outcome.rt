@@ -26,7 +26,7 @@ pub enum Action {
 pub enum Trees {
     /// They are dropped.
     Dropped,
-    /// They are left where they are, for a process that ends behind the call: the system takes its
+    /// They are left where they are, for a process that ends after the call: the system takes its
     /// memory back at once.
     Left,
 }

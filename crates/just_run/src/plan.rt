@@ -4,10 +4,10 @@ ghost use Rattle.std.specs.String.{string_bytes};
 ghost use Rattle.justfile_syntax.specs.PlainShapes.{shape_of};
 ghost use Rattle.just_host.specs.Follows.{Follows, questions};
 ghost use Rattle.just_host.specs.declared.entry.Entry.{Entry};
-ghost use Rattle.just_plain_run.specs.Drives.{verdict};
-ghost use Rattle.just_plain_run.specs.Inputs.{Inputs};
-ghost use Rattle.just_plain_run.specs.Stages.{IsRead};
-ghost use Rattle.just_plan.specs.Plans.{plan_text};
+ghost use Rattle.run_plain.specs.Drives.{verdict};
+ghost use Rattle.run_plain.specs.Inputs.{Inputs};
+ghost use Rattle.run_plain.specs.Stages.{IsRead};
+ghost use Rattle.run_plan.specs.Plans.{plan_text};
 ghost use Rattle.just_run.specs.Plain.{fault_of};
 ghost use Rattle.just_run.specs.Plans as spec;
 ghost use Rattle.just_run.specs.Plans.{IsEnd, IsKeptBy, IsPlanned, IsSent, IsWrittenPlan, Plans};
@@ -17,16 +17,16 @@ use crate::fault::Fault;
 use crate::outcome::Outcome;
 use crate::prepared::perform_task;
 use crate::texts::write_text;
-use just_host::{Config, Recorded, RunHost};
+use analyze_runs::Call;
+use just_host::{Config, Out, Recorded, RunHost};
 use just_modules::Compilation;
-use just_plain_run::{Fault as PlainFault, Out, run_file};
-use just_plan::{Planning, plan_text};
 use just_resolve::Analysis;
-use just_runner::Call;
-use just_tasks::{Performed, Task, TaskFault};
 use just_text::CompileErrorKind;
 use just_value::Positional;
 use justfile_syntax::plain_files::Ast as PlainAst;
+use run_plain::{Fault as PlainFault, run_file};
+use run_plan::{Planning, plan_text};
+use run_tasks::{Performed, Task, TaskFault};
 use std::alloc::Global;
 
 /// The text of what was planned; none where memory is or was wanting.
@@ -113,7 +113,6 @@ fn breaks_rule(fault: &PlainFault) -> bool
     match fault {
         PlainFault::NoRootForWord(_)
         | PlainFault::MissingRoot(_)
-        | PlainFault::NotYet(_)
         | PlainFault::Redefinition(_)
         | PlainFault::UnknownDependency { .. }
         | PlainFault::CircularRecipe(_)

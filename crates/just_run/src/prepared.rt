@@ -1,13 +1,13 @@
 //! What a task needs of a resolved justfile.
-ghost use Rattle.just_builtins.specs.Asking.{Asks};
+ghost use Rattle.just_host.specs.Asking.{Asks};
 
+use analyze_runs::{Planned, Tally};
 use just_host::{Config, Recorded, RunHost};
 use just_modules::{Compilation, ModuleNode};
 use just_resolve::{Analysis, ModuleVariables, ResolvedRecipe, collect_references, views};
-use just_runner::{Planned, Tally};
-use just_tasks::{Performed, Task, TaskContext, TaskFault, perform};
 use justfile_evaluator::{ModuleView, Settings};
 use justfile_syntax::Number;
+use run_tasks::{Performed, Task, TaskContext, TaskFault, perform};
 use std::alloc::{AllocError, Global};
 use std::collections::{BTreeMap, BTreeSet};
 

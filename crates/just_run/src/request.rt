@@ -5,15 +5,15 @@ ghost use Rattle.just_run.specs.declared.outcome.Action.TheVariants.{Plan};
 ghost use Rattle.just_run.specs.declared.request.Request.TheVariants as requests;
 
 use crate::outcome::Action;
-use just_invocations::{Invocation, InvocationParser, WordFault};
+use analyze_runs::Call;
+use analyze_words::{Invocation, InvocationParser, WordFault};
 use just_modules::{Compilation, ModuleNode};
 use just_resolve::{Analysis, ModuleLists, RecipeTable};
-use just_runner::Call;
-use just_tasks::Task;
 use just_value::Value;
 use justfile_analyzer::{EvaluationTarget, evaluation_target, menus};
 use justfile_evaluator::Settings;
 use justfile_syntax::{Sequence, Text};
+use run_tasks::Task;
 use std::alloc::{AllocError, Global};
 
 /// A text of the root module.

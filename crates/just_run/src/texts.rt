@@ -1,7 +1,7 @@
 //! Texts that are written or answered.
 ghost use Rattle.std.specs.Prelude.{◌≡◌, ◌++◌, ◌+◌, ◌<◌, ◌^◌, IfErr, IfOk, OnErr, OnOk, slice_get};
 ghost use Rattle.std.specs.String.{string_bytes};
-ghost use Rattle.just_plain_run.specs.Out.{IsPartOf};
+ghost use Rattle.just_host.specs.Out.{IsPartOf};
 ghost use Rattle.justfile_analyzer.specs.Justfiles.{place_of};
 ghost use Rattle.justfile_analyzer.specs.Listings.{listing};
 ghost use Rattle.just_run.specs.Early.{IsLate};
@@ -13,11 +13,11 @@ ghost use Rattle.just_run.specs.declared.request.RootText.TheVariants as texts;
 use crate::fault::Fault;
 use crate::outcome::Outcome;
 use crate::request::RootText;
+use just_host::{Out, WriteFailed, write_all};
 use just_modules::{Compilation, ModuleNode};
-use just_plain_run::{Out, WriteFailed, write_all};
-use just_tasks::Performed;
 use justfile_analyzer::Justfile;
 use justfile_syntax::{Ast, Os, Text, print};
+use run_tasks::Performed;
 use std::alloc::{AllocError, Global};
 
 /// Bodies of files that set no indentation.

@@ -5,7 +5,7 @@ use Rattle.std.specs.List.{flat_map}
 abbrev pub ticked : List ℕ → List ℕ
 ticked field = codes "`" ++ field ++ codes "`"
 
--- the fields behind the first one
+-- the fields after the first one
 abbrev pub ticked_more : List (List ℕ) → List ℕ
 ticked_more fields = flat_map (λ field. codes ", " ++ ticked field) fields
 
@@ -16,7 +16,7 @@ ticked_list (field ∷ fields) = ticked field ++ ticked_more fields
 abbrev pub with_fields : List ℕ → List (List ℕ) → List ℕ
 with_fields name fields = name ++ codes ": " ++ ticked_list fields
 
--- the fields behind a name, where there are any
+-- the fields after a name, where there are any
 abbrev pub fields_behind : List (List ℕ) → List ℕ
 fields_behind [] = []
 fields_behind fields = codes ": " ++ ticked_list fields

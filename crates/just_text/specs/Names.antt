@@ -9,7 +9,7 @@ abbrev pub joined_names : List (List ℕ) → List ℕ
 joined_names [] = []
 joined_names (name ∷ names) = name ++ flat_map (λ n. codes "::" ++ n) names
 
--- the same of the names of tokens: those behind the first one
+-- the same of the names of tokens: those after the first one
 abbrev pub more_names : List Name → List ℕ
 more_names names = flat_map (λ name. codes "::" ++ lexeme name.token) names
 

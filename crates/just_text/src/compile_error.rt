@@ -17,7 +17,7 @@ pub enum CompileErrorKind {
     NumbersUsed,
     /// No token begins with this character.
     UnknownStartOfToken(char),
-    /// This character is expected behind the one before, which is no token alone.
+    /// This character is expected after the one before, which is no token alone.
     UnexpectedCharacter(char),
     /// A string that no mark closes.
     UnterminatedString,
@@ -25,15 +25,15 @@ pub enum CompileErrorKind {
     UnterminatedBacktick,
     /// An interpolation of a body that does not end in its line.
     UnterminatedInterpolation,
-    /// A backslash and what stands behind it, which no rule reads.
+    /// A backslash and what stands after it, which no rule reads.
     InvalidEscapeSequence(Text),
     /// The bracket that is open, and another that closes.
     MismatchedClosingDelimiter(Delimiter, Delimiter),
     /// A closing bracket where none is open.
     UnexpectedClosingDelimiter(Delimiter),
-    /// Why the text of a string behind `x` is not expanded.
+    /// Why the text of a string after `x` is not expanded.
     ShellExpansion(Text),
-    /// A carriage return outside strings, comments and commands, and no newline behind it.
+    /// A carriage return outside strings, comments and commands, and no newline after it.
     UnpairedCarriageReturn,
     /// The white space that begins a body has both spaces and tabs.
     MixedLeadingWhitespace,
@@ -59,9 +59,9 @@ pub enum CompileErrorKind {
     DuplicateAttribute(Text),
     /// The name of two parameters.
     DuplicateParameter(Text),
-    /// A parameter behind one that takes all values that remain.
+    /// A parameter after one that takes all values that remain.
     ParameterFollowsVariadic(Text),
-    /// A parameter without a default behind one that has one.
+    /// A parameter without a default after one that has one.
     RequiredParameterFollowsDefault(Text),
     /// The version that the file asks for, and the lower one that reads it.
     MinimumVersion(Text, Text),
@@ -158,7 +158,7 @@ impl CompileErrorKind {
         }
     }
 
-    /// Writes what it names behind its name.
+    /// Writes what it names after its name.
     fn write_fields<W: fmt::Write>(&self, f: &mut fmt::Formatter<W>) -> fmt::Result
         ensures { WritesOnOk W.write_str_gives f.old result (fields_behind (error_fields self.now)) f.new }
     {

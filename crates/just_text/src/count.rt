@@ -50,7 +50,7 @@ impl<'a> Count<'a> {
     }
 }
 
-/// What stands behind a regular noun.
+/// What stands after a regular noun.
 fn ending(count: usize) -> &'static str
     ensures { result.now ≡ (if count == 1 then codes "" else codes "s") }
 {

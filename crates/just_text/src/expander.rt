@@ -24,7 +24,7 @@ impl From<AllocError> for ExpandFault {
     }
 }
 
-/// Expands the texts of strings that stand behind `x`.
+/// Expands the texts of strings that stand after `x`.
 pub trait Expander {
     /// The text that stands for a text, or the text of the refusal: a function of the expander's
     /// value and the text, so that an expander answers the same each time.

@@ -28,7 +28,7 @@ impl<'src> Model for Namepath<'src> {
 }
 
 impl<'src> Namepath<'src> {
-    /// The path of a name alone. Refused only where memory is.
+    /// The path of a name alone.
     pub fn from_name(alloc: Global, name: Name<'src>) -> Result<Namepath<'src>, AllocError>
         ensures { IfOk result (λ p. p ≡ name.entry ∷ []) }
     {
@@ -37,7 +37,7 @@ impl<'src> Namepath<'src> {
         Ok(Namepath { names })
     }
 
-    /// Puts a name behind the others. A refused growth changes nothing and gives the name back.
+    /// Puts a name after the others. A refused growth changes nothing and gives the name back.
     pub fn push(&mut self, name: Name<'src>) -> Result<(), AllocFailed<Name<'src>>>
         ensures grown { self.new ≡ (if is_ok result then self.old ++ name.entry ∷ [] else self.old) }
         ensures returned { IfErr result (λ e. e.value ≡ name.entry) }

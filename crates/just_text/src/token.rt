@@ -7,7 +7,7 @@ use crate::token_kind::TokenKind;
 use std::cmp::Ordering;
 
 /// A part of a source. `offset`, `length` and `column` count bytes, `line` lines, all from 0; the
-/// column counts from the line's first byte, behind a byte order mark.
+/// column counts from the line's first byte, after a byte order mark.
 #[derive(Clone, Copy, Debug)]
 pub struct Token<'src> {
     pub column: usize,

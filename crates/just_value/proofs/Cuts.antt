@@ -54,7 +54,7 @@ overrides_go_on f values i d word o o' whole found lt is_word told grew so_far =
     ap leading first ∙ leads_on word others there.0 ∙ ap (λ x. x ∷ leading others) (sym there.1)
     in so_far ∙ ap (λ l. o ++ l) step ∙ sym (append_assoc o (found ∷ []) (leading others)) ∙ ap (λ l. l ++ leading others) (sym grew)
 
--- the words behind the overrides are those from the first that is none
+-- the words after the overrides are those from the first that is none
 pub goes_behind : {X : Type 0} (f : X → List ℕ) (values : List X) (o : List Override) (n : ℕ) → o ≡ leading (map f values) → n ≡ length o → behind o (map f (take (length values - n) (drop n values))) ≡ split (map f values)
 goes_behind f values o n e count =
     let whole : take (length values - n) (drop n values) ≡ drop n values = take_all (length values - n) (drop n values) (rw (length-drop n values) (omega arith)) in

@@ -2,6 +2,7 @@ pub mod Cuts
 pub mod TextsInRow
 pub mod Escapes
 pub mod Rows
+pub mod Halves
 pub mod Numbered
 pub mod ConstantsInFrame
 pub mod PathParts

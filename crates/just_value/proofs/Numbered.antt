@@ -1,103 +1,138 @@
--- A map from numbers to bindings that have them is a frame.
-use Rattle.std.proofs.Common.{◌≡◌, ℕ, zero, suc, ◌<◌, Bool, true, false, cond, eqb, List, [], ◌∷◌, length, get_or, map, Some, refl, sym, ap, ap₂, subst, ◌∙◌, arith, eqb-true, eq-eqb, ne_eqb, ltb, ltb-true, OnOk, OnErr, Ok, Err}
-use Rattle.std.specs.BTreeMap.{insert_entry}
-use Rattle.std.specs.List.Sorted.{IsStrictlySortedBy}
-use Rattle.std.specs.Map.{lookup, keys_of, values_of}
-use Rattle.std.specs.Option.{option_map}
-use Rattle.std.specs.declared.option.Option.{Option}
-use Rattle.std.specs.declared.result.Result.{Result}
-use Rattle.std.specs.Global.{Box}
-use Rattle.std.specs.Ordering.{nat_cmp, is_eq, match_ordering}
-use Rattle.std.specs.declared.cmp.Ordering.{Ordering}
-use Rattle.std.specs.declared.cmp.Ordering.TheVariants.{Less, Equal, Greater}
-use Rattle.std.proofs.lemmas.Bool.{eqb-false}
+-- Rows by their numbers, at the place that a search finds.
+use Rattle.std.proofs.Common.{◌≡◌, ◌≢◌, ℕ, zero, suc, ◌<◌, List, [], ◌∷◌, length, get_or, set, map, Some, None, slice_get, is_some, Result, Ok, Err, OnOk, is_ok, if◌then◌else◌, inl, inr, refl, sym, ap, subst, ◌∙◌, arith}
+use mathlib.Core.Bool.{false≢true}
+use Rattle.std.specs.List.{insert}
+use Rattle.std.specs.List.Sorted.{IsStrictlySortedBy, IsPartitionPoint}
+use Rattle.std.specs.Ordering.{nat_cmp}
+use Rattle.std.specs.declared.cmp.Ordering.TheVariants.{Less, Equal}
+use Rattle.std.proofs.lemmas.Bool.Decides.{nat_tests}
+use Rattle.std.proofs.lemmas.Bool.{cases_lt}
+use Rattle.std.proofs.lemmas.Cmp.{ranked}
+use Rattle.std.proofs.lemmas.Map.Keys.{below_from_sorted}
+use Rattle.std.proofs.lemmas.Option.{get_or_from_slice_get, slice_get_read, slice_get_within}
+use Rattle.std.proofs.lemmas.List.{length-map, map-set, set-get_or, get_or-map}
 use Rattle.just_value.specs.declared.bound.Bound.{Bound}
 use Rattle.just_value.specs.Frames.{BoundRow, bound_of, bound_in, Rebinds, ByNumber}
+use Rattle.just_value.proofs.Halves.{map_insert, sorted_inserted}
 
-abbrev pub Entry : Type 0
-Entry = ℕ × Box Bound
+abbrev pub numbers : List BoundRow → List ℕ
+numbers rows = map (λ b. b.number) rows
 
--- each key is the number of the binding in its box
-abbrev pub Numbered : List Entry → Type 0
-Numbered es = (k : ℕ) → (d : Entry) → k < length es → (get_or es k d).0 ≡ (get_or es k d).1.value.number
+as_many : (items : List Bound) (rows : List BoundRow) → map bound_of items ≡ rows → length (numbers rows) ≡ length items
+as_many items rows view = length-map rows (λ b. b.number) ∙ ap length (sym view) ∙ length-map items bound_of
 
-numbered_rest : (e : Entry) (es : List Entry) → Numbered (e ∷ es) → Numbered es
-numbered_rest e es h = λ k d l. h (suc k) d (omega (arith, l))
+number_at : (items : List Bound) (i : ℕ) (x : Bound) (e : ℕ) → i < length items → x ≡ get_or items i x → get_or (numbers (map bound_of items)) i e ≡ x.number
+unfolding bound_of
+number_at [] i x e lt is = absurd (omega (arith, lt))
+number_at (y ∷ items) zero x e lt is = ap (λ b. b.number) (sym is)
+number_at (y ∷ items) (suc i) x e lt is = number_at items i x e (omega (arith, lt)) is
 
-numbered_first : (e : Entry) (es : List Entry) → Numbered (e ∷ es) → e.0 ≡ e.1.value.number
-numbered_first e es h = h zero e (omega arith)
+-- what is read at a place has the number at that place
+pub number_read : (items : List Bound) (rows : List BoundRow) → map bound_of items ≡ rows → (i : ℕ) (x : Bound) → i < length (numbers rows) → x ≡ get_or items i x → (d : ℕ) → x.number ≡ get_or (numbers rows) i d
+number_read items rows view i x lt is d = sym (number_at items i x d (omega (arith, lt, as_many items rows view)) is) ∙ ap (λ rs. get_or (numbers rs) i d) view
 
-numbered_with : (e : Entry) (es : List Entry) → e.0 ≡ e.1.value.number → Numbered es → Numbered (e ∷ es)
-numbered_with e es first rest = λ k. elim k as (λ n. (d : Entry) → n < length (e ∷ es) → (get_or (e ∷ es) n d).0 ≡ (get_or (e ∷ es) n d).1.value.number) [
-  | zero ↦ λ d l. first
-  | suc n ↦ λ d l. rest n d (omega (arith, l))
+-- the number stands where it is equal to what is read
+pub place_read : (items : List Bound) (rows : List BoundRow) → map bound_of items ≡ rows → (i : ℕ) (x : Bound) (n : ℕ) → i < length (numbers rows) → x ≡ get_or items i x → Equal ≡ nat_cmp n x.number → slice_get (numbers rows) i ≡ Some n
+place_read items rows view i x n lt is equal = slice_get_read (numbers rows) (length (numbers rows)) i n refl lt (ranked n x.number Equal equal ∙ number_read items rows view i x lt is n)
+
+-- no row before place i has the number
+abbrev pub NoneBefore : List BoundRow → ℕ → ℕ → Type 0
+NoneBefore rows n i = (j : ℕ) → j < i → get_or (numbers rows) j 0 ≢ n
+
+none_before_tail : (r : BoundRow) (rows : List BoundRow) (n i : ℕ) → NoneBefore (r ∷ rows) n (suc i) → NoneBefore rows n i
+none_before_tail r rows n i none j lt = none (suc j) (omega (arith, lt))
+
+pub bound_nowhere : (rows : List BoundRow) (n : ℕ) → NoneBefore rows n (length rows) → bound_in rows n ≡ None
+bound_nowhere [] n none = refl
+bound_nowhere (r ∷ rows) n none = grind (arith, nat_tests, none 0 (omega arith), bound_nowhere rows n (none_before_tail r rows n (length rows) none))
+
+pub bound_there : (rows : List BoundRow) (n i : ℕ) → slice_get (numbers rows) i ≡ Some n → NoneBefore rows n i → bound_in rows n ≡ slice_get rows i
+bound_there [] n i is none = refl
+bound_there (r ∷ rows) n zero is none = grind (arith, nat_tests, get_or_from_slice_get (numbers (r ∷ rows)) 0 n 0 is)
+bound_there (r ∷ rows) n (suc i) is none = grind (arith, nat_tests, none 0 (omega arith), bound_there rows n i is (none_before_tail r rows n i none))
+
+pub rebinds_set : (rows : List BoundRow) (b : BoundRow) (i : ℕ) → slice_get (numbers rows) i ≡ Some b.number → NoneBefore rows b.number i → Rebinds rows b (set rows i b)
+rebinds_set [] b i is none n = absurd (false≢true (ap is_some is))
+rebinds_set (r ∷ rows) b zero is none n = grind (arith, nat_tests, get_or_from_slice_get (numbers (r ∷ rows)) 0 b.number 0 is)
+rebinds_set (r ∷ rows) b (suc i) is none n = grind (arith, nat_tests, none 0 (omega arith), rebinds_set rows b i is (none_before_tail r rows b.number i none) n)
+
+pub rebinds_insert : (rows : List BoundRow) (b : BoundRow) (i : ℕ) → NoneBefore rows b.number i → Rebinds rows b (insert rows i b)
+rebinds_insert rows b zero none n = refl
+rebinds_insert [] b (suc i) none n = refl
+rebinds_insert (r ∷ rows) b (suc i) none n = grind (arith, nat_tests, none 0 (omega arith), rebinds_insert rows b i (none_before_tail r rows b.number i none) n)
+
+-- ---- at the answer of a search
+
+abbrev pub IsGap : List BoundRow → ℕ → ℕ → Type 0
+IsGap rows n i = IsPartitionPoint (λ k. nat_cmp k n ≡ Less) (λ k. nat_cmp n k ≡ Less) (numbers rows) i
+
+none_before_found : (rows : List BoundRow) (n i : ℕ) → ByNumber rows → slice_get (numbers rows) i ≡ Some n → NoneBefore rows n i
+none_before_found rows n i sorted is j lt same =
+    omega (arith, same, below_from_sorted (numbers rows) j i 0 sorted lt (slice_get_within (numbers rows) i n is), get_or_from_slice_get (numbers rows) i n 0 is)
+
+none_before_gap : (rows : List BoundRow) (n i : ℕ) → IsGap rows n i → NoneBefore rows n i
+none_before_gap rows n i gap j lt same = omega (arith, same, ranked (get_or (numbers rows) j 0) n Less (sym (gap.0 j 0 (omega arith) lt)))
+
+none_at_all : (rows : List BoundRow) (n i : ℕ) → IsGap rows n i → NoneBefore rows n (length rows)
+none_at_all rows n i gap j lt same = elim (cases_lt j i) [
+  | inl below ↦ none_before_gap rows n i gap j below same
+  | inr above ↦ omega (arith, same, ranked n (get_or (numbers rows) j 0) Less (sym (gap.1 j 0 above (omega (arith, lt, length-map rows (λ b. b.number))))))
 ]
 
-abbrev pub frame_of : List Entry → List BoundRow
-frame_of es = map (λ e. bound_of e.1.value) es
+pub found : (rows : List BoundRow) (n i : ℕ) → ByNumber rows → slice_get (numbers rows) i ≡ Some n → bound_in rows n ≡ slice_get rows i
+found rows n i sorted is = bound_there rows n i is (none_before_found rows n i sorted is)
 
-by_test : {G : Type 0} (b : Bool) → (b ≡ true → G) → (b ≡ false → G) → G
-by_test true holds fails = holds refl
-by_test false holds fails = fails refl
+pub missing : (rows : List BoundRow) (n i : ℕ) → IsGap rows n i → bound_in rows n ≡ None
+missing rows n i gap = bound_nowhere rows n (none_at_all rows n i gap)
 
-cmp_is_eq : (a b : ℕ) → is_eq (nat_cmp a b) ≡ eqb a b
-cmp_is_eq a b =
-    by_test (ltb a b)
-    (λ e. let below : a < b = ltb-true a b e in rw e (sym (ne_eqb a b (λ same. omega (arith, same, below)))))
-    (λ e. rw e (by_test (eqb a b) (λ t. rw t refl) (λ t. rw t refl)))
+-- ---- edits at the answer of a search
 
-equal_numbers : (a b : ℕ) → nat_cmp a b ≡ Equal → a ≡ b
-equal_numbers a b e = eqb-true a b (sym (cmp_is_eq a b) ∙ ap is_eq e)
+module _ (items : List Bound) (rows : List BoundRow) (view : map bound_of items ≡ rows) (sorted : ByNumber rows) (i : ℕ) (b : Bound) where
+  rows_set : map bound_of (set items i b) ≡ set rows i (bound_of b)
+  rows_set = map-set bound_of items i b ∙ ap (λ rs. set rs i (bound_of b)) view
 
-eqb_swapped : (a b : ℕ) → eqb a b ≡ eqb b a
-eqb_swapped a b = by_test (eqb a b) (λ e. e ∙ sym (eq-eqb b a (sym (eqb-true a b e)))) (λ e. e ∙ sym (ne_eqb b a (λ same. eqb-false a b e (sym same))))
+  rows_inserted : map bound_of (insert items i b) ≡ insert rows i (bound_of b)
+  rows_inserted = map_insert bound_of items i b ∙ ap (λ rs. insert rs i (bound_of b)) view
 
--- what the map has at a number is what the frame has
-pub bound_in_is : (es : List Entry) (n : ℕ) → Numbered es → option_map (λ b. bound_of b.value) (lookup (λ k. is_eq (nat_cmp n k)) es) ≡ bound_in (frame_of es) n
-unfolding bound_of
-bound_in_is [] n h = refl
-bound_in_is (e ∷ es) n h =
-    let same : is_eq (nat_cmp n e.0) ≡ eqb n e.1.value.number = cmp_is_eq n e.0 ∙ ap (eqb n) (numbered_first e es h) in
-    rw same (by_test (eqb n e.1.value.number) (λ t. rw t refl) (λ t. rw t (bound_in_is es n (numbered_rest e es h))))
+  -- another binding of the number in the place of the earlier one
+  module _ (is : slice_get (numbers rows) i ≡ Some b.number) where
+    pub set_by_number : ByNumber (map bound_of (set items i b))
+    unfolding bound_of
+    set_by_number =
+        let same : numbers (set rows i (bound_of b)) ≡ numbers rows = map-set (λ r. r.number) rows i (bound_of b) ∙ ap (set (numbers rows) i) (sym (get_or_from_slice_get (numbers rows) i b.number b.number is)) ∙ set-get_or (numbers rows) i b.number in
+        subst (IsStrictlySortedBy nat_cmp) (sym (ap numbers rows_set ∙ same)) sorted
 
-inserted_by : (o : Ordering) (k : ℕ) (v : Box Bound) (e : Entry) (es rest : List Entry) → (o ≡ Equal → k ≡ e.0) → k ≡ v.value.number → Numbered (e ∷ es) → Numbered rest
-    → Numbered (match_ordering o ((k, v) ∷ e ∷ es) ((e.0, v) ∷ es) (e ∷ rest))
-inserted_by Less k v e es rest same is h r = numbered_with (k, v) (e ∷ es) is h
-inserted_by Equal k v e es rest same is h r = numbered_with (e.0, v) es (sym (same refl) ∙ is) (numbered_rest e es h)
-inserted_by Greater k v e es rest same is h r = numbered_with e rest (numbered_first e es h) r
+    pub set_rebinds : Rebinds rows (bound_of b) (map bound_of (set items i b))
+    unfolding bound_of
+    set_rebinds = subst (Rebinds rows (bound_of b)) (sym rows_set) (rebinds_set rows (bound_of b) i is (none_before_found rows b.number i sorted is))
 
-inserted : (es : List Entry) (k : ℕ) (v : Box Bound) → k ≡ v.value.number → Numbered es → Numbered (insert_entry nat_cmp es k v)
-inserted [] k v is h = numbered_with (k, v) [] is h
-inserted (e ∷ es) k v is h = inserted_by (nat_cmp k e.0) k v e es (insert_entry nat_cmp es k v) (equal_numbers k e.0) is h (inserted es k v is (numbered_rest e es h))
+  -- a binding of a new number
+  module _ (gap : IsGap rows b.number i) where
+    insert_by_number : ByNumber (map bound_of (insert items i b))
+    unfolding bound_of
+    insert_by_number = subst (IsStrictlySortedBy nat_cmp) (sym (ap numbers rows_inserted ∙ map_insert (λ r. r.number) rows i (bound_of b))) (sorted_inserted nat_cmp (numbers rows) i b.number sorted gap.0 gap.1)
 
--- an insertion, refused or not, keeps the numbers
-pub numbered_stays : {X Y : Type 0} (r : Result X Y) (old new : List Entry) (k : ℕ) (v : Box Bound) → OnOk r (new ≡ insert_entry nat_cmp old k v) → OnErr r (new ≡ old) → k ≡ v.value.number → Numbered old → Numbered new
-numbered_stays (Ok x) old new k v ok err is h = subst Numbered (sym ok) (inserted old k v is h)
-numbered_stays (Err y) old new k v ok err is h = subst Numbered (sym err) h
+    insert_rebinds : Rebinds rows (bound_of b) (map bound_of (insert items i b))
+    unfolding bound_of
+    insert_rebinds = subst (Rebinds rows (bound_of b)) (sym rows_inserted) (rebinds_insert rows (bound_of b) i (none_before_gap rows b.number i gap))
 
-mapped : {A B : Type 0} (f : A → B) (b : Bool) (x : A) (o : Option A) → option_map f (cond b (Some x) o) ≡ cond b (Some (f x)) (option_map f o)
-mapped f true x o = refl
-mapped f false x o = refl
+    -- an insertion, refused or not
+    pub inserted_by_number : {T E : Type 0} (r : Result T E) (new : List Bound) → new ≡ (if is_ok r then insert items i b else items) → ByNumber (map bound_of new)
+    inserted_by_number (Ok x) new is = subst (λ l. ByNumber (map bound_of l)) (sym is) insert_by_number
+    inserted_by_number (Err e) new is = subst (λ l. ByNumber (map bound_of l)) (sym is) (subst ByNumber (sym view) sorted)
 
--- a map with one more entry is the frame with the binding
-pub rebinds : (old new : List Entry) (k : ℕ) (v : Box Bound) → k ≡ v.value.number → Numbered old → Numbered new
-    → ((q : ℕ) → lookup (λ k. is_eq (nat_cmp q k)) new ≡ cond (is_eq (nat_cmp k q)) (Some v) (lookup (λ k. is_eq (nat_cmp q k)) old))
-    → Rebinds (frame_of old) (bound_of v.value) (frame_of new)
-unfolding bound_of
-rebinds old new k v is h i updates = λ n.
-    let swapped : is_eq (nat_cmp k n) ≡ eqb n v.value.number = cmp_is_eq k n ∙ eqb_swapped k n ∙ ap (eqb n) is in
-    sym (bound_in_is new n i) ∙ ap (option_map (λ b. bound_of b.value)) (updates n ∙ ap (λ b. cond b (Some v) (lookup (λ k. is_eq (nat_cmp n k)) old)) swapped)
-    ∙ mapped (λ b. bound_of b.value) (eqb n v.value.number) v (lookup (λ k. is_eq (nat_cmp n k)) old) ∙ ap (cond (eqb n v.value.number) (Some (bound_of v.value))) (bound_in_is old n h)
+    pub inserted_rebinds : {T E : Type 0} (r : Result T E) (new : List Bound) → new ≡ (if is_ok r then insert items i b else items) → OnOk r (Rebinds rows (bound_of b) (map bound_of new))
+    inserted_rebinds (Ok x) new is = subst (λ l. Rebinds rows (bound_of b) (map bound_of l)) (sym is) insert_rebinds
+    inserted_rebinds (Err e) new is = tt
 
-pub values_are : (es : List Entry) → map bound_of (map (λ b. b.value) (values_of es)) ≡ frame_of es
-values_are [] = refl
-values_are (e ∷ es) = ap (λ l. bound_of e.1.value ∷ l) (values_are es)
+-- no binding at all
+pub none_by_number : (items : List Bound) → items ≡ [] → ByNumber (map bound_of items)
+unfolding IsStrictlySortedBy
+none_by_number items none = subst (λ l. ByNumber (map bound_of l)) (sym none) tt
 
-numbers_are : (es : List Entry) → Numbered es → map (λ b. b.number) (frame_of es) ≡ keys_of es
-unfolding bound_of
-numbers_are [] h = refl
-numbers_are (e ∷ es) h = ap₂ (λ a b. a ∷ b) (sym (numbered_first e es h)) (numbers_are es (numbered_rest e es h))
-
--- the keys ascend, and so do the numbers
-pub by_number : (es : List Entry) → Numbered es → IsStrictlySortedBy nat_cmp (keys_of es) → ByNumber (frame_of es)
-by_number es h ordered = subst (IsStrictlySortedBy nat_cmp) (sym (numbers_are es h)) ordered
+-- what is read at a place is the row there
+pub row_read : (items : List Bound) (rows : List BoundRow) → map bound_of items ≡ rows → (i n : ℕ) (x : Bound) → slice_get (numbers rows) i ≡ Some n → x ≡ get_or items i x → Some (bound_of x) ≡ slice_get rows i
+row_read items rows view i n x there is =
+    let inside : i < length items = omega (arith, slice_get_within (numbers rows) i n there, as_many items rows view) in
+    sym (slice_get_read rows (length items) i (bound_of x) (sym (length-map items bound_of) ∙ ap length view) inside
+    (ap bound_of is ∙ sym (get_or-map bound_of items i x (bound_of x) inside) ∙ ap (λ rs. get_or rs i (bound_of x)) view))

@@ -39,7 +39,7 @@ rfind_below-Found c text (suc n) =
     cond_both (eqb (get_or text n 0) c) (Some n) (rfind_below c text n) (Found c text (suc n))
     (λ e. (omega arith, eqb-true _ c e)) (λ _. Found-wider c text n _ (rfind_below-Found c text n))
 
--- and no c stands behind it
+-- and no c stands after it
 abbrev IsLast : ℕ → List ℕ → ℕ → Option ℕ → Type 0
 IsLast c text n r = MatchOption r ((i : ℕ) → i < n → get_or text i 0 ≡ c → ⊥) (λ k. (i : ℕ) → k < i → i < n → get_or text i 0 ≡ c → ⊥)
 
@@ -211,7 +211,7 @@ parts-trim path = keeps_trimmed_len path (length path) (omega arith) ∙ ap part
 is_name_long : (a b : ℕ) (rest : List ℕ) → is_std_name (a ∷ b ∷ rest) ≡ true
 is_name_long a b rest = ap₂ (λ s t. not (s || t)) (ne_eqb (length (a ∷ b ∷ rest)) 0 (λ z. omega (arith, z))) (and_right (eqb a 46) false refl)
 
--- what stands behind the last `/` of a path that nothing trails
+-- what stands after the last `/` of a path that nothing trails
 name_behind : (dir last : List ℕ) → is_trailing (dir ++ 47 ∷ last) (length (dir ++ 47 ∷ last) - 1) ≡ false → bytes_eq (dir ++ 47 ∷ last) (47 ∷ []) ≡ false → is_std_name last ≡ true
 name_behind [] [] ends other = absurd (both_ways true other refl)
 name_behind (d ∷ ds) [] ends other =

@@ -1,4 +1,4 @@
--- A path with neither an empty part nor `.` behind a `/` is its parent joined with its file name.
+-- A path with neither an empty part nor `.` after a `/` is its parent joined with its file name.
 use Rattle.std.proofs.Common.{◌≡◌, ℕ, suc, ◌+◌, ◌<◌, ◌≢◌, Bool, true, false, cond, not, ◌||◌, eqb, List, [], ◌∷◌, ◌++◌, length, take, Some, None, refl, sym, ap, ap₂, subst, ◌∙◌, arith, ne_eqb, length-append}
 use Rattle.std.proofs.lemmas.Bool.{or_parts, cond-false, both_ways}
 use Rattle.std.proofs.lemmas.List.Folds.{list_any-append}
@@ -41,7 +41,7 @@ takes_more_behind (b ∷ []) [] l = absurd (omega (arith, l))
 takes_more_behind (b ∷ []) (c ∷ bs) l = refl
 takes_more_behind (b ∷ d ∷ dir) name l = takes_more_behind (d ∷ dir) name l
 
--- the last part of a plain text ends it, and takes a `/` behind it
+-- the last part of a plain text ends it, and takes a `/` after it
 ends_by : (dir : List ℕ) (r : Option (List ℕ × List ℕ)) → CutsAtLast 47 dir r → 0 < length dir → IsPlain dir → (end_of (parts dir) ≡ length dir) × (takes_more dir ≡ false)
 ends_by dir None h some plain = (ap end_of (parts_one dir some h) ∙ omega arith, takes_no_more dir some h)
 ends_by dir (Some cut) h some plain =

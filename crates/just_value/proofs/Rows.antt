@@ -1,4 +1,4 @@
--- Texts of items in a row: those before the last one, each with a comma behind it.
+-- Texts of items in a row: those before the last one, each with a comma after it.
 use Rattle.std.proofs.Common.{◌≡◌, ℕ, ◌<◌, List, [], ◌∷◌, ◌++◌, length, take, map, refl, arith, append-nil, append_assoc, codes, ◌≤◌, Bool, true, false, sym, ◌∙◌, zero, suc}
 use Rattle.std.proofs.Math.Dec.{eqb}
 use Rattle.std.proofs.lemmas.List.{take_all, length-map, map-append}

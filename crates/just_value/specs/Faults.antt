@@ -3,8 +3,8 @@ use Rattle.std.specs.Prelude.{ℕ, List, [], ◌++◌, ◌==◌, ◌||◌, cond,
 use Rattle.just_text.specs.Tokens.{lexeme}
 use Rattle.just_text.specs.declared.token.Token.{Token}
 use Rattle.just_text.specs.declared.name.Name.{Name}
-use Rattle.just_expression_tree.specs.Operators.{list_mark, comparison_mark}
-use Rattle.just_expression_tree.specs.declared.operator.ListOperator.{ListOperator}
+use Rattle.tree_expressions.specs.Operators.{list_mark, comparison_mark}
+use Rattle.tree_expressions.specs.declared.operator.ListOperator.{ListOperator}
 use Rattle.just_value.specs.Values.{value_text}
 use Rattle.just_value.specs.declared.fault.ConstError.{ConstError}
 use Rattle.just_value.specs.declared.fault.ConstError.TheVariants.{Backtick, FunctionCall, Variable}

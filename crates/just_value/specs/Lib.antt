@@ -7,3 +7,4 @@ pub mod Paths
 pub mod Uris
 pub mod Constants
 pub mod Frames
+pub mod Searches

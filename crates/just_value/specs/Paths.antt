@@ -18,7 +18,7 @@ abbrev pub first_piece : List ℕ → List ℕ
 first_piece [] = []
 first_piece (b ∷ bs) = cond (b == 47) [] (b ∷ first_piece bs)
 
--- what stands behind each `/` up to the next one, in a text that begins at the place
+-- what stands after each `/` up to the next one, in a text that begins at the place
 abbrev pub later_pieces : ℕ → List ℕ → List Part
 later_pieces place [] = []
 later_pieces place (b ∷ bs) = cond (b == 47) (record { start = place + 1; text = first_piece bs } ∷ later_pieces (place + 1) bs) (later_pieces (place + 1) bs)
@@ -54,7 +54,7 @@ end_of (part ∷ other ∷ others) = end_of (other ∷ others)
 abbrev pub but_last : List Part → List Part
 but_last found = take (length found - 1) found
 
--- there is a part behind the root
+-- there is a part after the root
 abbrev pub has_parent : List Part → Bool
 has_parent [] = false
 has_parent (part ∷ []) = not (bytes_eq part.text (codes "/"))
@@ -77,7 +77,7 @@ last_name (part ∷ other ∷ others) = last_name (other ∷ others)
 unfoldable pub file_name : List ℕ → Option (List ℕ)
 file_name path = last_name (parts path)
 
--- what stands before and behind the last dot
+-- what stands before and after the last dot
 abbrev pub cut_at_dot : List ℕ → Option (List ℕ × List ℕ)
 cut_at_dot [] = None
 cut_at_dot (b ∷ bs) = option_or (option_map (λ cut. (b ∷ cut.0, cut.1)) (cut_at_dot bs)) (cond (b == 46) (Some ([], bs)) None)
@@ -87,7 +87,7 @@ abbrev pub stem_by : List ℕ → Option (List ℕ × List ℕ) → List ℕ
 stem_by name None = name
 stem_by name (Some cut) = cond (length cut.0 == 0) name cut.0
 
--- a name behind its last dot, if something is before that
+-- a name after its last dot, if something is before that
 abbrev pub extension_by : Option (List ℕ × List ℕ) → Option (List ℕ)
 extension_by None = None
 extension_by (Some cut) = cond (length cut.0 == 0) None (Some cut.1)
@@ -108,11 +108,11 @@ takes_more [] = true
 takes_more (b ∷ []) = b == 47
 takes_more (b ∷ c ∷ bs) = takes_more (c ∷ bs)
 
--- an absolute right side, or the right side behind the left, with a `/` between where one is needed
+-- an absolute right side, or the right side after the left, with a `/` between where one is needed
 unfoldable pub join : List ℕ → List ℕ → List ℕ
 join left right = cond (is_absolute right) right (left ++ (cond (takes_more left) [] (codes "/") ++ right))
 
--- behind no `/` stands nothing, or `.` alone
+-- after no `/` stands nothing, or `.` alone
 abbrev pub IsPlain : List ℕ → Type 0
 IsPlain path = list_any (λ piece. length piece.text == 0 || bytes_eq piece.text (codes ".")) (later_pieces 0 path) ≡ false
 

@@ -11,7 +11,7 @@ joined (text ∷ texts) = text ++ flat_map (λ more. codes " " ++ more) texts
 abbrev pub before_each : List ℕ → List ℕ → List (List ℕ) → List (List ℕ)
 before_each separator text others = map (λ other. text ++ (separator ++ other)) others
 
--- the text behind each of the others, with the separator between
+-- the text after each of the others, with the separator between
 abbrev pub behind_each : List ℕ → List (List ℕ) → List ℕ → List (List ℕ)
 behind_each separator others text = map (λ other. other ++ (separator ++ text)) others
 
@@ -30,7 +30,7 @@ applied separator (text ∷ []) (other ∷ others) = Some (before_each separator
 applied separator (text ∷ texts) (other ∷ []) = Some (behind_each separator (text ∷ texts) other)
 applied separator texts others = paired separator texts others
 
--- a byte behind a backslash
+-- a byte after a backslash
 abbrev pub backslashed : ℕ → List ℕ
 backslashed byte = 92 ∷ byte ∷ []
 
@@ -48,7 +48,7 @@ escaped byte =
 abbrev pub quoted : List ℕ → List ℕ
 quoted text = codes "\"" ++ (flat_map escaped text ++ codes "\"")
 
--- texts between double quotes, each behind a comma and a space
+-- texts between double quotes, each after a comma and a space
 abbrev pub more_quoted : List (List ℕ) → List ℕ
 more_quoted texts = flat_map (λ text. codes ", " ++ quoted text) texts
 

@@ -24,7 +24,7 @@ override_of word = record { name = before_first is_equals word; value = after_fi
 abbrev pub is_dots : List ℕ → Bool
 is_dots word = bytes_eq word (codes ".") || bytes_eq word (codes "..")
 
--- the place behind the last `/`
+-- the place after the last `/`
 abbrev pub slash_end : List ℕ → ℕ
 slash_end word = length word - suffix_len (λ b. not (is_slash b)) word
 
@@ -32,14 +32,14 @@ abbrev pub unless_empty : List ℕ → Option (List ℕ)
 unless_empty [] = None
 unless_empty (b ∷ bs) = Some (b ∷ bs)
 
--- what the first word gives that is no override: `.` and `..` are a search directory, a word with `/` is cut behind its last, any other is an argument
+-- what the first word gives that is no override: `.` and `..` are a search directory, a word with `/` is cut after its last, any other is an argument
 abbrev pub opening : List ℕ → Opening
 opening word =
     cond (is_dots word) (record { directory = Some word; argument = None })
     (cond (list_any is_slash word) (record { directory = Some (take (slash_end word) word); argument = unless_empty (drop (slash_end word) word) })
     (record { directory = None; argument = Some word }))
 
--- the words from the first that is no override: all behind it are arguments
+-- the words from the first that is no override: all after it are arguments
 abbrev pub behind : List Override → List (List ℕ) → Positional
 behind overrides [] = record { arguments = []; overrides = overrides; search_directory = None }
 behind overrides (word ∷ words) = record { arguments = option_to_list (opening word).argument ++ words; overrides = overrides; search_directory = (opening word).directory }

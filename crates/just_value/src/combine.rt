@@ -6,7 +6,7 @@ ghost use Rattle.just_value.specs.Values as spec;
 
 use std::alloc::{AllocError, Global};
 
-/// What two lists give, if they go together. Refused only where memory is.
+/// What two lists give, if they go together.
 pub fn combine(
     alloc: Global,
     separator: &str,
@@ -46,7 +46,7 @@ fn before_each(
     Ok(texts)
 }
 
-/// The text behind each of the others.
+/// The text after each of the others.
 fn behind_each(
     alloc: Global,
     separator: &str,

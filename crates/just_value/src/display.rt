@@ -44,7 +44,7 @@ impl fmt::Display for Quoted<'_> {
     }
 }
 
-/// Texts between double quotes, each behind a comma and a space.
+/// Texts between double quotes, each after a comma and a space.
 #[derive(Clone, Copy)]
 struct MoreQuoted<'a>(&'a [String]);
 

@@ -4,10 +4,10 @@ ghost use Rattle.std.specs.Fmt.{WritesOnOk};
 ghost use Rattle.just_value.specs.Faults as spec;
 
 use crate::value::Value;
-use just_expression_tree::{ConditionalOperator, ListOperator};
 use just_text::{Name, Text, Token};
 use std::alloc::{AllocError, AllocFailed};
 use std::fmt;
+use tree_expressions::{ConditionalOperator, ListOperator};
 
 /// What a constant may not hold.
 #[derive(Debug, Drop)]

@@ -1,32 +1,34 @@
 //! Frames: bindings by their numbers.
-ghost use Rattle.std.specs.Prelude.{◌≡◌, [], OnOk, IfErr, map};
+ghost use Rattle.std.specs.Prelude.{◌≡◌, ◌+◌, ◌≤◌, [], OnOk, IfErr, if◌then◌else◌, is_ok, length, map};
+ghost use Rattle.std.specs.List.{insert};
 ghost use Rattle.std.specs.Option.{option_map};
+ghost use Rattle.std.specs.Ordering.{nat_cmp};
 ghost use Rattle.just_value.specs.Frames.{Rebinds, ByNumber, bound_in, bound_of};
+ghost use Rattle.just_value.specs.Searches.{IsPlace, digits};
 
 use crate::bound::Bound;
+use crate::steps::Steps;
 use just_text::Number;
 use std::alloc::{AllocFailed, Global};
-use std::collections::BTreeMap;
-use std::collections::btree_map::Values;
+use std::cmp::Ordering;
 use std::marker::Model;
+use std::slice::Iter;
 
-/// Bindings, at most one of each number. Each has a box of its own, so that a frame of few bindings
-/// takes little memory.
+/// Bindings, at most one of each number.
 #[derive(Drop)]
 pub struct Frame<'src> {
-    bindings: BTreeMap<Number, Box<Bound<'src>>>,
-    alloc: Global,
+    bindings: Vec<Bound<'src>>,
 }
 
 impl<'src> Model for Frame<'src> {
-    ghost use Rattle.std.specs.Prelude.{◌≡◌, All, List, map};
-    ghost use Rattle.just_value.specs.Frames.{BoundRow, bound_of};
+    ghost use Rattle.std.specs.Prelude.{List, map};
+    ghost use Rattle.just_value.specs.Frames.{BoundRow, ByNumber, bound_of};
 
     ghost Value = { List BoundRow };
 
-    ghost view = { λ f. map (λ e. bound_of e.1.value) f.bindings.entries };
+    ghost view = { λ f. map bound_of f.bindings.items };
 
-    ghost invariant = { λ f. All (λ e. e.0 ≡ e.1.value.number) f.bindings.entries };
+    ghost invariant = { λ f. ByNumber (map bound_of f.bindings.items) };
 }
 
 impl<'src> Frame<'src> {
@@ -35,8 +37,7 @@ impl<'src> Frame<'src> {
         ensures { result ≡ [] }
     {
         Frame {
-            bindings: BTreeMap::new(alloc),
-            alloc,
+            bindings: Vec::new(alloc),
         }
     }
 
@@ -46,16 +47,13 @@ impl<'src> Frame<'src> {
         ensures bound { OnOk result (Rebinds self.old (bound_of binding.entry) self.new) }
         ensures refused { IfErr result (λ e. (self.new ≡ self.old) × (bound_of e.value ≡ bound_of binding.entry)) }
     {
-        let number = binding.number;
-        let boxed = Box::new(self.alloc, binding)?;
-        match self.bindings.insert(number, boxed) {
-            Ok(_) => Ok(()),
-            Err(refused) => {
-                let (_, boxed) = refused.value;
-                Err(AllocFailed {
-                    value: Box::into_inner(boxed),
-                })
+        let mut steps = Steps { taken: 0 };
+        match self.position(binding.number, &mut steps) {
+            Ok(place) => {
+                self.bindings[place] = binding;
+                Ok(())
             }
+            Err(place) => put_in(&mut self.bindings, place, binding),
         }
     }
 
@@ -63,10 +61,31 @@ impl<'src> Frame<'src> {
     pub fn binding(&self, number: Number) -> Option<&Bound<'src>>
         ensures { option_map (λ b. bound_of b.now) result ≡ bound_in self.now number }
     {
-        match self.bindings.get(&number) {
-            Some(binding) => Some(binding.as_ref()),
-            None => None,
+        let mut steps = Steps { taken: 0 };
+        match self.position(number, &mut steps) {
+            Ok(place) => Some(&self.bindings[place]),
+            Err(_) => None,
         }
+    }
+
+    /// The place of the number's binding among all by their numbers, or else the place where one
+    /// would go. Takes no memory, and at most as many comparisons as the count of bindings has binary
+    /// digits.
+    pub(crate) fn position(&self, number: Number, steps: &mut Steps) -> Result<usize, usize>
+        ensures place { IsPlace nat_cmp (map (λ b. b.number) self.now) number result }
+        ensures counted { steps.new.taken ≤ steps.old.taken + digits (length self.now) }
+    {
+        let mut low = 0;
+        let mut high = self.bindings.len();
+        while low < high {
+            let middle = low + (high - low) / 2;
+            match steps.compare(&number, &self.bindings[middle].number) {
+                Ordering::Less => high = middle,
+                Ordering::Equal => return Ok(middle),
+                Ordering::Greater => low = middle + 1,
+            }
+        }
+        Err(low)
     }
 
     /// Goes over the bindings by their numbers. Takes no memory.
@@ -75,23 +94,44 @@ impl<'src> Frame<'src> {
         ensures sorted { ByNumber self.now }
     {
         Bindings {
-            values: self.bindings.values(),
+            bindings: self.bindings.iter(),
         }
     }
+}
+
+/// Puts the binding in at the place. A refused growth changes nothing and gives the binding back. Most
+/// frames are small, so a full vector grows by no more than a sixteenth and one.
+fn put_in<'src>(
+    bindings: &mut Vec<Bound<'src>>,
+    place: usize,
+    binding: Bound<'src>,
+) -> Result<(), AllocFailed<Bound<'src>>>
+    requires { place ≤ length bindings.old.items }
+    ensures items { bindings.new.items ≡ (if is_ok result then insert bindings.old.items place binding.entry else bindings.old.items) }
+    ensures returned { IfErr result (λ e. e.value ≡ binding.entry) }
+{
+    if bindings.len() == bindings.capacity() {
+        let more = bindings.len() / 16 + 1;
+        if bindings.try_reserve_exact(more).is_err() {
+            return Err(AllocFailed { value: binding });
+        }
+    }
+    bindings.insert(place, binding)
 }
 
 /// The bindings of a frame, by their numbers. Contracts see it as those that are left.
 #[derive(Drop)]
 pub struct Bindings<'a, B> {
-    values: Values<'a, Number, Box<B>>,
+    bindings: Iter<'a, B>,
 }
 
 impl<'a, B> Model for Bindings<'a, B> {
-    ghost use Rattle.std.specs.Prelude.{List, map};
+    ghost use Rattle.std.specs.Prelude.{List};
+    ghost use Rattle.std.specs.Slice.Iter.{iter_rest};
 
     ghost Value = { List B };
 
-    ghost view = { λ b. map (λ x. x.value) b.values };
+    ghost view = { λ b. iter_rest b.bindings };
 }
 
 impl<'a, B> Iterator for Bindings<'a, B> {
@@ -106,14 +146,10 @@ impl<'a, B> Iterator for Bindings<'a, B> {
     ghost remaining = { λ s. at_most (length s) };
 
     fn next(&mut self) -> Option<&'a B> {
-        match self.values.next() {
-            Some(binding) => Some(binding.as_ref()),
-            None => None,
-        }
+        self.bindings.next()
     }
 
     fn size_hint(&self) -> (usize, Option<usize>) {
-        let len = self.values.len();
-        (len, Some(len))
+        self.bindings.size_hint()
     }
 }

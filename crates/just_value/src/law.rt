@@ -9,12 +9,12 @@ pub fn lists_are_put_together()
     ensures alone { JoinedAlone }
     // Of two lists of one length each text goes with the one at its place.
     ensures pairwise { GoPairwise }
-    // Three or more texts in a row have a comma behind each but the last, which stands behind the conjunction.
+    // Three or more texts in a row have a comma after each but the last, which stands after the conjunction.
     ensures row { PutInARow }
 {}
 
 /// Paths are put together again from what is told of them.
 pub fn paths_join_again()
-    // A path with neither an empty part nor `.` behind a `/` is its parent joined with its file name.
+    // A path with neither an empty part nor `.` after a `/` is its parent joined with its file name.
     ensures { JoinedAgain }
 {}

@@ -12,6 +12,7 @@ pub mod list;
 pub mod path;
 pub mod positional;
 pub mod scope;
+pub mod steps;
 pub mod uri;
 pub mod value;
 
@@ -22,5 +23,6 @@ pub use frame::{Bindings, Frame};
 pub use list::{Enclosure, Items, List, Listed, Ticked};
 pub use positional::{Override, Positional};
 pub use scope::Scope;
+pub use steps::Steps;
 pub use uri::encode_uri_component;
 pub use value::Value;

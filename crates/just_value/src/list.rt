@@ -18,7 +18,7 @@ pub trait Listed {
         ensures { WritesOnOk W.write_str_gives f.old result (text self.now) f.new };
 }
 
-/// Items that are lent, and the mark on both sides of each.
+/// Items that are borrowed, and the mark on both sides of each.
 pub trait Items<T> {
     ghost use Rattle.std.specs.Prelude.{List, ℕ};
 
@@ -45,7 +45,7 @@ pub struct Enclosure<'a, T> {
 }
 
 /// Items in a row: nothing for none, one alone, two with the conjunction between, and of more each
-/// but the last with a comma behind it and the last behind the conjunction.
+/// but the last with a comma after it and the last after the conjunction.
 #[derive(Drop)]
 pub struct List<T, I> {
     conjunction: &'static str,

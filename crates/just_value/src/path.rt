@@ -10,8 +10,8 @@ use just_text::Text;
 use std::alloc::{AllocError, Global};
 use std::path::Path;
 
-/// What is behind the last dot of the file name. Refused where there is no file name, or no dot
-/// behind its first byte.
+/// What is after the last dot of the file name. Refused where there is no file name, or no dot
+/// after its first byte.
 #[tactic(auto, using(crate::proofs::PathParts::extension_is))]
 pub fn extension(alloc: Global, path: &str) -> Result<String, ValueFault<'static>>
     ensures found { IfOk result (λ s. spec.extension path.now ≡ Some (string_bytes s)) }
@@ -35,7 +35,7 @@ pub fn file_name(alloc: Global, path: &str) -> Result<String, ValueFault<'static
     }
 }
 
-/// The file name before its last dot, or the whole where there is no dot behind its first byte.
+/// The file name before its last dot, or the whole where there is no dot after its first byte.
 /// Refused where there is no file name.
 #[tactic(auto, using(crate::proofs::PathParts::file_stem_is))]
 pub fn file_stem(alloc: Global, path: &str) -> Result<String, ValueFault<'static>>
@@ -49,7 +49,7 @@ pub fn file_stem(alloc: Global, path: &str) -> Result<String, ValueFault<'static
 }
 
 /// The beginning of the text up to the end of the part before the last, or `.` where that is empty.
-/// Refused where there is no part behind the root.
+/// Refused where there is no part after the root.
 #[tactic(auto, using(crate::proofs::PathParts::parent_is))]
 pub fn parent_directory(alloc: Global, path: &str) -> Result<String, ValueFault<'static>>
     ensures found { IfOk result (λ s. spec.directory path.now ≡ Some (string_bytes s)) }
@@ -69,7 +69,7 @@ fn or_dot(text: &str) -> &str
 }
 
 /// The right side if it begins with `/`; else the left side, a `/` unless that is empty or ends in
-/// one, and the right side. Refused only where memory is.
+/// one, and the right side.
 #[tactic(auto, using(crate::proofs::PathParts::join_is))]
 pub fn join(alloc: Global, left: &str, right: &str) -> Result<String, AllocError>
     ensures { IfOk result (λ s. string_bytes s ≡ spec.join left.now right.now) }

@@ -36,8 +36,8 @@ struct Opening {
 impl Positional {
     /// Splits the words. Before the first search directory or argument a word with `=` is an
     /// override, cut at its first `=`. Then `.` and `..` are the search directory, a word with `/`
-    /// is cut behind its last one into the search directory and, unless it is empty, the first
-    /// argument, and any other word is the first argument. All words behind are arguments. Refused
+    /// is cut after its last one into the search directory and, unless it is empty, the first
+    /// argument, and any other word is the first argument. All words after are arguments. Refused
     /// only where memory is.
     pub fn from_values(alloc: Global, values: &[String]) -> Result<Positional, AllocError>
         ensures { IfOk result (λ p. p ≡ split (map string_bytes values.now)) }
@@ -123,7 +123,7 @@ fn read_opening(alloc: Global, word: &str) -> Result<Opening, AllocError>
     })
 }
 
-/// What ends in the last `/`, and what is behind it.
+/// What ends in the last `/`, and what is after it.
 fn cut_behind_slash(word: &str) -> Option<(&str, &str)>
     ensures { MatchOption result (list_any is_slash word.now ≡ false) (λ x. (list_any is_slash word.now ≡ true) × (x.0.now ≡ take (slash_end word.now) word.now) × (x.1.now ≡ drop (slash_end word.now) word.now)) }
 {

@@ -1,12 +1,15 @@
 //! Scopes: frames inside one another.
-ghost use Rattle.std.specs.Prelude.{◌≡◌, ◌∷◌, [], IfOk, IfErr, OnOk, map};
+ghost use Rattle.std.specs.Prelude.{◌≡◌, ◌+◌, ◌≤◌, ◌∷◌, [], IfOk, IfErr, OnOk, length, map};
 ghost use Rattle.std.specs.Option.{option_map};
+ghost use Rattle.std.specs.Ordering.{nat_cmp};
 ghost use Rattle.just_value.specs.Constants.{constant_rows};
 ghost use Rattle.just_value.specs.Frames.{BindsRows, Rebinds, ByNumber, bound_of, constant_binding, look_up, value_binding};
+ghost use Rattle.just_value.specs.Searches.{IsPlace, digits};
 
 use crate::bound::Bound;
 use crate::constant::{CONSTANT_COUNT, constants};
 use crate::frame::{Bindings, Frame};
+use crate::steps::Steps;
 use crate::value::Value;
 use just_text::{Name, Number, Numerator, Token, TokenKind};
 use std::alloc::{AllocError, AllocFailed, Global};
@@ -29,7 +32,7 @@ impl<'outer, 'src> Model for Scope<'outer, 'src> {
 }
 
 impl<'outer, 'src> Scope<'outer, 'src> {
-    /// The constants, numbered in their order. Refused only where memory is.
+    /// The constants, numbered in their order.
     pub fn root(alloc: Global) -> Result<Scope<'outer, 'src>, AllocError>
         ensures { IfOk result (λ s. BindsRows constant_rows s.own × (s.outer ≡ [])) }
     {
@@ -47,7 +50,7 @@ impl<'outer, 'src> Scope<'outer, 'src> {
         })
     }
 
-    /// An empty frame inside this scope's frames. Refused only where memory is.
+    /// An empty frame inside this scope's frames.
     pub fn child(&self, alloc: Global) -> Result<Scope<'_, 'src>, AllocError>
         ensures { IfOk result (λ s. (s.own ≡ []) × (s.outer ≡ self.now.own ∷ self.now.outer)) }
     {
@@ -118,6 +121,16 @@ impl<'outer, 'src> Scope<'outer, 'src> {
             Some(binding) => Some(&binding.value),
             None => None,
         }
+    }
+
+    /// The place of the number's binding among those of the innermost frame by their numbers, or else
+    /// the place where one would go. Takes no memory, and at most as many comparisons as the count of
+    /// its bindings has binary digits.
+    pub fn position(&self, number: Number, steps: &mut Steps) -> Result<usize, usize>
+        ensures place { IsPlace nat_cmp (map (λ b. b.number) self.now.own) number result }
+        ensures counted { steps.new.taken ≤ steps.old.taken + digits (length self.now.own) }
+    {
+        self.own.position(number, steps)
     }
 
     /// Goes over the innermost frame's bindings by their numbers. Takes no memory.

@@ -22,7 +22,7 @@ const ESCAPED: AsciiSet = ascii_set!(
 );
 
 /// The text with each byte but ASCII letters, digits and `-_.!~*'()` as `%` and two upper-case
-/// hexadecimal digits. Refused only where memory is.
+/// hexadecimal digits.
 pub fn encode_uri_component(alloc: Global, text: &str) -> Result<String, AllocError>
     ensures { IfOk result (λ s. string_bytes s ≡ flat_map uri_byte text.now) }
 {

@@ -10,16 +10,16 @@ ghost use Rattle.std.specs.Vec.Iter.{into_iter_items};
 ghost use Rattle.just_value.specs.Values.{joined, applied};
 ghost use Rattle.just_value.specs.declared.fault.ValueFault.TheVariants.{OutOfMemory, Const};
 ghost use Rattle.just_value.specs.declared.fault.ConstEvalError.TheVariants.{ListOperation};
-ghost use Rattle.just_expression_tree.specs.Operators.{list_separator};
+ghost use Rattle.tree_expressions.specs.Operators.{list_separator};
 
 use crate::combine::combine;
 use crate::fault::{ConstEvalError, ValueFault};
-use just_expression_tree::ListOperator;
 use just_text::Token;
 use std::alloc::{AllocError, AllocFailed, Global};
 use std::cmp::Ordering;
 use std::marker::Model;
 use std::{slice, vec};
+use tree_expressions::ListOperator;
 
 /// A list of texts. Contracts see it as the list of their bytes.
 #[derive(Drop)]
@@ -46,7 +46,7 @@ impl Value {
         }
     }
 
-    /// A copy of the text, alone. Refused only where memory is.
+    /// A copy of the text, alone.
     pub fn from_text(alloc: Global, text: &str) -> Result<Value, AllocError>
         ensures { IfOk result (λ v. v ≡ text.now ∷ []) }
     {
@@ -54,7 +54,7 @@ impl Value {
         Value::from_string(alloc, copy)
     }
 
-    /// The text, alone. Refused only where memory is.
+    /// The text, alone.
     pub fn from_string(alloc: Global, text: String) -> Result<Value, AllocError>
         ensures { IfOk result (λ v. v ≡ string_bytes text ∷ []) }
     {
@@ -63,7 +63,7 @@ impl Value {
         Ok(Value { elements })
     }
 
-    /// `true` alone, or the empty list. Refused only where memory is.
+    /// `true` alone, or the empty list.
     pub fn from_bool(alloc: Global, truth: bool) -> Result<Value, AllocError>
         ensures { IfOk result (λ v. v ≡ (if truth then codes "true" ∷ [] else [])) }
     {
@@ -73,7 +73,7 @@ impl Value {
         Ok(Value::new(alloc))
     }
 
-    /// The texts in the order in which the iterator gives them. Refused only where memory is.
+    /// The texts in the order in which the iterator gives them.
     pub fn from_iter<I: Iterator<Item = String>>(
         alloc: Global,
         texts: I,
@@ -86,7 +86,7 @@ impl Value {
         Ok(Value { elements })
     }
 
-    /// The elements of the lists, one list behind the other. Refused only where memory is.
+    /// The elements of the lists, one list after the other.
     pub fn from_values(alloc: Global, values: Vec<Value>) -> Result<Value, AllocError>
         ensures { IfOk result (λ v. v ≡ flat_map (λ list. list) values.items) }
     {
@@ -125,7 +125,7 @@ impl Value {
         !self.is_empty()
     }
 
-    /// Puts the text behind the others. A refused growth changes nothing and gives it back.
+    /// Puts the text after the others. A refused growth changes nothing and gives it back.
     pub fn push(&mut self, text: String) -> Result<(), AllocFailed<String>>
         ensures grown { self.new ≡ (if is_ok result then self.old ++ string_bytes text ∷ [] else self.old) }
         ensures returned { IfErr result (λ e. e.value ≡ text) }
@@ -133,7 +133,7 @@ impl Value {
         self.elements.push(text)
     }
 
-    /// Puts the other's elements behind the own. A refused growth changes nothing.
+    /// Puts the other's elements after the own. A refused growth changes nothing.
     pub fn append(&mut self, other: Value) -> Result<(), AllocError>
         ensures { self.new ≡ (if is_ok result then self.old ++ other else self.old) }
     {
@@ -141,7 +141,7 @@ impl Value {
         self.elements.append(&mut elements)
     }
 
-    /// The elements with a space between two. Refused only where memory is.
+    /// The elements with a space between two.
     pub fn join(&self, alloc: Global) -> Result<String, AllocError>
         ensures { IfOk result (λ s. string_bytes s ≡ joined self.now) }
     {

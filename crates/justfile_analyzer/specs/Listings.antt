@@ -5,17 +5,17 @@ use Rattle.std.specs.Str.{trim}
 use Rattle.std.specs.String.{string_bytes}
 use Rattle.unicode_width.specs.Width.{str_width}
 use Rattle.just_text.specs.Tokens.{lexeme}
-use Rattle.just_expression_tree.specs.Cutting.{without_front}
-use Rattle.just_attribute_tree.specs.declared.attribute.Attribute.{Attribute}
-use Rattle.just_attribute_tree.specs.declared.attribute.Attribute.TheVariants.{Doc}
-use Rattle.just_attribute_tree.specs.declared.attribute.AttributeKind.TheVariants.{Doc as DocKind}
-use Rattle.just_attributes.specs.Sets.{is_of, items_of}
-use Rattle.just_tree.specs.Recipes.{parameter_shapes, signature_text}
-use Rattle.just_tree.specs.declared.ast.Item.{Item}
-use Rattle.just_tree.specs.declared.ast.Item.TheVariants.{Comment}
-use Rattle.just_compilation.specs.Places.{items_in}
-use Rattle.just_compilation.specs.declared.compilation.Compilation.{Compilation}
-use Rattle.just_compilation.specs.declared.place.Place.{Place}
+use Rattle.tree_expressions.specs.Cutting.{without_front}
+use Rattle.tree_attributes.specs.declared.attribute.Attribute.{Attribute}
+use Rattle.tree_attributes.specs.declared.attribute.Attribute.TheVariants.{Doc}
+use Rattle.tree_attributes.specs.declared.attribute.AttributeKind.TheVariants.{Doc as DocKind}
+use Rattle.tree_attribute_sets.specs.Sets.{is_of, items_of}
+use Rattle.tree_items.specs.Recipes.{parameter_shapes, signature_text}
+use Rattle.tree_items.specs.declared.ast.Item.{Item}
+use Rattle.tree_items.specs.declared.ast.Item.TheVariants.{Comment}
+use Rattle.modules_compilation.specs.Places.{items_in}
+use Rattle.modules_compilation.specs.declared.compilation.Compilation.{Compilation}
+use Rattle.modules_compilation.specs.declared.place.Place.{Place}
 use Rattle.justfile_analyzer.specs.declared.listing.Row.{Row}
 use Rattle.justfile_analyzer.specs.Offers.{Written, module_name, offered_modules, offered_recipes}
 
@@ -27,7 +27,7 @@ pub record Listed : Type 0 where
 abbrev pub listed : Row → Listed
 listed row = record { signature = string_bytes row.signature; doc = option_map (λ doc. doc.now) row.doc }
 
--- the text behind a comment's `#`, without white space around it
+-- the text after a comment's `#`, without white space around it
 abbrev pub comment_text : List ℕ → List ℕ
 comment_text comment = trim (without_front (codes "#") comment)
 
@@ -79,12 +79,12 @@ abbrev pub column : List Listed → ℕ
 column [] = 0
 column (recipe ∷ recipes) = max (counted recipe.signature) (column recipes)
 
--- what is said of a recipe, behind so many spaces and ` # `
+-- what is said of a recipe, after so many spaces and ` # `
 abbrev pub doc_text : ℕ → Option (List ℕ) → List ℕ
 doc_text spaces None = []
 doc_text spaces (Some doc) = replicate spaces 32 ++ (codes " # " ++ doc)
 
--- a recipe's line: the signature behind four spaces, and what is said of it behind the column
+-- a recipe's line: the signature after four spaces, and what is said of it after the column
 abbrev pub recipe_line : ℕ → Listed → List ℕ
 recipe_line column recipe = codes "    " ++ (recipe.signature ++ (doc_text (column - columns recipe.signature) recipe.doc ++ codes "\n"))
 

@@ -1,16 +1,16 @@
 -- What modules offer: their recipes and submodules that are not private.
 use Rattle.std.specs.Prelude.{ℕ, Bool, true, not, ◌||◌, ◌==◌, List, [], Option, Some, None, filter, filter_map, option_map, slice_get, slice_index, if◌then◌else◌}
 use Rattle.just_text.specs.Tokens.{lexeme}
-use Rattle.just_attributes.specs.Sets.{items_of, is_private as private_by}
-use Rattle.just_attributes.specs.declared.attribute_item.AttributeItem.{AttributeItem}
-use Rattle.just_tree.specs.declared.ast.Item.{Item}
-use Rattle.just_tree.specs.declared.ast.Item.TheVariants.{Module as ModuleItem, Recipe as RecipeItem}
-use Rattle.just_tree.specs.declared.recipe.Recipe.{Recipe}
-use Rattle.just_tree.specs.declared.recipe.UnresolvedDependency.{UnresolvedDependency}
-use Rattle.just_compilation.specs.Places.{item_at, text_of}
-use Rattle.just_compilation.specs.declared.compilation.Compilation.{Compilation}
-use Rattle.just_compilation.specs.declared.module_node.ModuleNode.{ModuleNode}
-use Rattle.just_compilation.specs.declared.place.Place.{Place}
+use Rattle.tree_attribute_sets.specs.Sets.{items_of, is_private as private_by}
+use Rattle.tree_attribute_sets.specs.declared.attribute_item.AttributeItem.{AttributeItem}
+use Rattle.tree_items.specs.declared.ast.Item.{Item}
+use Rattle.tree_items.specs.declared.ast.Item.TheVariants.{Module as ModuleItem, Recipe as RecipeItem}
+use Rattle.tree_items.specs.declared.recipe.Recipe.{Recipe}
+use Rattle.tree_items.specs.declared.recipe.UnresolvedDependency.{UnresolvedDependency}
+use Rattle.modules_compilation.specs.Places.{item_at, text_of}
+use Rattle.modules_compilation.specs.declared.compilation.Compilation.{Compilation}
+use Rattle.modules_compilation.specs.declared.module_node.ModuleNode.{ModuleNode}
+use Rattle.modules_compilation.specs.declared.place.Place.{Place}
 use Rattle.justfile_analyzer.specs.declared.offered.RecipeRef.{RecipeRef}
 
 -- a name that begins with `_`, or an attribute, makes an item private

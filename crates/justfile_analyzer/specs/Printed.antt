@@ -1,26 +1,26 @@
 -- Modules as they are printed.
 use Rattle.std.specs.Prelude.{ℕ, ◌==◌, ◌&&◌, Bool, List, [], ◌∷◌, ◌++◌, Option, Some, None, codes, length, slice_get, if◌then◌else◌}
 use Rattle.std.specs.List.{flat_map}
-use Rattle.just_tree.specs.Files.{item_shape, item_text}
-use Rattle.just_tree.specs.declared.ast.Item.{Item}
-use Rattle.just_compilation.specs.Places.{item_at}
-use Rattle.just_compilation.specs.declared.compilation.Compilation.{Compilation}
-use Rattle.just_compilation.specs.declared.module_node.ModuleNode.{ModuleNode}
-use Rattle.just_compilation.specs.declared.place.Place.{Place}
+use Rattle.tree_items.specs.Files.{item_shape, item_text}
+use Rattle.tree_items.specs.declared.ast.Item.{Item}
+use Rattle.modules_compilation.specs.Places.{item_at}
+use Rattle.modules_compilation.specs.declared.compilation.Compilation.{Compilation}
+use Rattle.modules_compilation.specs.declared.module_node.ModuleNode.{ModuleNode}
+use Rattle.modules_compilation.specs.declared.place.Place.{Place}
 
 abbrev pub text_behind : List ℕ → Option Item → List ℕ
 text_behind front None = []
 text_behind front (Some item) = front ++ (item_text (codes "    ") (item_shape item) ++ codes "\n")
 
--- the item at a place behind the front, and a newline; nothing where there is no item
+-- the item at a place after the front, and a newline; nothing where there is no item
 abbrev pub item_behind : Compilation → List ℕ → Place → List ℕ
 item_behind compilation front place = text_behind front (item_at compilation place)
 
--- items, each behind an empty line
+-- items, each after an empty line
 abbrev pub others_text : Compilation → List Place → List ℕ
 others_text compilation places = flat_map (item_behind compilation (codes "\n")) places
 
--- items, the first behind the front and each other behind an empty line
+-- items, the first after the front and each other after an empty line
 abbrev pub items_text : Compilation → List ℕ → List Place → List ℕ
 items_text compilation front [] = []
 items_text compilation front (place ∷ places) = item_behind compilation front place ++ others_text compilation places

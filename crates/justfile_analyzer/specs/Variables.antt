@@ -4,7 +4,7 @@ use Rattle.std.specs.List.{flat_map}
 use Rattle.just_text.specs.Tokens.{lexeme}
 use Rattle.just_value.specs.Frames.{Frames, look_up}
 use Rattle.just_value.specs.Values.{value_text}
-use Rattle.just_builtins.specs.declared.context.AssignmentRef.{AssignmentRef}
+use Rattle.evaluate_context.specs.declared.context.AssignmentRef.{AssignmentRef}
 
 -- how long the name is; that of a private variable does not count
 abbrev pub counted_name : AssignmentRef → ℕ
@@ -25,6 +25,6 @@ abbrev pub variable_line : Frames → ℕ → AssignmentRef → List ℕ
 variable_line frames column variable =
     if variable.assignment.now.private then [] else value_line column (lexeme variable.assignment.now.name.token) (option_map (λ b. b.value) (look_up frames variable.assignment.now.number))
 
--- a line for each variable, with the values behind the longest name
+-- a line for each variable, with the values after the longest name
 abbrev pub variables_text : Frames → List AssignmentRef → List ℕ
 variables_text frames variables = flat_map (variable_line frames (longest variables)) variables

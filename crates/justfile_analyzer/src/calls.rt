@@ -1,8 +1,8 @@
 //! Which functions are called, directly or through functions, and whether the flag of dependencies is
 //! asked for.
-use just_builtins::FunctionRef;
-use just_order::reached;
-use just_references::{Reference, References};
+use evaluate_context::FunctionRef;
+use resolve_order::reached;
+use resolve_references::{Reference, References};
 use std::alloc::{AllocError, Global};
 
 /// The built-in function that tells dependencies apart.

@@ -9,9 +9,10 @@ use crate::listing::listing_of;
 use crate::offered::{RecipeRef, module_name, public_modules, public_recipes};
 use crate::printed::print_node;
 use crate::recursive::{groups_of, modules_below, recipes_of};
-use just_compilation::Compilation;
+use modules_compilation::Compilation;
 use std::alloc::{AllocError, Global};
 use std::fmt;
+use tree_items::Keyed;
 
 /// A module of a resolved justfile, with its submodules.
 #[derive(Clone, Copy)]
@@ -65,21 +66,14 @@ impl<'src, 'a> Justfile<'src, 'a> {
         }
     }
 
-    /// The module's name, which is empty for the root.
-    pub fn key(&self) -> &'src str
-        ensures { result.now ≡ offers.module_name self.now.compilation.now (place_of self.now) }
-    {
-        module_name(self.compilation, self.module)
-    }
-
-    /// The recipes that are not private, by name. Refused only where memory is.
+    /// The recipes that are not private, by name.
     pub fn public_recipes(&self, alloc: Global) -> Result<Vec<RecipeRef<'a, 'src>>, AllocError>
         ensures { IfOk result (λ recipes. map offers.lent recipes.items ≡ offers.offered_recipes self.now.compilation.now (place_of self.now)) }
     {
         public_recipes(alloc, self.compilation, self.module)
     }
 
-    /// The submodules that are not private, by name. Refused only where memory is.
+    /// The submodules that are not private, by name.
     pub fn public_modules(&self, alloc: Global) -> Result<Vec<Justfile<'src, 'a>>, AllocError>
         ensures { IfOk result (λ modules. map place_of modules.items ≡ offers.offered_modules self.now.compilation.now (place_of self.now)) }
     {
@@ -88,7 +82,7 @@ impl<'src, 'a> Justfile<'src, 'a> {
     }
 
     /// The module itself, then its submodules that are not private, and theirs, parents first, those
-    /// of one parent by name. Refused only where memory is.
+    /// of one parent by name.
     pub fn public_modules_recursive(
         &self,
         alloc: Global,
@@ -108,7 +102,6 @@ impl<'src, 'a> Justfile<'src, 'a> {
     }
 
     /// The distinct groups of the recipes and submodules that are not private, in byte order.
-    /// Refused only where memory is.
     pub fn public_groups(&self, alloc: Global) -> Result<Vec<&'a str>, AllocError> {
         groups_of(alloc, self.compilation, &[self.module])
     }
@@ -121,11 +114,20 @@ impl<'src, 'a> Justfile<'src, 'a> {
     }
 
     /// The list of the module's recipes that are not private, each with what is said of it, and of
-    /// its submodules that are not private. Refused only where memory is.
+    /// its submodules that are not private.
     pub fn listing(&self, alloc: Global) -> Result<String, AllocError>
         ensures { IfOk result (λ text. string_bytes text ≡ listings.listing self.now.compilation.now (place_of self.now)) }
     {
         listing_of(alloc, self.compilation, self.module)
+    }
+}
+
+/// By the module's name, which is empty for the root.
+impl Keyed for Justfile<'_, '_> {
+    ghost key_text = { λ justfile. offers.module_name justfile.compilation.now (place_of justfile) };
+
+    fn key(&self) -> &str {
+        module_name(self.compilation, self.module)
     }
 }
 

@@ -14,10 +14,10 @@ mod steady;
 mod target;
 mod variables;
 
-pub use just_tree::RecipeSignature;
 pub use justfile::Justfile;
 pub use names::menus;
 pub use offered::RecipeRef;
 pub use steady::is_steady;
 pub use target::{EvaluationTarget, evaluation_target};
+pub use tree_items::RecipeSignature;
 pub use variables::variables_text;

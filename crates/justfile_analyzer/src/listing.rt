@@ -2,16 +2,16 @@
 ghost use Rattle.std.specs.Prelude.{◌≡◌, ◌++◌, IfOk, OnOk, map, option_map};
 ghost use Rattle.std.specs.List.{flat_map};
 ghost use Rattle.std.specs.String.{string_bytes};
-ghost use Rattle.just_compilation.specs.Places.{item_at};
+ghost use Rattle.modules_compilation.specs.Places.{item_at};
 ghost use Rattle.justfile_analyzer.specs.Listings as spec;
 ghost use Rattle.justfile_analyzer.specs.Offers.{lent, module_name};
 
 use crate::offered::{RecipeRef, module_name, public_modules, public_recipes};
 use crate::padding::push_spaces;
-use just_attribute_tree::{Attribute, AttributeKind};
-use just_compilation::{Compilation, Place};
-use just_tree::{Item, Recipe, UnresolvedDependency};
+use modules_compilation::{Compilation, Place};
 use std::alloc::{AllocError, Global};
+use tree_attributes::{Attribute, AttributeKind};
+use tree_items::{Item, Recipe, UnresolvedDependency};
 use unicode_width::UnicodeWidthStr;
 
 /// The widest column of signatures.
@@ -111,7 +111,7 @@ fn column(rows: &[Row]) -> usize
     column
 }
 
-/// Puts what is said of a recipe behind the text, behind so many spaces.
+/// Puts what is said of a recipe after the text, after so many spaces.
 fn push_doc(text: &mut String, spaces: usize, doc: Option<&str>) -> Result<(), AllocError>
     ensures { OnOk result (string_bytes text.new ≡ string_bytes text.old ++ spec.doc_text spaces (option_map (λ doc. doc.now) doc.entry)) }
 {
@@ -123,7 +123,7 @@ fn push_doc(text: &mut String, spaces: usize, doc: Option<&str>) -> Result<(), A
     text.push_str(doc)
 }
 
-/// Puts the recipe's line behind the text.
+/// Puts the recipe's line after the text.
 fn push_row(text: &mut String, column: usize, row: &Row) -> Result<(), AllocError>
     ensures { OnOk result (string_bytes text.new ≡ string_bytes text.old ++ spec.recipe_line column (spec.listed row.now)) }
 {
@@ -134,7 +134,7 @@ fn push_row(text: &mut String, column: usize, row: &Row) -> Result<(), AllocErro
     text.push('\n')
 }
 
-/// Puts a line for each recipe behind the text.
+/// Puts a line for each recipe after the text.
 fn push_rows(text: &mut String, rows: &[Row]) -> Result<(), AllocError>
     ensures { OnOk result (string_bytes text.new ≡ string_bytes text.old ++ spec.recipe_lines (map spec.listed rows.now)) }
 {
@@ -145,7 +145,7 @@ fn push_rows(text: &mut String, rows: &[Row]) -> Result<(), AllocError>
     Ok(())
 }
 
-/// Puts the line of the submodule with this name behind the text.
+/// Puts the line of the submodule with this name after the text.
 fn push_module(text: &mut String, name: &str) -> Result<(), AllocError>
     ensures { OnOk result (string_bytes text.new ≡ string_bytes text.old ++ spec.module_line name.now) }
 {
@@ -154,7 +154,7 @@ fn push_module(text: &mut String, name: &str) -> Result<(), AllocError>
     text.push_str(" ...\n")
 }
 
-/// Puts a line for each submodule of these names behind the text.
+/// Puts a line for each submodule of these names after the text.
 fn push_modules(text: &mut String, names: &[&str]) -> Result<(), AllocError>
     ensures { OnOk result (string_bytes text.new ≡ string_bytes text.old ++ spec.module_lines (map (λ name. name.now) names.now)) }
 {
@@ -214,7 +214,7 @@ fn text_of(alloc: Global, rows: &[Row], names: &[&str]) -> Result<String, AllocE
 }
 
 /// The list of the recipes of the module at this place that are not private, each with what is said
-/// of it, and of its submodules that are not private. Refused only where memory is.
+/// of it, and of its submodules that are not private.
 pub(crate) fn listing_of(
     alloc: Global,
     compilation: &Compilation,

@@ -1,12 +1,12 @@
 //! What words may name of a justfile.
-use just_analysis::{RecipeTable, ResolvedAlias, ResolvedRecipe, default_recipe};
-use just_builtins::Settings;
-use just_compilation::{Compilation, ModuleNode, Place};
-use just_invocations::{Callable, Meaning, Menu, Menus, Slot};
+use analyze_words::{Callable, Meaning, Menu, Menus, Slot};
+use evaluate_context::Settings;
 use just_text::Text;
-use just_tree::{Parameter, ParameterKind};
+use modules_compilation::{Compilation, ModuleNode, Place};
+use resolve_analysis::{RecipeTable, ResolvedAlias, ResolvedRecipe, default_recipe};
 use std::alloc::{AllocError, Global};
 use std::collections::BTreeSet;
+use tree_items::{Parameter, ParameterKind};
 
 /// The text, if it is there.
 fn text_of<'a>(text: &'a Option<Text>) -> Option<&'a str> {
@@ -237,7 +237,7 @@ fn default_list(settings: &[Settings]) -> bool {
 }
 
 /// What these words may name: the recipes by their places, and of the names of each module, of which
-/// these are the settings, those that stand in the words. Refused only where memory is.
+/// these are the settings, those that stand in the words.
 pub fn menus<'a, 'src>(
     alloc: Global,
     compilation: &'a Compilation<'src>,

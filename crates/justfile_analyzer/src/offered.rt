@@ -1,15 +1,15 @@
 //! What modules offer: their recipes and submodules that are not private.
 ghost use Rattle.std.specs.Prelude.{◌≡◌, IfOk, OnOk, ◌++◌, filter, map, option_map};
-ghost use Rattle.just_attributes.specs.Sets.{items_of};
-ghost use Rattle.just_compilation.specs.Places.{item_at, text_of};
+ghost use Rattle.tree_attribute_sets.specs.Sets.{items_of};
+ghost use Rattle.modules_compilation.specs.Places.{item_at, text_of};
 ghost use Rattle.justfile_analyzer.specs.Offers as spec;
 
-use just_attributes::AttributeSet;
-use just_compilation::{Compilation, ModuleNode, Place};
-use just_tree::{Item, Recipe, UnresolvedDependency};
+use modules_compilation::{Compilation, ModuleNode, Place};
 use std::alloc::{AllocError, Global};
+use tree_attribute_sets::AttributeSet;
+use tree_items::{Item, Recipe, UnresolvedDependency};
 
-/// A recipe that is lent.
+/// A recipe that is borrowed.
 #[derive(Clone, Copy)]
 pub struct RecipeRef<'a, 'src> {
     pub recipe: &'a Recipe<'src, UnresolvedDependency<'src>>,
@@ -53,7 +53,7 @@ fn public_recipe<'a, 'src>(
     Some(RecipeRef { recipe, place })
 }
 
-/// The recipes at the places that are not private, in this order. Refused only where memory is.
+/// The recipes at the places that are not private, in this order.
 pub(crate) fn recipes_at<'a, 'src>(
     alloc: Global,
     compilation: &'a Compilation<'src>,
@@ -70,7 +70,7 @@ pub(crate) fn recipes_at<'a, 'src>(
     Ok(recipes)
 }
 
-/// The module's recipes that are not private, by name. Refused only where memory is.
+/// The module's recipes that are not private, by name.
 pub(crate) fn public_recipes<'a, 'src>(
     alloc: Global,
     compilation: &'a Compilation<'src>,
@@ -145,7 +145,7 @@ fn is_public(compilation: &Compilation, module: usize) -> bool
     }
 }
 
-/// The places of the module's submodules that are not private, by name. Refused only where memory is.
+/// The places of the module's submodules that are not private, by name.
 pub(crate) fn public_modules(
     alloc: Global,
     compilation: &Compilation,

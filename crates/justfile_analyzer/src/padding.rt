@@ -4,7 +4,7 @@ ghost use Rattle.std.specs.String.{string_bytes};
 
 use std::alloc::AllocError;
 
-/// Puts so many spaces behind the text. Refused only where memory is.
+/// Puts so many spaces after the text.
 pub(crate) fn push_spaces(text: &mut String, count: usize) -> Result<(), AllocError>
     ensures { OnOk result (string_bytes text.new ≡ string_bytes text.old ++ replicate count 32) }
 {

@@ -3,10 +3,10 @@ ghost use Rattle.std.specs.Prelude.{◌≡◌, ◌++◌};
 ghost use Rattle.std.specs.Fmt.{WritesOnOk};
 ghost use Rattle.justfile_analyzer.specs.Printed as spec;
 
-use just_compilation::{Compilation, ModuleNode, Place};
+use modules_compilation::{Compilation, ModuleNode, Place};
 use std::fmt;
 
-/// Writes the item at the place behind the front, and a newline behind it.
+/// Writes the item at the place after the front, and a newline after it.
 fn print_item<'a, 'src, W: fmt::Write>(
     compilation: &'a Compilation<'src>,
     f: &mut fmt::Formatter<W>,
@@ -21,7 +21,7 @@ fn print_item<'a, 'src, W: fmt::Write>(
     }
 }
 
-/// Writes the items at the places, each behind an empty line.
+/// Writes the items at the places, each after an empty line.
 fn print_others<W: fmt::Write>(
     compilation: &Compilation,
     f: &mut fmt::Formatter<W>,
@@ -35,7 +35,7 @@ fn print_others<W: fmt::Write>(
     Ok(())
 }
 
-/// Writes the items at the places, the first behind the front and each other behind an empty line.
+/// Writes the items at the places, the first after the front and each other after an empty line.
 fn print_items<W: fmt::Write>(
     compilation: &Compilation,
     f: &mut fmt::Formatter<W>,

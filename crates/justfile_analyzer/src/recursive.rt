@@ -1,8 +1,8 @@
 //! What modules offer with their submodules, and theirs: recipes and groups.
 use crate::offered::{RecipeRef, module_attributes, public_modules, recipe_places, recipes_at};
-use just_attributes::AttributeSet;
-use just_compilation::{Compilation, Place};
+use modules_compilation::{Compilation, Place};
 use std::alloc::{AllocError, Global};
+use tree_attribute_sets::AttributeSet;
 
 /// Puts the places there, the last first.
 fn push_last_first(open: &mut Vec<usize>, places: &[usize]) -> Result<(), AllocError> {
@@ -28,7 +28,7 @@ fn find_next(
 }
 
 /// The place of the module, then those of its submodules that are not private, and theirs, parents
-/// first, those of one parent by name. Refused only where memory is.
+/// first, those of one parent by name.
 pub(crate) fn modules_below(
     alloc: Global,
     compilation: &Compilation,
@@ -43,7 +43,7 @@ pub(crate) fn modules_below(
     Ok(found)
 }
 
-/// Puts the places behind the others.
+/// Puts the places after the others.
 fn push_places(all: &mut Vec<Place>, places: &[Place]) -> Result<(), AllocError> {
     for place in places {
         all.push(*place)?;
@@ -64,7 +64,7 @@ fn all_places(
     Ok(all)
 }
 
-/// The recipes of these modules that are not private. Refused only where memory is.
+/// The recipes of these modules that are not private.
 pub(crate) fn recipes_of<'a, 'src>(
     alloc: Global,
     compilation: &'a Compilation<'src>,
@@ -74,7 +74,7 @@ pub(crate) fn recipes_of<'a, 'src>(
     recipes_at(alloc, compilation, places.as_slice())
 }
 
-/// Puts the places of the module's submodules that are not private behind the others.
+/// Puts the places of the module's submodules that are not private after the others.
 fn add_modules(
     alloc: Global,
     compilation: &Compilation,
@@ -100,7 +100,7 @@ fn all_modules(
     Ok(all)
 }
 
-/// Puts the texts behind the others.
+/// Puts the texts after the others.
 fn push_texts<'a>(all: &mut Vec<&'a str>, texts: &[&'a str]) -> Result<(), AllocError> {
     for text in texts {
         all.push(*text)?;
@@ -108,7 +108,7 @@ fn push_texts<'a>(all: &mut Vec<&'a str>, texts: &[&'a str]) -> Result<(), Alloc
     Ok(())
 }
 
-/// Puts the groups that the attributes tell behind the others.
+/// Puts the groups that the attributes tell after the others.
 fn add_groups_of<'a>(
     alloc: Global,
     groups: &mut Vec<&'a str>,
@@ -171,7 +171,7 @@ fn groups_among<'a, 'src>(
 }
 
 /// The distinct groups of the recipes and submodules of these modules that are not private, in byte
-/// order. Refused only where memory is.
+/// order.
 pub(crate) fn groups_of<'a, 'src>(
     alloc: Global,
     compilation: &'a Compilation<'src>,

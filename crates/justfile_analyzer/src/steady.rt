@@ -1,13 +1,13 @@
 //! Whether recipes are entered alike as dependencies and by words.
 use crate::calls::references_ask;
-use just_analysis::{ModuleLists, ResolvedRecipe};
-use just_attribute_tree::Attribute;
-use just_attributes::AttributeSet;
-use just_builtins::{FunctionRef, Settings};
-use just_compilation::{Compilation, Place};
-use just_references::References;
-use just_tree::{DependencyArgument, Parameter, Recipe, UnresolvedDependency};
+use evaluate_context::{FunctionRef, Settings};
+use modules_compilation::{Compilation, Place};
+use resolve_analysis::{ModuleLists, ResolvedRecipe};
+use resolve_references::References;
 use std::alloc::{AllocError, Global};
+use tree_attribute_sets::AttributeSet;
+use tree_attributes::Attribute;
+use tree_items::{DependencyArgument, Parameter, Recipe, UnresolvedDependency};
 
 fn add_attribute<'src>(
     references: &mut References<'src>,
@@ -181,7 +181,7 @@ fn any_module_asks<'src>(
 /// Whether each of these recipes of all modules, which keep this and have these settings, is entered
 /// alike as a dependency and by words: no call of the built-in `is_dependency` is written in a default,
 /// an `env` attribute, an argument of a dependency before a body or a confirmation, in an argument of a
-/// dependency behind a body where the module's settings share subsequents, or in a function that is
+/// dependency after a body where the module's settings share subsequents, or in a function that is
 /// called from there through any chain of calls, and no parameter has a `value`. Refused only where
 /// memory is.
 pub fn is_steady<'src>(

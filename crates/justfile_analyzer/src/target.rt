@@ -1,8 +1,8 @@
 //! What is evaluated.
-use just_analysis::{ModuleLists, find_submodule};
-use just_builtins::AssignmentRef;
-use just_compilation::ModuleNode;
+use evaluate_context::AssignmentRef;
 use just_text::Number;
+use modules_compilation::ModuleNode;
+use resolve_analysis::{ModuleLists, find_submodule};
 
 /// What is evaluated.
 #[derive(Clone, Copy, Debug)]
@@ -52,7 +52,7 @@ fn target<'src>(
     }
 }
 
-/// What the word names from the root of these modules, which keep this: a module, or a variable, behind
+/// What the word names from the root of these modules, which keep this: a module, or a variable, after
 /// the names of the modules that lead to it with `::` between two. A module comes before a variable of
 /// its name.
 pub fn evaluation_target<'src>(

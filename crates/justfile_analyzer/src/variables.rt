@@ -4,7 +4,7 @@ ghost use Rattle.std.specs.String.{string_bytes};
 ghost use Rattle.justfile_analyzer.specs.Variables as spec;
 
 use crate::padding::push_spaces;
-use just_builtins::AssignmentRef;
+use evaluate_context::AssignmentRef;
 use just_value::{Scope, Value};
 use std::alloc::{AllocError, Global};
 

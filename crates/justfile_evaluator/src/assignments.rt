@@ -1,14 +1,14 @@
 //! The variables of a module.
-ghost use Rattle.just_builtins.specs.Asking.{Asks};
+ghost use Rattle.just_host.specs.Asking.{Asks};
 
-use just_builtins::{Error, ExecutionContext};
-use just_evaluation::Evaluator;
+use evaluate_context::{Error, ExecutionContext};
+use evaluate_expressions::Evaluator;
 use just_host::{Host, Recorded};
 use just_text::Number;
-use just_tree::Assignment;
 use just_value::{Scope, Value};
 use std::alloc::Global;
 use std::collections::BTreeSet;
+use tree_items::Assignment;
 
 /// What the variable stands for: the text that overrides it, else its expression's value.
 fn assigned_value<'src, H: Host + Drop>(

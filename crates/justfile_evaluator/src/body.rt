@@ -1,15 +1,16 @@
 //! Bodies whose lines are commands.
-ghost use Rattle.just_builtins.specs.Asking.{Asks};
+ghost use Rattle.just_host.specs.Asking.{Asks};
 
 use crate::fault::RunFault;
 use crate::script::run_script;
 use crate::site::{Site, folder_of, judge};
-use just_builtins::{Error, job_template};
-use just_evaluation::Evaluator;
+use evaluate_builtins::job_template;
+use evaluate_context::Error;
+use evaluate_expressions::Evaluator;
 use just_host::{CommandJob, JobTemplate, Recorded, RunHost};
 use just_text::Text;
-use just_tree::{Line, Sigils};
 use std::alloc::{AllocError, Global};
+use tree_items::{Line, Sigils};
 
 /// A command of one or more lines, as far as they were read.
 #[derive(Drop)]
@@ -49,7 +50,7 @@ impl Command {
         Ok(())
     }
 
-    /// The text behind the marks.
+    /// The text after the marks.
     fn behind_sigils(&self) -> &str {
         let text = self.text.as_str();
         let count = self.sigils.count();

@@ -1,14 +1,14 @@
 //! Variables that are constants.
-use just_attribute_tree::Interpreter;
-use just_builtins::{AssignmentRef, Error};
-use just_evaluation::Evaluator;
-use just_expression_tree::Expression;
+use evaluate_context::{AssignmentRef, Error};
+use evaluate_expressions::Evaluator;
 use just_host::{Answer, Host, Question, Recorded};
 use just_text::{Name, Number, Text};
-use just_tree::Assignment;
 use just_value::{ConstEvalError, Scope, StringContext, Value};
 use std::alloc::Global;
 use std::collections::{BTreeMap, BTreeSet};
+use tree_attributes::Interpreter;
+use tree_expressions::Expression;
+use tree_items::Assignment;
 
 /// A host that is never asked, since constants ask nothing.
 #[derive(Drop)]

@@ -1,8 +1,8 @@
 //! Why a run ended early.
-ghost use Rattle.std.specs.Prelude.{◌≡◌};
+ghost use Rattle.std.specs.Prelude.{◌≡◌, Some};
 ghost use Rattle.justfile_evaluator.specs.declared.fault.RunFault.TheVariants.{OutOfMemory};
 
-use just_builtins::Error;
+use evaluate_context::Error;
 use just_host::HostFault;
 use just_text::{Name, Text};
 use std::alloc::{AllocError, AllocFailed, Global};
@@ -83,6 +83,10 @@ impl<'src> RunFault<'src> {
 }
 
 impl fmt::Display for RunFault<'_> {
+    ghost use Rattle.justfile_evaluator.specs.Faulted.{fault_text};
+
+    ghost output = { λ fault. Some (fault_text fault) };
+
     fn fmt<W: fmt::Write>(&self, f: &mut fmt::Formatter<W>) -> fmt::Result {
         match self {
             RunFault::OutOfMemory => write!(f, "out of memory"),

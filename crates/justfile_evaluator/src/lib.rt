@@ -14,19 +14,20 @@ mod site;
 pub use assignments::{evaluate_assignments, open_assignments};
 pub use body::run_body;
 pub use const_evaluator::{ConstEvaluator, evaluate_const_assignments};
-pub use fault::RunFault;
-pub use just_builtins::{
-    ArgumentCount, AssignmentRef, Error, ExecutionContext, Function, FunctionRef, ModuleView,
-    Settings, find_function, job_template, run_command,
+pub use evaluate_builtins::{ArgumentCount, Function, job_template, run_command};
+pub use evaluate_context::{
+    AssignmentRef, Error, ExecutionContext, FunctionRef, ModuleView, Settings, find_function,
 };
-pub use just_evaluation::Evaluator;
+pub use evaluate_expressions::Evaluator;
+pub use fault::RunFault;
 pub use just_host::{
     Answer, CommandJob, Config, Confirmation, DotenvRequest, Entry, Host, HostFault, JobTemplate,
     MachineFact, Pair, Question, Recorded, RunHost, ScriptJob, Shared, Status,
 };
 pub use just_value::{
     Bindings, Bound, CONSTANT_COUNT, ConstError, ConstEvalError, Enclosure, Frame, List, Override,
-    Positional, Scope, StringContext, Ticked, Value, ValueFault, constants, encode_uri_component,
+    Positional, Scope, Steps, StringContext, Ticked, Value, ValueFault, constants,
+    encode_uri_component,
 };
 pub use parameters::{BoundParameters, evaluate_parameters, passes_words};
 pub use site::{Manner, Site};

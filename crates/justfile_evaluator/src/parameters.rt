@@ -1,16 +1,16 @@
 //! What a recipe's parameters stand for.
-ghost use Rattle.just_builtins.specs.Asking.{Asks};
+ghost use Rattle.just_host.specs.Asking.{Asks};
 
-use just_attribute_tree::{Attribute, AttributeKind};
-use just_attributes::{AttributeItem, AttributeSet};
-use just_builtins::{Error, ExecutionContext, Settings};
-use just_evaluation::{Evaluator, internal};
-use just_expression_tree::Expression;
+use evaluate_context::{Error, ExecutionContext, Settings};
+use evaluate_expressions::{Evaluator, internal};
 use just_host::{Host, Pair, Recorded};
 use just_text::{Name, Text};
-use just_tree::{Parameter, ParameterKind, Recipe};
 use just_value::{Scope, StringContext, Value};
 use std::alloc::{AllocError, Global};
+use tree_attribute_sets::{AttributeItem, AttributeSet};
+use tree_attributes::{Attribute, AttributeKind};
+use tree_expressions::Expression;
+use tree_items::{Parameter, ParameterKind, Recipe};
 
 /// What a recipe is given beside the frame of its parameters.
 #[derive(Drop)]
@@ -110,7 +110,7 @@ fn attribute_pairs<'src, H: Host + Drop, D>(
     Ok(env)
 }
 
-/// The value so often, one behind the other.
+/// The value so often, one after the other.
 fn repeated(alloc: Global, value: &Value, times: usize) -> Result<Value, AllocError> {
     let mut list = Value::new(alloc);
     for _ in 0..times {
@@ -169,7 +169,7 @@ fn parameter_value<'src, H: Host + Drop>(
     }
 }
 
-/// Puts the value's elements, or its join, behind the words.
+/// Puts the value's elements, or its join, after the words.
 fn push_positional(
     alloc: Global,
     positional: &mut Vec<String>,
@@ -214,7 +214,7 @@ fn check_count<'src, F: Fn(&Parameter, usize) -> bool>(
     })
 }
 
-/// Binds the value in the frame, and puts it behind the words, if there are any.
+/// Binds the value in the frame, and puts it after the words, if there are any.
 fn bind_parameter<'src>(
     alloc: Global,
     scope: &mut Scope<'_, 'src>,

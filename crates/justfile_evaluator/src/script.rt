@@ -1,18 +1,18 @@
 //! Bodies that are one script.
-ghost use Rattle.just_builtins.specs.Asking.{Asks};
+ghost use Rattle.just_host.specs.Asking.{Asks};
 
 use crate::fault::RunFault;
 use crate::site::{Site, extension_of, folder_of, judge};
-use just_attribute_tree::{Attribute, AttributeKind, Interpreter};
-use just_attributes::AttributeSet;
-use just_builtins::settings::interpreter_words;
-use just_builtins::{Error, JobEnvironment};
-use just_evaluation::Evaluator;
-use just_expression_tree::Expression;
+use evaluate_context::settings::interpreter_words;
+use evaluate_context::{Error, JobEnvironment};
+use evaluate_expressions::Evaluator;
 use just_host::{Recorded, RunHost, ScriptJob};
 use just_text::{Name, Sequence, Text};
-use just_tree::{Line, Sigils};
 use std::alloc::{AllocError, Global};
+use tree_attribute_sets::AttributeSet;
+use tree_attributes::{Attribute, AttributeKind, Interpreter};
+use tree_expressions::Expression;
+use tree_items::{Line, Sigils};
 
 /// The marks of a script: none.
 const NO_SIGILS: Sigils = Sigils {
@@ -120,7 +120,7 @@ fn default_words(alloc: Global, site: &Site, lines: &[Text]) -> Result<Sequence<
     }
 }
 
-/// The words that the script's path stands behind.
+/// The words that the script's path stands after.
 fn interpreter<'src, H: RunHost + Drop>(
     alloc: Global,
     host: &mut Recorded<H>,
@@ -136,7 +136,7 @@ fn interpreter<'src, H: RunHost + Drop>(
     }
 }
 
-/// The words behind the script's path.
+/// The words after the script's path.
 fn script_words(alloc: Global, site: &Site) -> Result<Sequence<Text>, AllocError> {
     let mut words = Sequence::new(alloc);
     if !site.manner.passes_words {

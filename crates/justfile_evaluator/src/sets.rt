@@ -1,13 +1,13 @@
 //! Settings, which are constants.
 use crate::const_evaluator::ConstEvaluator;
-use just_attribute_tree::Setting;
-use just_attributes::Indentation;
-use just_builtins::{Error, Settings};
-use just_expression_tree::Expression;
+use evaluate_context::{Error, Settings};
 use just_text::{Name, Text};
-use just_tree::Set;
 use just_value::StringContext;
 use std::alloc::Global;
+use tree_attribute_sets::Indentation;
+use tree_attributes::Setting;
+use tree_expressions::Expression;
+use tree_items::Set;
 
 impl<'a, 'src> ConstEvaluator<'a, 'src> {
     /// The one element of a setting's value.

@@ -1,14 +1,14 @@
 //! Where a recipe's body runs, and how.
 use crate::fault::RunFault;
 use crate::parameters::passes_words;
-use just_attribute_tree::{Attribute, AttributeKind};
-use just_attributes::AttributeSet;
-use just_builtins::{ExecutionContext, Settings};
+use evaluate_context::{ExecutionContext, Settings};
 use just_host::{Config, Pair, Status};
 use just_text::{Name, Text};
-use just_tree::{Line, Sigils};
 use just_value::{Scope, path};
 use std::alloc::{AllocError, Global};
+use tree_attribute_sets::AttributeSet;
+use tree_attributes::{Attribute, AttributeKind};
+use tree_items::{Line, Sigils};
 
 /// How a body runs, by its recipe's attributes and its module's settings.
 #[derive(Clone, Copy)]
@@ -122,7 +122,7 @@ pub(crate) fn extension_of(
     }
 }
 
-/// Whether the recipe's body goes on behind a command that ended so, or how it fails.
+/// Whether the recipe's body goes on after a command that ended so, or how it fails.
 pub(crate) fn judge<'src>(
     recipe: Name<'src>,
     status: Status,

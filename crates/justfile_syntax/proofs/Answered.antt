@@ -6,14 +6,14 @@ use Rattle.just_text.specs.declared.compile_error.CompileErrorKind.{CompileError
 use Rattle.just_text.specs.declared.compile_error.CompileErrorKind.TheVariants as kinds
 use Rattle.just_text.specs.declared.token.Token.{Token}
 use Rattle.just_text.specs.declared.token_kind.TokenKind.{TokenKind}
-use Rattle.just_tree.specs.Files.{ItemShape}
-use Rattle.just_expressions.specs.declared.fault.Fault.{Fault}
-use Rattle.just_expressions.specs.declared.fault.Fault.TheVariants as faults
-use Rattle.just_expressions.specs.Literals.{Expansion}
-use Rattle.just_expressions.specs.Reading.{shown, unexpected, refused}
-use Rattle.just_expressions.specs.Words.{is_significant, significant}
-use Rattle.just_expressions.proofs.Taken.{test}
-use Rattle.just_attributed_items.specs.Halting.{Halt, HaltsUnless, stopped, broken}
+use Rattle.tree_items.specs.Files.{ItemShape}
+use Rattle.parse_expressions.specs.declared.fault.Fault.{Fault}
+use Rattle.parse_expressions.specs.declared.fault.Fault.TheVariants as faults
+use Rattle.parse_expressions.specs.Literals.{Expansion}
+use Rattle.parse_expressions.specs.Reading.{shown, unexpected, refused}
+use Rattle.parse_expressions.specs.Words.{is_significant, significant}
+use Rattle.parse_expressions.proofs.Taken.{test}
+use Rattle.parse_attributed_items.specs.Halting.{Halt, HaltsUnless, stopped, broken}
 use Rattle.justfile_syntax.specs.Files.{Derives, Entry, items_in}
 use Rattle.justfile_syntax.specs.Laws.{FilesExactly}
 use Rattle.justfile_syntax.specs.Parsed.{HaltsBy, IsHalt, IsReason, IsTooFew, IsWant, RefusalHolds, last_token}

@@ -1,4 +1,4 @@
--- Words of code lead on before what may stand behind them.
+-- Words of code lead on before what may stand after them.
 use Rattle.std.proofs.Common.{◌≡◌, ℕ, true, List, [], ◌∷◌, ◌++◌, Option, None, refl}
 use Rattle.just_text.specs.Tokens.{Word}
 use Rattle.just_text.specs.declared.token_kind.TokenKind.{TokenKind}

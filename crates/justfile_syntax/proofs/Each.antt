@@ -33,7 +33,7 @@ module _ {A B C : Type 0} (f : A → B) (g : B → Option C) where
   each-behind [] b (z ∷ ys) y h k = absurd (let e : Some [] ≡ Some (z ∷ ys) = h in cc)
   each-behind (a ∷ as') b ys y h k = each-front b a as' y (g a) (each g as') ys (λ zs e. each-behind as' b zs y e k) refl refl h
 
-  -- where one more is something, it stands behind those before
+  -- where one more is something, it stands after those before
   pub each-more : (xs : List A) (i : ℕ) (d : A) (ys : List C) (y : C) → i < length xs → each g (map f (take i xs)) ≡ Some ys → g (f (get_or xs i d)) ≡ Some y → each g (map f (take (i + 1) xs)) ≡ Some (ys ++ y ∷ [])
   each-more xs i d ys y lt h k = ap (λ l. each g (map f l)) (take_more xs i d lt) ∙ ap (each g) (map-append f (take i xs) (get_or xs i d ∷ [])) ∙ each-behind (map f (take i xs)) (f (get_or xs i d)) ys y h k
 

@@ -3,25 +3,25 @@ use Rattle.std.proofs.Common.{◌≡◌, ℕ, zero, suc, ◌<◌, List, [], ◌�
 use Rattle.std.specs.Str.{trim_end}
 use Rattle.just_text.specs.Tokens.{Word}
 use Rattle.just_text.specs.declared.token_kind.TokenKind.TheVariants.{ByteOrderMark, Comment, Eof, Eol}
-use Rattle.just_tree.specs.Files.{ItemShape, comment_item, newline_item}
-use Rattle.just_expressions.specs.Words.{Mark}
-use Rattle.just_expressions.specs.Literals.{Expansion}
-use Rattle.just_expressions.specs.Reading.{Stop, accept, expect, is_next}
-use Rattle.just_expressions.proofs.Shorter.{accept_shorter}
-use Rattle.just_expressions.specs.LineEnds.{eol_at}
-use Rattle.just_recipes.specs.Laws.{EolsExactly}
-use Rattle.just_expressions.proofs.TokensTaken.{accept_mark, expect_begins, taken, none_taken, no_accept, is_next-yes, is_next-no, Reads}
-use Rattle.just_recipes.proofs.ExpressionsRead.{fewer}
-use Rattle.just_attributed_items.specs.Halting.{or_stopped}
-use Rattle.just_attributed_items.specs.Items.{IsAttributed}
-use Rattle.just_attributed_items.specs.Laws.{AttributedExactly}
+use Rattle.tree_items.specs.Files.{ItemShape, comment_item, newline_item}
+use Rattle.parse_expressions.specs.Words.{Mark}
+use Rattle.parse_expressions.specs.Literals.{Expansion}
+use Rattle.parse_expressions.specs.Reading.{Stop, accept, expect, is_next}
+use Rattle.parse_expressions.proofs.Shorter.{accept_shorter}
+use Rattle.parse_expressions.specs.LineEnds.{eol_at}
+use Rattle.parse_recipes.specs.Laws.{EolsExactly}
+use Rattle.parse_expressions.proofs.TokensTaken.{accept_mark, expect_begins, taken, none_taken, no_accept, is_next-yes, is_next-no, Reads}
+use Rattle.parse_recipes.proofs.ExpressionsRead.{fewer}
+use Rattle.parse_attributed_items.specs.Halting.{or_stopped}
+use Rattle.parse_attributed_items.specs.Items.{IsAttributed}
+use Rattle.parse_attributed_items.specs.Laws.{AttributedExactly}
 use Rattle.semver.specs.declared.Version.{Version}
 use Rattle.justfile_syntax.specs.Files.{Entry, IsCommentLine, IsStart, IsEntry, AreEntries}
 use Rattle.justfile_syntax.specs.Reading.{behind_mark, comment_at, ended, filled_at, entry_at, entries_at, file_at}
 use Rattle.justfile_syntax.specs.Laws.{AreFile, FilesExactly}
 use Rattle.justfile_syntax.proofs.ItemWords.{IsNeverFirst}
 use Rattle.justfile_syntax.proofs.EntryWords.{IsNeverAhead, attributed_lacks, entry, entry_shorter, entry_lacks, entries_lack}
-use Rattle.just_expressions.proofs.Taken.{bind_ok, inspect, test, turned}
+use Rattle.parse_expressions.proofs.Taken.{bind_ok, inspect, test, turned}
 
 -- ---- steps
 
@@ -138,7 +138,8 @@ module _ {T : Type 0} (word : T → Word) (ends : EolsExactly word) where
     entries_again (e ∷ es) (suc n) ts fuel (rest, h, more) =
         let open_still = none_taken word Eof ts (entry_lacks expansion current Eof never_eof e (map word ts) rest h) in
         let r = entry_again e ts rest h in
-        let less = fewer word ts r.rest rest r.others (entry_shorter expansion current e (map word ts) rest h) in
+        let shorter = entry_shorter expansion current e (map word ts) rest h in
+        let less = fewer word ts r.rest rest r.others (omega (arith, shorter)) in
         let others = entries_again es n r.rest (omega (arith, less)) (rw r.others more) in rw (open_still, r.is, others) refl
 
     -- ---- files

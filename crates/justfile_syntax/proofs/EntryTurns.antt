@@ -1,27 +1,27 @@
 -- What the items that a loop has read and the entries that it still reads say together.
-use Rattle.std.proofs.Common.{◌≡◌, ℕ, zero, suc, ◌-◌, ◌<◌, List, [], ◌∷◌, ◌++◌, length, map, replicate, Result, Ok, Err, Option, Some, None, refl, sym, ap, subst, ◌∙◌, inl, inr, arith, append_assoc}
-use Rattle.std.proofs.lemmas.List.{append-nil, map-append}
+use Rattle.std.proofs.Common.{◌≡◌, ℕ, zero, suc, ◌+◌, ◌-◌, ◌<◌, List, [], ◌∷◌, ◌++◌, length, map, replicate, Result, Ok, Err, Option, Some, None, refl, sym, ap, subst, ◌∙◌, inl, inr, arith, append_assoc}
+use Rattle.std.proofs.lemmas.List.{append-nil, length-map, map-append}
 use Rattle.std.specs.Prelude.{false, is_some, option_map, IfNone, IsSome}
 use Rattle.just_text.specs.Tokens.{word_of}
 use Rattle.just_text.specs.declared.token.Token.{Token}
 use Rattle.just_text.specs.declared.token_kind.TokenKind.TheVariants.{ByteOrderMark, Eof}
-use Rattle.just_tree.specs.declared.ast.Item.{Item}
-use Rattle.just_tree.specs.declared.ast.Item.TheVariants.{Newline}
-use Rattle.just_tree.specs.Files.{ItemShape, item_shape, item_shapes, newline_item}
-use Rattle.just_expressions.specs.declared.fault.Fault.{Fault}
-use Rattle.just_expressions.specs.declared.fault.Fault.TheVariants as faults
-use Rattle.just_expressions.specs.Literals.{Expansion}
-use Rattle.just_expressions.specs.Reading.{◌>>=◌, accept}
-use Rattle.just_expressions.proofs.Shorter.{accept_shorter}
-use Rattle.just_recipes.specs.Laws.{EolsExactly}
-use Rattle.just_recipes.proofs.ExpressionsRead.{fewer}
-use Rattle.just_attributed_items.specs.Halting.{Halt, HaltsUnless}
-use Rattle.just_attributed_items.specs.Laws.{AttributedExactly}
+use Rattle.tree_items.specs.declared.ast.Item.{Item}
+use Rattle.tree_items.specs.declared.ast.Item.TheVariants.{Newline}
+use Rattle.tree_items.specs.Files.{ItemShape, item_shape, item_shapes, newline_item}
+use Rattle.parse_expressions.specs.declared.fault.Fault.{Fault}
+use Rattle.parse_expressions.specs.declared.fault.Fault.TheVariants as faults
+use Rattle.parse_expressions.specs.Literals.{Expansion}
+use Rattle.parse_expressions.specs.Reading.{◌>>=◌, accept}
+use Rattle.parse_expressions.proofs.Shorter.{accept_shorter}
+use Rattle.parse_recipes.specs.Laws.{EolsExactly}
+use Rattle.parse_attributed_items.specs.Halting.{Halt, HaltsUnless}
+use Rattle.parse_attributed_items.specs.Laws.{AttributedExactly}
 use Rattle.justfile_syntax.specs.Files.{Entry, items_in, newlines}
 use Rattle.justfile_syntax.specs.Reading.{behind_mark, ended, entries_at, entry_at, file_at}
 use Rattle.justfile_syntax.specs.Told.{items_read}
 use Rattle.justfile_syntax.proofs.EntriesExact.{entry_found}
 use Rattle.justfile_syntax.proofs.EntryWords.{entry_shorter}
+use Rattle.justfile_syntax.proofs.ItemWords.{binding_count}
 use Rattle.semver.specs.declared.Version.{Version}
 
 -- the items that were read, and those of the entries that follow
@@ -46,7 +46,7 @@ nothing_before : (items : List Item) (read : Result (List Entry) (Halt Token)) �
 nothing_before items (Ok es) none = rw none refl
 nothing_before items (Err halt) none = refl
 
--- behind a byte order mark, if there is one, no more tokens stand than before it
+-- after a byte order mark, if there is one, no more tokens stand than before it
 pub record Begun (expansion : Expansion) (current : Version) (ts rest : List Token) (items : List Item) : Type 0 where
   pub fuel : length rest < suc (length ts)
   pub so_far : before items (entries_at word_of expansion current (suc (length ts)) rest) ≡ items_read (file_at word_of expansion current ts)
@@ -94,11 +94,13 @@ module _ (expansion : Expansion) (current : Version) where
     more_behind t rest h used (faults.Refused token kind) (inl g) = inl (rw g at (sym (at_end t rest h)))
     more_behind t rest h used (faults.Refused token kind) (inr g) = inr (rw g at (sym (at_end t rest h)))
 
--- an entry takes a token or more
-pub entry_fewer : (expansion : Expansion) (current : Version) → EolsExactly word_of → AttributedExactly word_of expansion current → (ts : List Token) (e : Entry) (rest : List Token) → entry_at word_of expansion current ts ≡ Ok (e, rest) → length rest < length ts
+-- an entry takes a token, and one for each of its bindings
+pub entry_fewer : (expansion : Expansion) (current : Version) → EolsExactly word_of → AttributedExactly word_of expansion current → (ts : List Token) (e : Entry) (rest : List Token) → entry_at word_of expansion current ts ≡ Ok (e, rest) → binding_count e.0 + length rest < length ts
 entry_fewer expansion current ends attributed ts e rest h =
     let is = entry_found word_of ends expansion current attributed ts (e, rest) h in
-    fewer word_of ts rest (map word_of rest) refl (entry_shorter expansion current e (map word_of ts) (map word_of rest) is)
+    let shorter = entry_shorter expansion current e (map word_of ts) (map word_of rest) is in
+    let before = length-map ts word_of in
+    let behind = length-map rest word_of in omega (arith, shorter, before, behind)
 
 -- what an option that is not none took
 pub taken : (ts : List Token) (o : Option Token) (rest : List Token) → accept word_of Eof ts ≡ option_map (λ t. (t, rest)) o → IsSome o → (t : Token) × (accept word_of Eof ts ≡ Some (t, rest))

@@ -1,31 +1,31 @@
--- How the items of a file begin, and that each takes words.
-use Rattle.std.proofs.Common.{◌≡◌, ℕ, ◌<◌, ◌≤◌, Bool, true, false, List, [], ◌∷◌, length, refl, ap, ◌∙◌, arith, inl, inr}
+-- How the items of a file begin, and that each takes words, one for each of its bindings among them.
+use Rattle.std.proofs.Common.{◌≡◌, ℕ, ◌+◌, ◌<◌, ◌≤◌, Bool, true, false, List, [], ◌∷◌, length, refl, ap, ◌∙◌, arith, inl, inr}
 use Rattle.just_text.specs.Tokens.{Word}
 use Rattle.just_text.specs.declared.token_kind.TokenKind.{TokenKind}
 use Rattle.just_text.specs.declared.token_kind.TokenKind.TheVariants.{BracketL, BracketR, ColonEquals, Comma, Comment, Eof, Eol, Identifier, StringToken}
-use Rattle.just_attribute_tree.specs.Attributes.{AttributeShape}
-use Rattle.just_tree.specs.Files.{ItemShape, comment_item, newline_item, recipe_item, set_item}
-use Rattle.just_attribute_tree.specs.Settings.{SetShape, ValueShape, truth, expression, interpreter, string, truth_text}
-use Rattle.just_expression_tree.specs.Shape.{Shape}
-use Rattle.just_expressions.specs.Words.{is_kind, Lacks}
-use Rattle.just_expressions.specs.Literals.{Expansion}
-use Rattle.just_expressions.proofs.Starts.{shorter}
-use Rattle.just_attribute_lines.specs.Rows.{Follow}
-use Rattle.just_attributes.specs.Order.{in_order}
-use Rattle.just_attribute_lines.specs.Lines.{IsAttribute, IsBetween, IsLast, AreAttributes}
-use Rattle.just_attribute_lines.proofs.Rest.{closes_takes, between_takes, attribute_takes, line_end_takes}
-use Rattle.just_expressions.proofs.TokensTaken.{front_shorter, mark_shorter, lacks}
-use Rattle.just_items.specs.Keywords.{set_keyword}
-use Rattle.just_items.specs.declared.form.Form.{Form}
-use Rattle.just_items.specs.declared.form.Form.TheVariants.{Indentation, Interpreter, Truth, Value, Version as VersionForm}
-use Rattle.just_items.specs.Settings.{AreElements, IsValue, IsSet}
-use Rattle.just_attributed_items.specs.Bare.{IsBare}
-use Rattle.just_attributed_items.specs.Fitting.{with_attributes}
-use Rattle.just_attributed_items.specs.Items.{IsAttributed}
+use Rattle.tree_attributes.specs.Attributes.{AttributeShape}
+use Rattle.tree_items.specs.Files.{ItemShape, assignment_item, comment_item, newline_item, recipe_item, set_item}
+use Rattle.tree_attributes.specs.Settings.{SetShape, ValueShape, truth, expression, interpreter, string, truth_text}
+use Rattle.tree_expressions.specs.Shape.{Shape}
+use Rattle.parse_expressions.specs.Words.{is_kind, Lacks}
+use Rattle.parse_expressions.specs.Literals.{Expansion}
+use Rattle.parse_expressions.proofs.Starts.{shorter}
+use Rattle.parse_attributes.specs.Rows.{Follow}
+use Rattle.tree_attribute_sets.specs.Order.{in_order}
+use Rattle.parse_attributes.specs.Lines.{IsAttribute, IsBetween, IsLast, AreAttributes}
+use Rattle.parse_attributes.proofs.Rest.{closes_takes, between_takes, attribute_takes, line_end_takes}
+use Rattle.parse_expressions.proofs.TokensTaken.{front_shorter, mark_shorter, lacks}
+use Rattle.parse_items.specs.Keywords.{set_keyword}
+use Rattle.parse_items.specs.declared.form.Form.{Form}
+use Rattle.parse_items.specs.declared.form.Form.TheVariants.{Indentation, Interpreter, Truth, Value, Version as VersionForm}
+use Rattle.parse_items.specs.Settings.{AreElements, IsValue, IsSet}
+use Rattle.parse_attributed_items.specs.Bare.{IsBare}
+use Rattle.parse_attributed_items.specs.Fitting.{with_attributes}
+use Rattle.parse_attributed_items.specs.Items.{IsAttributed}
 use Rattle.semver.specs.declared.Version.{Version}
 use Rattle.justfile_syntax.specs.Files.{Entry, IsCommentLine, IsEntry, AreEntries}
 use Rattle.justfile_syntax.proofs.RecipeWords.{eol_no_longer, recipe_shorter}
-use Rattle.justfile_syntax.proofs.ItemWords.{IsNeverFirst, recipe_lacks, item_lacks, item_shorter}
+use Rattle.justfile_syntax.proofs.ItemWords.{IsNeverFirst, binding_count, recipe_lacks, item_lacks, item_shorter}
 
 -- a kind with which nothing begins in a file but its end
 pub record IsNeverAhead (k : TokenKind) : Type 0 where
@@ -89,9 +89,9 @@ module _ (expansion : Expansion) where
   module _ (current : Version) where
     -- ---- items
 
-    bare_shorter : (i : ItemShape) (blanks : ℕ) (ws rest : List Word) → IsBare expansion current i blanks ws rest → length rest < length ws
+    bare_shorter : (i : ItemShape) (blanks : ℕ) (ws rest : List Word) → IsBare expansion current i blanks ws rest → binding_count i + length rest < length ws
     bare_shorter (recipe_item [] r) blanks ws rest h = recipe_shorter expansion r blanks ws rest h
-    bare_shorter (set_item [] s) blanks ws rest h = set_shorter current s ws rest h.0
+    bare_shorter (set_item [] s) blanks ws rest h = let p = set_shorter current s ws rest h.0 in omega (arith, p)
     bare_shorter other blanks ws rest h = item_shorter expansion other ws rest h.0
 
     bare_lacks : (k : TokenKind) → IsNeverFirst k → (i : ItemShape) (blanks : ℕ) (ws rest : List Word) → IsBare expansion current i blanks ws rest → Lacks k ws
@@ -99,15 +99,21 @@ module _ (expansion : Expansion) where
     bare_lacks k never (set_item [] s) blanks ws rest h = lacks Identifier k ws h.0.behind_set (set_keyword, h.0.set) never.name
     bare_lacks k never other blanks ws rest h = item_lacks k never expansion other ws rest h.0
 
-    pub attributed_shorter : (i : ItemShape) (blanks : ℕ) (ws rest : List Word) → IsAttributed expansion current i blanks ws rest → length rest < length ws
+    same_count : (as' : List AttributeShape) (i : ItemShape) → binding_count (with_attributes as' i) ≡ binding_count i
+    same_count as' (assignment_item old a) = refl
+    same_count as' (recipe_item old r) = refl
+    same_count as' other = refl
+
+    pub attributed_shorter : (i : ItemShape) (blanks : ℕ) (ws rest : List Word) → IsAttributed expansion current i blanks ws rest → binding_count i + length rest < length ws
     attributed_shorter i blanks ws rest h =
+        let same : binding_count i ≡ binding_count h.bare = ap binding_count h.whole ∙ same_count (in_order h.attributes) h.bare in
         let p = attributes_no_longer h.attributes ws h.behind h.lines in
-        let q = bare_shorter h.bare blanks h.behind rest h.item in omega (arith, p, q)
+        let q = bare_shorter h.bare blanks h.behind rest h.item in omega (arith, same, p, q)
 
     pub attributed_lacks : (k : TokenKind) → IsNeverFirst k → (i : ItemShape) (blanks : ℕ) (ws rest : List Word) → IsAttributed expansion current i blanks ws rest → Lacks k ws
     attributed_lacks k never i blanks ws rest h = attributes_lack k never h.attributes ws h.behind h.lines (bare_lacks k never h.bare blanks h.behind rest h.item)
 
-    -- ---- no item behind attributes is a blank line or a comment
+    -- ---- no item after attributes is a blank line or a comment
 
     abbrev is_line : ItemShape → Bool
     is_line newline_item = true
@@ -132,9 +138,9 @@ module _ (expansion : Expansion) where
     comment_shorter : (text : List ℕ) (ws rest : List Word) → IsCommentLine text ws rest → length rest < length ws
     comment_shorter text ws rest (lexeme, a, f, eol, same) = let p = front_shorter Comment lexeme ws a f in let q = eol_no_longer a rest eol in omega arith
 
-    pub entry_shorter : (e : Entry) (ws rest : List Word) → IsEntry expansion current e ws rest → length rest < length ws
+    pub entry_shorter : (e : Entry) (ws rest : List Word) → IsEntry expansion current e ws rest → binding_count e.0 + length rest < length ws
     entry_shorter (newline_item, blanks) ws rest h = let p = mark_shorter Eol ws rest h.0 in omega (arith, p)
-    entry_shorter (comment_item text, blanks) ws rest h = comment_shorter text ws rest h.0
+    entry_shorter (comment_item text, blanks) ws rest h = let p = comment_shorter text ws rest h.0 in omega (arith, p)
     entry_shorter (item, blanks) ws rest h = attributed_shorter item blanks ws rest h
 
     module _ (k : TokenKind) (never : IsNeverAhead k) where

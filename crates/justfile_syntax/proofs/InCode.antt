@@ -23,7 +23,7 @@ use Rattle.justfile_syntax.proofs.Begins.{begins, begins_with}
 use Rattle.justfile_syntax.proofs.Stands.{lexeme_reach, stands}
 use Rattle.justfile_syntax.proofs.Table.{both}
 
--- a word that fits leads to the mode behind it
+-- a word that fits leads to the mode after it
 pub one_word : (m to : Mode) (w : Word) (rest : List ℕ) → fits m w rest ≡ true → behind_word m w ≡ to → LexesFrom m (w ∷ []) rest to
 one_word m to w rest f e = record { each = (stands m.line (innermost m.opened) w rest f, tt); goes = e }
 

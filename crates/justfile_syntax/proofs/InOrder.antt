@@ -1,13 +1,13 @@
--- Numbers that are in order stay so where an item with the next ones stands behind others.
+-- Numbers that are in order stay so where an item with the next ones stands after others.
 use Rattle.std.proofs.Common.{◌≡◌, ℕ, zero, suc, ◌+◌, List, [], ◌∷◌, ◌++◌, length, replicate, refl, ap, ◌∙◌, arith, length-append}
 use Rattle.std.proofs.lemmas.Grind.{flat_map-append}
 use Rattle.std.proofs.lemmas.List.{append-nil, length-map}
 use Rattle.just_text.specs.Numbers.{Numbers}
-use Rattle.just_tree.specs.declared.ast.Item.{Item}
-use Rattle.just_tree.specs.declared.ast.Item.TheVariants.{Newline, Recipe}
-use Rattle.just_recipes.specs.Numbering.{count_from}
-use Rattle.just_items.specs.Numbered.{binding_numbers}
-use Rattle.just_attributed_items.specs.Held.{IsItemNumbered}
+use Rattle.tree_items.specs.declared.ast.Item.{Item}
+use Rattle.tree_items.specs.declared.ast.Item.TheVariants.{Newline, Recipe}
+use Rattle.parse_recipes.specs.Numbering.{count_from}
+use Rattle.parse_items.specs.Numbered.{binding_numbers}
+use Rattle.parse_attributed_items.specs.Held.{IsItemNumbered}
 use Rattle.justfile_syntax.specs.Numbered.{AreInOrder, behind, bindings_in, recipe_numbers, recipes_in}
 
 -- ---- numbers in a row
@@ -47,7 +47,7 @@ has_next old new (Recipe r) h =
     record { in_bindings = rw many h.numbers; in_recipes = ap (λ (k : ℕ). k ∷ []) h.number; gone_on = rw many h.gone_on }
 has_next old new other h = record { in_bindings = h.count; in_recipes = refl; gone_on = h.gone_on ∙ none_more old (length (binding_numbers other)) }
 
--- ---- items behind others
+-- ---- items after others
 
 no_bindings : (n : ℕ) → bindings_in (replicate n Newline) ≡ []
 no_bindings zero = refl
@@ -57,10 +57,10 @@ no_recipes : (n : ℕ) → recipes_in (replicate n Newline) ≡ []
 no_recipes zero = refl
 no_recipes (suc n) = no_recipes n
 
-bindings_more : (items : List Item) (i : Item) (blanks : ℕ) → bindings_in (items ++ i ∷ replicate blanks Newline) ≡ bindings_in items ++ binding_numbers i
+pub bindings_more : (items : List Item) (i : Item) (blanks : ℕ) → bindings_in (items ++ i ∷ replicate blanks Newline) ≡ bindings_in items ++ binding_numbers i
 bindings_more items i blanks = flat_map-append binding_numbers items (i ∷ replicate blanks Newline) ∙ ap (λ (xs : List ℕ). bindings_in items ++ (binding_numbers i ++ xs)) (no_bindings blanks) ∙ ap (λ (xs : List ℕ). bindings_in items ++ xs) (append-nil (binding_numbers i))
 
-recipes_more : (items : List Item) (i : Item) (blanks : ℕ) → recipes_in (items ++ i ∷ replicate blanks Newline) ≡ recipes_in items ++ recipe_numbers i
+pub recipes_more : (items : List Item) (i : Item) (blanks : ℕ) → recipes_in (items ++ i ∷ replicate blanks Newline) ≡ recipes_in items ++ recipe_numbers i
 recipes_more items i blanks = flat_map-append recipe_numbers items (i ∷ replicate blanks Newline) ∙ ap (λ (xs : List ℕ). recipes_in items ++ (recipe_numbers i ++ xs)) (no_recipes blanks) ∙ ap (λ (xs : List ℕ). recipes_in items ++ xs) (append-nil (recipe_numbers i))
 
 behind_both : (old : Numbers) (a b c d : ℕ) → behind (behind old a b) c d ≡ behind old (a + c) (b + d)

@@ -1,18 +1,18 @@
--- How items begin that have no attributes, and that each takes words.
-use Rattle.std.proofs.Common.{◌≡◌, ℕ, ◌<◌, ◌≤◌, Bool, true, false, List, [], ◌∷◌, length, Option, Some, None, ◌∙◌, arith, inl, inr}
+-- How items begin that have no attributes, and that each takes words, one for each of its bindings among them.
+use Rattle.std.proofs.Common.{◌≡◌, ℕ, ◌+◌, ◌<◌, ◌≤◌, Bool, true, false, List, [], ◌∷◌, length, Option, Some, None, ap, ◌∙◌, arith, inl, inr}
 use Rattle.just_text.specs.Tokens.{Word}
 use Rattle.just_text.specs.declared.token_kind.TokenKind.{TokenKind}
 use Rattle.just_text.specs.declared.token_kind.TokenKind.TheVariants.{At, BracketL, ColonEquals, Comma, Identifier, ParenL, ParenR, QuestionMark, StringToken}
-use Rattle.just_tree.specs.Files.{ItemShape, alias_item, assignment_item, function_item, import_item, module_item, unexport_item}
-use Rattle.just_tree.specs.Recipes.{RecipeShape}
-use Rattle.just_expressions.specs.Words.{is_kind, Begins, Lacks}
-use Rattle.just_expressions.specs.Literals.{Expansion}
-use Rattle.just_expressions.proofs.Starts.{shorter}
-use Rattle.just_recipes.specs.Headers.{IsQuiet, IsRecipe}
-use Rattle.just_expressions.proofs.TokensTaken.{front_shorter, mark_shorter, lacks}
-use Rattle.just_recipes.proofs.RecipePaths.{path_shorter}
-use Rattle.just_items.specs.Items.{AreWords, AreNames, IsOptional, IsFile, IsItem}
-use Rattle.just_items.specs.Keywords.{alias_keyword, eager_keyword, export_keyword, import_keyword, mod_keyword, unexport_keyword}
+use Rattle.tree_items.specs.Files.{ItemShape, alias_item, assignment_item, function_item, import_item, module_item, recipe_item, unexport_item}
+use Rattle.tree_items.specs.Recipes.{RecipeShape}
+use Rattle.parse_expressions.specs.Words.{is_kind, Begins, Lacks}
+use Rattle.parse_expressions.specs.Literals.{Expansion}
+use Rattle.parse_expressions.proofs.Starts.{shorter}
+use Rattle.parse_recipes.specs.Headers.{IsQuiet, IsRecipe}
+use Rattle.parse_expressions.proofs.TokensTaken.{front_shorter, mark_shorter, lacks}
+use Rattle.parse_recipes.proofs.RecipePaths.{path_shorter}
+use Rattle.parse_items.specs.Items.{AreWords, AreNames, IsOptional, IsFile, IsItem}
+use Rattle.parse_items.specs.Keywords.{alias_keyword, eager_keyword, export_keyword, import_keyword, mod_keyword, unexport_keyword}
 use Rattle.justfile_syntax.proofs.RecipeWords.{eol_no_longer}
 
 -- a kind with which no item begins
@@ -50,6 +50,13 @@ module _ (k : TokenKind) (never : IsNeverFirst k) where
 
 -- ---- items take words
 
+-- how many bindings an item has
+abbrev pub binding_count : ItemShape → ℕ
+binding_count (assignment_item as' a) = 1
+binding_count (function_item f) = length f.parameters
+binding_count (recipe_item as' r) = length r.parameters
+binding_count other = 0
+
 words_no_longer : (export eager : Bool) (ws rest : List Word) → AreWords export eager ws rest → length rest ≤ length ws
 words_no_longer false false ws rest same = rw same (omega arith)
 words_no_longer true false ws rest w = let p = front_shorter Identifier export_keyword ws rest w in omega arith
@@ -57,13 +64,16 @@ words_no_longer false true ws rest w = let p = front_shorter Identifier eager_ke
 words_no_longer true true ws rest (inl w) = let p = front_shorter Identifier export_keyword ws w.0 w.1 in let q = front_shorter Identifier eager_keyword w.0 rest w.2 in omega (arith, p, q)
 words_no_longer true true ws rest (inr w) = let p = front_shorter Identifier eager_keyword ws w.0 w.1 in let q = front_shorter Identifier export_keyword w.0 rest w.2 in omega (arith, p, q)
 
-names_no_longer : (names : List (List ℕ)) (ws rest : List Word) → AreNames names ws rest → length rest ≤ length ws
-names_no_longer [] ws rest m = let p = mark_shorter ParenR ws rest m in omega arith
-names_no_longer (name ∷ names) ws rest (a, f, inl (b, m, are)) =
+names_shorter : (names : List (List ℕ)) (ws rest : List Word) → AreNames names ws rest → length names + length rest < length ws
+names_shorter [] ws rest m = let p = mark_shorter ParenR ws rest m in omega (arith, p)
+names_shorter (name ∷ names) ws rest (a, f, inl (b, m, are)) =
     let p = front_shorter Identifier name ws a f in
     let q = mark_shorter Comma a b m in
-    let r = names_no_longer names b rest are in omega arith
-names_no_longer (name ∷ names) ws rest (a, f, inr last) = let p = front_shorter Identifier name ws a f in let q = mark_shorter ParenR a rest last.1 in omega (arith, p, q)
+    let r = names_shorter names b rest are in omega (arith, p, q, r)
+names_shorter (name ∷ names) ws rest (a, f, inr last) =
+    let none : length names ≡ 0 = ap (λ (ns : List (List ℕ)). length ns) last.0 in
+    let p = front_shorter Identifier name ws a f in
+    let q = mark_shorter ParenR a rest last.1 in omega (arith, none, p, q)
 
 optional_no_longer : (b : Bool) (ws rest : List Word) → IsOptional b ws rest → length rest ≤ length ws
 optional_no_longer true ws rest m = let p = mark_shorter QuestionMark ws rest m in omega arith
@@ -74,23 +84,23 @@ module _ (expansion : Expansion) where
   file_no_longer None ws rest same = rw same (omega arith)
   file_no_longer (Some path) ws rest i = let p = front_shorter StringToken path ws rest i.0 in omega arith
 
-  pub item_shorter : (i : ItemShape) (ws rest : List Word) → IsItem expansion i ws rest → length rest < length ws
+  pub item_shorter : (i : ItemShape) (ws rest : List Word) → IsItem expansion i ws rest → binding_count i + length rest < length ws
   item_shorter (alias_item [] x) ws rest (a, b, c, d, keyword, name, m, path, eol) =
       let p = front_shorter Identifier alias_keyword ws a keyword in
       let q = front_shorter Identifier x.name a b name in
       let r = mark_shorter ColonEquals b c m in
       let s = path_shorter x.target c d path in
-      let t = eol_no_longer d rest eol in omega arith
+      let t = eol_no_longer d rest eol in omega (arith, p, q, r, s, t)
   item_shorter (assignment_item [] x) ws rest (a, b, c, d, before, name, m, e, eol) =
       let p = words_no_longer x.export x.eager ws a before in
       let q = front_shorter Identifier x.name a b name in
       let r = mark_shorter ColonEquals b c m in
       let s = shorter expansion x.value c d e.is in
-      let t = eol_no_longer d rest eol in omega arith
+      let t = eol_no_longer d rest eol in omega (arith, p, q, r, s, t)
   item_shorter (function_item f) ws rest (a, b, c, d, g, name, opens, are, distinct, m, e, eol) =
       let p = front_shorter Identifier f.name ws a name in
       let q = mark_shorter ParenL a b opens in
-      let r = names_no_longer f.parameters b c are in
+      let r = names_shorter f.parameters b c are in
       let s = mark_shorter ColonEquals c d m in
       let t = shorter expansion f.body d g e.is in
       let u = eol_no_longer g rest eol in omega (arith, p, q, r, s, t, u)
@@ -98,15 +108,15 @@ module _ (expansion : Expansion) where
       let p = front_shorter Identifier import_keyword ws a keyword in
       let q = optional_no_longer i.optional a b optional in
       let r = front_shorter StringToken i.path b c s.0 in
-      let t = eol_no_longer c rest eol in omega arith
+      let t = eol_no_longer c rest eol in omega (arith, p, q, r, t)
   item_shorter (module_item [] x) ws rest (a, b, c, d, keyword, optional, name, path, eol) =
       let p = front_shorter Identifier mod_keyword ws a keyword in
       let q = optional_no_longer x.optional a b optional in
       let r = front_shorter Identifier x.name b c name in
       let s = file_no_longer x.path c d path in
-      let t = eol_no_longer d rest eol in omega arith
+      let t = eol_no_longer d rest eol in omega (arith, p, q, r, s, t)
   item_shorter (unexport_item x) ws rest (a, b, keyword, name, eol) =
       let p = front_shorter Identifier unexport_keyword ws a keyword in
       let q = front_shorter Identifier x a b name in
-      let r = eol_no_longer b rest eol in omega arith
+      let r = eol_no_longer b rest eol in omega (arith, p, q, r)
   item_shorter other ws rest h = absurd h

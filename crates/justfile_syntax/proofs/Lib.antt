@@ -22,6 +22,7 @@ pub mod EntriesExact
 pub mod EntryTurns
 pub mod EntryWords
 pub mod InOrder
+pub mod Frugal
 pub mod ItemWords
 pub mod ItemsHeld
 pub mod RecipeWords

@@ -1,7 +1,7 @@
 -- What isn't a name alone, and what isn't a text alone.
 use Rattle.std.proofs.Common.{arith, ℕ, ◌≡◌, ◌≤◌, List, [], ◌∷◌, length, Option, Some, None, refl, ap, ◌∙◌}
-use Rattle.just_tree.specs.Lines.{Piece, text, interpolation}
-use Rattle.just_tree.specs.Recipes.{DependencyShape}
+use Rattle.tree_items.specs.Lines.{Piece, text, interpolation}
+use Rattle.tree_items.specs.Recipes.{DependencyShape}
 use Rattle.justfile_syntax.specs.Plain.{if_none, lone_name, plain_dependency, plain_line}
 
 -- a path of two names or more is no name alone

@@ -1,22 +1,22 @@
--- A recipe takes words.
-use Rattle.std.proofs.Common.{◌≡◌, ℕ, ◌<◌, ◌≤◌, Bool, true, false, List, [], ◌∷◌, length, Option, Some, None, arith, inl, inr, ◌⊎◌}
+-- A recipe takes words, and each of its parameters takes one of them.
+use Rattle.std.proofs.Common.{◌≡◌, ℕ, ◌+◌, ◌<◌, ◌≤◌, Bool, true, false, List, [], ◌∷◌, length, Option, Some, None, arith, inl, inr, ◌⊎◌}
 use Rattle.just_text.specs.Tokens.{Word}
 use Rattle.just_text.specs.declared.token_kind.TokenKind.TheVariants.{AmpersandAmpersand, Asterisk, At, Colon, Comment, Dedent, Dollar, Eof, Eol, Equals, Identifier, Indent, InterpolationEnd, InterpolationStart, ParenL, ParenR, Plus as PlusMark, Text}
-use Rattle.just_tree.specs.declared.recipe.ParameterKind.{ParameterKind}
-use Rattle.just_tree.specs.declared.recipe.ParameterKind.TheVariants.{Plus, Singular, Star}
-use Rattle.just_tree.specs.Lines.{Piece, text, interpolation}
-use Rattle.just_tree.specs.Recipes.{ParameterShape, ArgumentShape, DependencyShape, RecipeShape}
-use Rattle.just_expression_tree.specs.Shape.{Shape}
-use Rattle.just_expressions.specs.Words.{is_kind, Mark}
-use Rattle.just_expressions.specs.Literals.{Expansion}
-use Rattle.just_expressions.specs.LineEnds.{IsEol}
-use Rattle.just_recipes.specs.Bodies.{behind_blank, behind_comment, ArePieces, AreLines, IsBody}
-use Rattle.just_recipes.specs.Headers.{IsKind, IsExported, IsStarred, IsQuiet, IsDefault, IsParameter, AreParameters, IsArgument, AreArguments, IsDependency, AreDependencies, AreSubsequents, IsRecipe}
-use Rattle.just_expressions.proofs.TokensTaken.{front_shorter, mark_shorter}
-use Rattle.just_recipes.proofs.RecipePaths.{path_shorter}
-use Rattle.just_expressions.proofs.Starts.{shorter}
-use Rattle.just_expressions.proofs.Taken.{test}
-use Rattle.just_expressions.specs.Strings.{IsAside}
+use Rattle.tree_items.specs.declared.recipe.ParameterKind.{ParameterKind}
+use Rattle.tree_items.specs.declared.recipe.ParameterKind.TheVariants.{Plus, Singular, Star}
+use Rattle.tree_items.specs.Lines.{Piece, text, interpolation}
+use Rattle.tree_items.specs.Recipes.{ParameterShape, ArgumentShape, DependencyShape, RecipeShape}
+use Rattle.tree_expressions.specs.Shape.{Shape}
+use Rattle.parse_expressions.specs.Words.{is_kind, Mark}
+use Rattle.parse_expressions.specs.Literals.{Expansion}
+use Rattle.parse_expressions.specs.LineEnds.{IsEol}
+use Rattle.parse_recipes.specs.Bodies.{behind_blank, behind_comment, ArePieces, AreLines, IsBody}
+use Rattle.parse_recipes.specs.Headers.{IsKind, IsExported, IsStarred, IsQuiet, IsDefault, IsParameter, AreParameters, IsArgument, AreArguments, IsDependency, AreDependencies, AreSubsequents, IsRecipe}
+use Rattle.parse_expressions.proofs.TokensTaken.{front_shorter, mark_shorter}
+use Rattle.parse_recipes.proofs.RecipePaths.{path_shorter}
+use Rattle.parse_expressions.proofs.Starts.{shorter}
+use Rattle.parse_expressions.proofs.Taken.{test}
+use Rattle.parse_expressions.specs.Strings.{IsAside}
 
 -- ---- the ends of lines
 
@@ -81,16 +81,16 @@ module _ (expansion : Expansion) where
   default_no_longer None ws rest i = rw i.0 (omega arith)
   default_no_longer (Some e) ws rest (a, m, d) = let p = mark_shorter Equals ws a m in let q = shorter expansion e a rest d.is in omega arith
 
-  parameter_no_longer : (p : ParameterShape) (ws rest : List Word) → IsParameter expansion p ws rest → length rest ≤ length ws
-  parameter_no_longer p ws rest i =
+  parameter_shorter : (p : ParameterShape) (ws rest : List Word) → IsParameter expansion p ws rest → length rest < length ws
+  parameter_shorter p ws rest i =
       let k = kind_no_longer p.kind ws i.behind_mark i.kind in
       let x = exported_no_longer p.export i.behind_mark i.behind_dollar i.export in
       let n = front_shorter Identifier p.name i.behind_dollar i.behind_name i.name in
       let d = default_no_longer p.default i.behind_name rest i.default in omega arith
 
-  parameters_no_longer : (ps : List ParameterShape) (ws rest : List Word) → AreParameters expansion ps ws rest → length rest ≤ length ws
-  parameters_no_longer [] ws rest same = rw same (omega arith)
-  parameters_no_longer (p ∷ ps) ws rest (a, i, are, last) = let q = parameter_no_longer p ws a i in let r = parameters_no_longer ps a rest are in omega arith
+  parameters_shorter : (ps : List ParameterShape) (ws rest : List Word) → AreParameters expansion ps ws rest → length ps + length rest ≤ length ws
+  parameters_shorter [] ws rest same = rw same (omega arith)
+  parameters_shorter (p ∷ ps) ws rest (a, i, are, last) = let q = parameter_shorter p ws a i in let r = parameters_shorter ps a rest are in omega (arith, q, r)
 
   -- ---- dependencies
 
@@ -144,11 +144,11 @@ module _ (expansion : Expansion) where
 
   -- ---- recipes
 
-  pub recipe_shorter : (r : RecipeShape) (blanks : ℕ) (ws rest : List Word) → IsRecipe expansion r blanks ws rest → length rest < length ws
+  pub recipe_shorter : (r : RecipeShape) (blanks : ℕ) (ws rest : List Word) → IsRecipe expansion r blanks ws rest → length r.parameters + length rest < length ws
   recipe_shorter r blanks ws rest i =
       let a = quiet_no_longer r.quiet ws i.behind_at i.at in
       let b = front_shorter Identifier r.name i.behind_at i.behind_name i.name in
-      let c = parameters_no_longer r.parameters i.behind_name i.behind_parameters i.parameters in
+      let c = parameters_shorter r.parameters i.behind_name i.behind_parameters i.parameters in
       let d = mark_shorter Colon i.behind_parameters i.behind_colon i.colon in
       let e = dependencies_no_longer r.priors i.behind_colon i.behind_priors i.priors in
       let f = subsequents_no_longer r.subsequents i.behind_priors i.behind_subsequents i.subsequents in

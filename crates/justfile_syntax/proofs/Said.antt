@@ -8,10 +8,10 @@ use Rattle.just_text.specs.declared.compile_error.CompileErrorKind.{CompileError
 use Rattle.just_text.specs.declared.compile_error.CompileErrorKind.TheVariants as kinds
 use Rattle.just_lexer.specs.Lexed.{AllBorrow, FaultStands}
 use Rattle.just_lexer.specs.Lexes.{Piece, pieces, piece_word, Lexes}
-use Rattle.just_tree.specs.declared.ast.Ast.{Ast}
-use Rattle.just_tree.specs.Files.{ItemShape, item_shapes}
-use Rattle.just_expressions.specs.Literals.{Expansion}
-use Rattle.just_expressions.specs.Reading.{shown}
+use Rattle.tree_items.specs.declared.ast.Ast.{Ast}
+use Rattle.tree_items.specs.Files.{ItemShape, item_shapes}
+use Rattle.parse_expressions.specs.Literals.{Expansion}
+use Rattle.parse_expressions.specs.Reading.{shown}
 use Rattle.justfile_syntax.specs.Files.{Derives}
 use Rattle.justfile_syntax.specs.Parsed.{GivesItems, HaltsBy, IsReason, RefusalHolds}
 use Rattle.justfile_syntax.specs.Reading.{file_at}

@@ -93,7 +93,7 @@ never false e = refl
 pub quote_some : (b : ℕ) → is_quote b ≡ true → 0 < b
 quote_some b h = grind (arith, nat_tests)
 
--- a string behind a letter
+-- a string after a letter
 lettered_stays : (format : Bool) (letter c : ℕ) (cs rest : List ℕ) → opens_string letter (c ∷ cs) ≡ true → opened_len format 1 (c ∷ cs) ≡ length (c ∷ cs) → makes_three 1 (c ∷ cs) rest ≡ false → (format ≡ true → makes_four (c ∷ cs) rest ≡ false)
     → (opens_string letter (c ∷ cs ++ rest) ≡ true) × (opened_len format 1 (c ∷ cs ++ rest) ≡ length (c ∷ cs))
 lettered_stays format letter c [] rest o h three four = absurd (let q : is_quote 0 ≡ true = (and_parts (c == letter) (is_quote 0) o).1 in cc)

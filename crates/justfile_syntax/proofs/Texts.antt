@@ -1,4 +1,4 @@
--- A comment and a body's text go up to what ends them, whatever stands behind that.
+-- A comment and a body's text go up to what ends them, whatever stands after that.
 use Rattle.std.proofs.Common.{◌≡◌, ℕ, zero, suc, ◌+◌, ◌≤◌, Bool, true, false, not, ◌&&◌, ◌||◌, ◌==◌, List, [], ◌∷◌, ◌++◌, length, refl, inl, inr, arith}
 use Rattle.std.proofs.lemmas.Bool.{and_parts, cond_both, cases_Bool}
 use Rattle.std.proofs.lemmas.Bool.Decides.{nat_tests}

@@ -7,19 +7,19 @@ use Rattle.just_text.specs.Tokens.{Word, word_of, words_of}
 use Rattle.just_text.specs.declared.compile_error.CompileErrorKind.{CompileErrorKind}
 use Rattle.just_text.specs.declared.compile_error.CompileErrorKind.TheVariants.{OutOfMemory, NumbersUsed}
 use Rattle.just_text.specs.declared.token.Token.{Token}
-use Rattle.just_tree.specs.Files.{ItemShape}
-use Rattle.just_expressions.specs.Words.{is_significant, significant}
-use Rattle.just_expressions.specs.Literals.{Expansion}
-use Rattle.just_expressions.specs.Reading.{shown}
-use Rattle.just_expressions.proofs.TokensTaken.{same_words}
-use Rattle.just_attributed_items.specs.Halting.{Halt}
+use Rattle.tree_items.specs.Files.{ItemShape}
+use Rattle.parse_expressions.specs.Words.{is_significant, significant}
+use Rattle.parse_expressions.specs.Literals.{Expansion}
+use Rattle.parse_expressions.specs.Reading.{shown}
+use Rattle.parse_expressions.proofs.TokensTaken.{same_words}
+use Rattle.parse_attributed_items.specs.Halting.{Halt}
 use Rattle.semver.specs.declared.Version.{Version}
 use Rattle.justfile_syntax.specs.Files.{Entry, items_in, Derives}
 use Rattle.justfile_syntax.specs.Parsed.{HaltsBy}
 use Rattle.justfile_syntax.specs.Reading.{file_at}
 use Rattle.justfile_syntax.specs.Reads.{Reads, Halts, IsSyntaxFault}
 use Rattle.justfile_syntax.specs.Laws.{AreFile, FilesExactly, AtMostOne, SaysAtMostOne, FaultsSayNothing}
-use Rattle.just_expressions.proofs.Taken.{test, ok_is}
+use Rattle.parse_expressions.proofs.Taken.{test, ok_is}
 
 -- the words of tokens that are not white space are their words that are not
 pub shown_words : (ts : List Token) → map word_of (shown ts) ≡ significant (words_of ts)

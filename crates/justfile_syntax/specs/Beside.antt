@@ -22,7 +22,7 @@ is_simple k = is_plain k
 abbrev pub LeadsToBreaks : Type 0
 LeadsToBreaks = (m : Mode) (w : Word) (rest : List ℕ) → is_code m ≡ true → is_simple w.kind ≡ true → is_lexeme None w.kind w.text ≡ true → is_break (first rest) ≡ true → LexesFrom m (w ∷ []) rest m
 
--- and before a token that may stand behind it
+-- and before a token that may stand after it
 abbrev pub LeadsToNext : Type 0
 LeadsToNext = (m : Mode) (w next : Word) (behind : Option Open) (rest : List ℕ) → is_code m ≡ true → is_simple w.kind ≡ true → is_lexeme None w.kind w.text ≡ true → may_precede w.kind next.kind ≡ true → is_lexeme behind next.kind next.text ≡ true → keeps_apart next.kind next.text rest ≡ true
     → LexesFrom m (w ∷ []) (next.text ++ rest) m

@@ -15,7 +15,7 @@ use Rattle.justfile_syntax.specs.Lines.{at_line}
 abbrev pub at_body_line : Indentation → Mode
 at_body_line i = record { line = BodyStart i; opened = [] }
 
--- behind its indentation
+-- after its indentation
 abbrev pub in_body : Indentation → Mode
 in_body i = record { line = BodyLine i; opened = [] }
 

@@ -1,11 +1,11 @@
 -- The features of a file that must be asked for.
 use Rattle.std.specs.Prelude.{Bool, true, false, List, [], ◌∷◌, ◌++◌, bytes_eq, codes, if◌then◌else◌}
 use Rattle.std.specs.List.{list_any}
-use Rattle.just_tree.specs.declared.ast.UnstableFeature.{UnstableFeature}
-use Rattle.just_tree.specs.declared.ast.UnstableFeature.TheVariants.{CachedRecipes, DefinedFunctions, Lists}
-use Rattle.just_attribute_tree.specs.declared.attribute.AttributeKind.TheVariants.{Cache}
-use Rattle.just_tree.specs.Files.{ItemShape, function_item, recipe_item, set_item}
-use Rattle.just_attributes.specs.Sets.{has_kind}
+use Rattle.tree_items.specs.declared.ast.UnstableFeature.{UnstableFeature}
+use Rattle.tree_items.specs.declared.ast.UnstableFeature.TheVariants.{CachedRecipes, DefinedFunctions, Lists}
+use Rattle.tree_attributes.specs.declared.attribute.AttributeKind.TheVariants.{Cache}
+use Rattle.tree_items.specs.Files.{ItemShape, function_item, recipe_item, set_item}
+use Rattle.tree_attribute_sets.specs.Sets.{has_kind}
 
 -- a recipe with `[cache]`
 abbrev pub is_cached : ItemShape → Bool

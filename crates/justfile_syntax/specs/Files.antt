@@ -3,14 +3,14 @@ use Rattle.std.specs.Prelude.{ℕ, zero, suc, ◌≡◌, ◌⊎◌, List, [], �
 use Rattle.std.specs.Str.{trim_end}
 use Rattle.just_text.specs.Tokens.{Word}
 use Rattle.just_text.specs.declared.token_kind.TokenKind.TheVariants.{ByteOrderMark, Comment, Eof, Eol}
-use Rattle.just_tree.specs.Files.{ItemShape, comment_item, newline_item}
-use Rattle.just_expressions.specs.Literals.{Expansion}
-use Rattle.just_expressions.specs.Words.{Begins, Mark, significant}
-use Rattle.just_expressions.specs.LineEnds.{IsEol}
-use Rattle.just_attributed_items.specs.Items.{IsAttributed}
+use Rattle.tree_items.specs.Files.{ItemShape, comment_item, newline_item}
+use Rattle.parse_expressions.specs.Literals.{Expansion}
+use Rattle.parse_expressions.specs.Words.{Begins, Mark, significant}
+use Rattle.parse_expressions.specs.LineEnds.{IsEol}
+use Rattle.parse_attributed_items.specs.Items.{IsAttributed}
 use Rattle.semver.specs.declared.Version.{Version}
 
--- an item, and how many blank lines behind the body of a recipe belong to the file
+-- an item, and how many blank lines after the body of a recipe belong to the file
 abbrev pub Entry : Type 0
 Entry = ItemShape × ℕ
 
@@ -33,13 +33,13 @@ abbrev pub IsStart : List Word → List Word → Type 0
 IsStart words rest = Mark ByteOrderMark words rest ⊎ (words ≡ rest)
 
 module _ (expansion : Expansion) (current : Version) where
-  -- up to rest there is a blank line, a line with a comment alone, or an item behind its attributes
+  -- up to rest there is a blank line, a line with a comment alone, or an item after its attributes
   abbrev pub IsEntry : Entry → List Word → List Word → Type 0
   IsEntry (newline_item, blanks) words rest = Mark Eol words rest × (blanks ≡ 0)
   IsEntry (comment_item text, blanks) words rest = IsCommentLine text words rest × (blanks ≡ 0)
   IsEntry (item, blanks) words rest = IsAttributed expansion current item blanks words rest
 
-  -- these stand one behind the other, and then the file ends
+  -- these stand one after the other, and then the file ends
   abbrev pub AreEntries : List Entry → List Word → Type 0
   AreEntries [] words = Mark Eof words []
   AreEntries (e ∷ es) words = (rest : List Word) × IsEntry e words rest × AreEntries es rest

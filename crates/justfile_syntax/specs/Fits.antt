@@ -24,7 +24,7 @@ last_byte text = slice_index text (length text - 1)
 abbrev pub at_end : List ℕ → Bool
 at_end rest = length rest == 0 || at_line_end rest
 
--- a carriage return at the text's end and a newline behind it would be one line end
+-- a carriage return at the text's end and a newline after it would be one line end
 abbrev pub makes_line_end : List ℕ → List ℕ → Bool
 makes_line_end text rest = last_byte text == 13 && first rest == 10
 
@@ -32,15 +32,15 @@ makes_line_end text rest = last_byte text == 13 && first rest == 10
 abbrev pub is_string_letter : List ℕ → Bool
 is_string_letter text = length text == 1 && (first text == 120 || first text == 102)
 
--- behind two marks with nothing between them, and a letter or none in front, the same mark would make three
+-- after two marks with nothing between them, and a letter or none in front, the same mark would make three
 abbrev pub makes_three : ℕ → List ℕ → List ℕ → Bool
 makes_three letters text rest = length text == letters + 2 && first rest == slice_index text letters
 
--- two braces at the text's end and two behind them would stay together
+-- two braces at the text's end and two after them would stay together
 abbrev pub makes_four : List ℕ → List ℕ → Bool
 makes_four text rest = last_byte text == 123 && at_braces rest
 
--- a brace behind the text would belong to it
+-- a brace after the text would belong to it
 abbrev pub takes_brace : List ℕ → Bool
 takes_brace text = text_len (text ++ 123 ∷ []) == length text + 1
 
@@ -74,7 +74,7 @@ is_alone inner w rest = is_lexeme inner w.kind w.text && keeps_apart w.kind w.te
 abbrev pub fits_code : Option Open → Word → List ℕ → Bool
 fits_code inner w rest = is_line_kind inner w.kind && is_alone inner w rest
 
--- behind a line's start, outside bodies: such a word, or the end of the text
+-- after a line's start, outside bodies: such a word, or the end of the text
 abbrev pub fits_line : Option Open → TokenKind → Word → List ℕ → Bool
 fits_line inner Eof w rest = length w.text == 0 && length rest == 0
 fits_line inner _ w rest = fits_code inner w rest
@@ -92,7 +92,7 @@ fits_body_start i Dedent w rest = length w.text == 0 && not (is_blank (first res
 fits_body_start i Whitespace w rest = (nat_lt 0 (length w.text) && length w.text == indent_width i) && (has_indentation i w.text && not (is_blank_line rest))
 fits_body_start i _ w rest = false
 
--- behind the indentation: text, the start of an expression, the line's end, or the body's end before nothing
+-- after the indentation: text, the start of an expression, the line's end, or the body's end before nothing
 abbrev pub fits_body_line : TokenKind → Word → List ℕ → Bool
 fits_body_line Eol w rest = is_alone None w rest
 fits_body_line Text w rest = is_alone None w rest

@@ -19,7 +19,7 @@ use Rattle.justfile_syntax.specs.Fits.{is_lexeme, fits_code}
 abbrev pub word : TokenKind → List ℕ → Word
 word kind text = record { kind = kind; text = text }
 
--- behind the first word of a line outside bodies, or in an expression of a body's line
+-- after the first word of a line outside bodies, or in an expression of a body's line
 abbrev pub is_code_place : Line → Option Open → Bool
 is_code_place (Inside _) inner = true
 is_code_place (BodyLine _) inner = is_some inner
@@ -95,7 +95,7 @@ BracketsOpen = (m : Mode) (d : Delimiter) (rest : List ℕ) → is_code m ≡ tr
 abbrev pub BracketsClose : Type 0
 BracketsClose = (m : Mode) (d : Delimiter) (rest : List ℕ) → is_code m ≡ true → LexesFrom (within m (Bracket d)) (closer d ∷ []) rest m
 
--- the expression that opens behind a format string's start
+-- the expression that opens after a format string's start
 abbrev pub format_interpolation : Mode → List ℕ → Open
 format_interpolation m text = FormatInterpolation (quotes_at (drop 1 text)) (in_brackets (innermost m.opened))
 

@@ -2,14 +2,14 @@
 use Rattle.std.specs.Prelude.{ℕ, ◌≡◌, List, map, Ok}
 use Rattle.just_text.specs.Tokens.{Word, word_of}
 use Rattle.just_text.specs.declared.compile_error.CompileErrorKind.{CompileErrorKind}
-use Rattle.just_tree.specs.Files.{ItemShape}
-use Rattle.just_expressions.specs.Literals.{Expansion}
+use Rattle.tree_items.specs.Files.{ItemShape}
+use Rattle.parse_expressions.specs.Literals.{Expansion}
 use Rattle.justfile_syntax.specs.Files.{AreEntries, Derives, Entry, IsStart}
 use Rattle.justfile_syntax.specs.Reading.{file_at}
 use Rattle.justfile_syntax.specs.Reads.{IsSyntaxFault, Reads}
 use Rattle.semver.specs.declared.Version.{Version}
 
--- the words, behind a byte order mark if there is one, are these entries
+-- the words, after a byte order mark if there is one, are these entries
 pub record AreFile (expansion : Expansion) (current : Version) (es : List Entry) (words : List Word) : Type 0 where
   pub behind_mark : List Word
   pub start : IsStart words behind_mark

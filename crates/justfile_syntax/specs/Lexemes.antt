@@ -41,6 +41,6 @@ LexedAreLexemes = (text : List ℕ) (ts : List Piece) → Lexes text ts → All 
 abbrev pub PartsAnywhere : Type 0
 PartsAnywhere = (q : Quotes) (around other : Bool) (k : TokenKind) (text : List ℕ) → is_white k ≡ false → is_lexeme (Some (FormatInterpolation q around)) k text ≡ true → is_lexeme (Some (FormatInterpolation q other)) k text ≡ true
 
--- text with an expression behind it doesn't end in half of four braces
+-- text with an expression after it doesn't end in half of four braces
 abbrev pub TextsEndWell : Type 0
 TextsEndWell = (i : Indentation) (text braces rest : List ℕ) → StandsBefore (in_body i) (word Text text) (braces ++ rest) → StandsBefore (in_body i) (word InterpolationStart braces) rest → takes_brace text ≡ true

@@ -17,11 +17,11 @@ use Rattle.just_lexer.specs.Classes.{first}
 abbrev pub at_line : Bool → Mode
 at_line may = record { line = Start may; opened = [] }
 
--- behind the first word of such a line, and whether a body may come behind it
+-- after the first word of such a line, and whether a body may come after it
 abbrev pub in_line : Bool → Mode
 in_line may = record { line = Inside may; opened = [] }
 
--- behind the last token
+-- after the last token
 abbrev pub at_text_end : Mode
 at_text_end = record { line = Over; opened = [] }
 
@@ -43,7 +43,7 @@ LinesBegin = (may : Bool) (w : Word) (rest : List ℕ) → begins_line w.kind �
 abbrev pub BracketsBegin : Type 0
 BracketsBegin = (may : Bool) (d : Delimiter) (rest : List ℕ) → LexesFrom (at_line may) (opener d ∷ []) rest (within (in_line false) (Bracket d))
 
--- behind a `:` in a line a body may come
+-- after a `:` in a line a body may come
 abbrev pub ColonsAnnounce : Type 0
 ColonsAnnounce = (may : Bool) (rest : List ℕ) → goes_no_further Colon (first rest) ≡ true → LexesFrom (in_line may) (word Colon (codes ":") ∷ []) rest (in_line true)
 

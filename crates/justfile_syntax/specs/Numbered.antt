@@ -2,10 +2,10 @@
 use Rattle.std.specs.Prelude.{ℕ, ◌≡◌, ◌+◌, List, [], ◌∷◌, length}
 use Rattle.std.specs.List.{flat_map}
 use Rattle.just_text.specs.Numbers.{Numbers}
-use Rattle.just_tree.specs.declared.ast.Item.{Item}
-use Rattle.just_tree.specs.declared.ast.Item.TheVariants.{Recipe}
-use Rattle.just_recipes.specs.Numbering.{count_from}
-use Rattle.just_items.specs.Numbered.{binding_numbers}
+use Rattle.tree_items.specs.declared.ast.Item.{Item}
+use Rattle.tree_items.specs.declared.ast.Item.TheVariants.{Recipe}
+use Rattle.parse_recipes.specs.Numbering.{count_from}
+use Rattle.parse_items.specs.Numbered.{binding_numbers}
 
 -- the numbers of all bindings in order: of variables, and of parameters of functions and recipes
 abbrev pub bindings_in : List Item → List ℕ

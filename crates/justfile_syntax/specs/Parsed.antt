@@ -1,5 +1,5 @@
 -- What a parser of files answers.
-use Rattle.std.specs.Prelude.{◌≡◌, ◌-◌, List, length, slice_get, Option, Some, None, Result, Ok, Err}
+use Rattle.std.specs.Prelude.{ℕ, ◌≡◌, ◌-◌, List, [], ◌∷◌, length, slice_get, Option, Some, None, Result, Ok, Err}
 use Rattle.std.specs.List.{All}
 use Rattle.just_text.specs.Tokens.{Word, word_of}
 use Rattle.just_text.specs.declared.compile_error.CompileError.{CompileError}
@@ -7,12 +7,12 @@ use Rattle.just_text.specs.declared.compile_error.CompileErrorKind.{CompileError
 use Rattle.just_text.specs.declared.compile_error.CompileErrorKind.TheVariants.{OutOfMemory, NumbersUsed, UnexpectedToken}
 use Rattle.just_text.specs.declared.token.Token.{Token}
 use Rattle.just_text.specs.declared.token_kind.TokenKind.TheVariants.{Eof}
-use Rattle.just_tree.specs.declared.ast.Ast.{Ast}
-use Rattle.just_tree.specs.Files.{ItemShape, item_shapes}
-use Rattle.just_expressions.specs.Literals.{Expansion}
-use Rattle.just_expressions.specs.Reading.{Stop, unexpected, refused, shown}
-use Rattle.just_attributed_items.specs.Halting.{Halt, stopped, broken}
-use Rattle.just_attributed_items.specs.Held.{IsItemCooked, IsOwnItem}
+use Rattle.tree_items.specs.declared.ast.Ast.{Ast}
+use Rattle.tree_items.specs.Files.{ItemShape, item_shapes}
+use Rattle.parse_expressions.specs.Literals.{Expansion, Origin}
+use Rattle.parse_expressions.specs.Reading.{Stop, unexpected, refused, shown}
+use Rattle.parse_attributed_items.specs.Halting.{Halt, stopped, broken}
+use Rattle.parse_attributed_items.specs.Held.{IsItemCooked, IsOwnItem}
 use Rattle.justfile_syntax.specs.Features.{features_of}
 use Rattle.justfile_syntax.specs.Files.{Derives, Entry}
 use Rattle.justfile_syntax.specs.Reading.{file_at}
@@ -23,6 +23,11 @@ abbrev pub IsWant : Type 0 → CompileErrorKind → Type 0
 IsWant used OutOfMemory = Unit {0}
 IsWant used NumbersUsed = used
 IsWant used other = ⊥
+
+-- where numbers ran out there were few
+abbrev pub IfNumbersUsed : Type 0 → CompileErrorKind → Type 0
+IfNumbersUsed few NumbersUsed = few
+IfNumbersUsed few other = Unit {0}
 
 -- the tree of these items, unless memory or numbers ran out
 abbrev pub GivesItems : Type 0 → Result Ast CompileError → List ItemShape → Type 0
@@ -42,6 +47,11 @@ IsTooFew (Some last) token kind = (token ≡ last) × (kind ≡ UnexpectedToken 
 
 abbrev pub last_token : List Token → Option Token
 last_token tokens = slice_get tokens (length tokens - 1)
+
+-- the path of the first token; empty where there is none
+abbrev pub path_ahead : List Token → List ℕ
+path_ahead [] = []
+path_ahead (t ∷ ts) = t.path.now
 
 -- why reading these tokens stops, at which token: one that no rule takes, or one that breaks a rule; where they end too early, at the last
 abbrev pub IsStop : List Token → Stop Token → Token → CompileErrorKind → Type 0
@@ -65,7 +75,7 @@ IsReason expansion current tokens token NumbersUsed = Unit {0}
 IsReason expansion current tokens token kind = HaltsBy tokens (file_at word_of expansion current (shown tokens)) token kind
 
 -- What a tree holds beside its shape: the texts that its strings stand for, what attributes make of items, and its features.
-pub record IsWhole (expansion : Expansion) (ast : Ast) : Type 0 where
-  pub cooked : All (IsItemCooked expansion) ast.items.items
-  pub own : All (IsOwnItem expansion) ast.items.items
+pub record IsWhole (origin : Origin) (ast : Ast) : Type 0 where
+  pub cooked : All (IsItemCooked origin) ast.items.items
+  pub own : All (IsOwnItem origin.expansion) ast.items.items
   pub features : ast.unstable_features.items ≡ features_of (item_shapes ast.items.items)

@@ -2,9 +2,9 @@
 use Rattle.std.specs.Prelude.{ℕ, ◌==◌, Bool, true, false, not, ◌&&◌, ◌||◌, List, [], ◌∷◌, filter_map, Option, Some, None, codes, if◌then◌else◌}
 use Rattle.std.specs.List.{starts_with, ends_with}
 use Rattle.std.specs.Option.{option_map}
-use Rattle.just_tree.specs.Files.{ItemShape, comment_item, newline_item, recipe_item}
-use Rattle.just_tree.specs.Lines.{Piece, text}
-use Rattle.just_tree.specs.Recipes.{DependencyShape, RecipeShape as RecipeTree}
+use Rattle.tree_items.specs.Files.{ItemShape, comment_item, newline_item, recipe_item}
+use Rattle.tree_items.specs.Lines.{Piece, text}
+use Rattle.tree_items.specs.Recipes.{DependencyShape, RecipeShape as RecipeTree}
 use Rattle.justfile_syntax.specs.PlainShapes.{RecipeShape}
 
 -- `{{` stands in the text
@@ -58,7 +58,7 @@ abbrev pub named : List ℕ → Option (List (List ℕ)) → Option (List (List 
 named name (Some dependencies) (Some body) = Some (record { name = name; dependencies = dependencies; body = body })
 named name dependencies body = None
 
--- a recipe that is not quiet and has neither parameters nor dependencies that run behind its body
+-- a recipe that is not quiet and has neither parameters nor dependencies that run after its body
 abbrev pub plain_recipe : RecipeTree → Option RecipeShape
 plain_recipe r = if r.quiet then None else if_none r.parameters (if_none r.subsequents (named r.name (each plain_dependency r.priors) (each plain_line r.body)))
 

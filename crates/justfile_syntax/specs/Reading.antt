@@ -3,17 +3,17 @@ use Rattle.std.specs.Prelude.{ℕ, zero, suc, List, [], ◌∷◌, length, Some,
 use Rattle.std.specs.Str.{trim_end}
 use Rattle.just_text.specs.Tokens.{Word}
 use Rattle.just_text.specs.declared.token_kind.TokenKind.TheVariants.{ByteOrderMark, Comment, Eof, Eol}
-use Rattle.just_tree.specs.Files.{comment_item, newline_item}
-use Rattle.just_expressions.specs.Literals.{Expansion}
-use Rattle.just_expressions.specs.Reading.{◌>>=◌, on, Read, unexpected, first, accept, expect, is_next}
-use Rattle.just_expressions.specs.LineEnds.{eol_at}
-use Rattle.just_attributed_items.specs.Halting.{Halt, stopped, or_stopped}
-use Rattle.just_attributed_items.specs.Reading.{attributed_at}
+use Rattle.tree_items.specs.Files.{comment_item, newline_item}
+use Rattle.parse_expressions.specs.Literals.{Expansion}
+use Rattle.parse_expressions.specs.Reading.{◌>>=◌, on, Read, unexpected, first, accept, expect, is_next}
+use Rattle.parse_expressions.specs.LineEnds.{eol_at}
+use Rattle.parse_attributed_items.specs.Halting.{Halt, stopped, or_stopped}
+use Rattle.parse_attributed_items.specs.Reading.{attributed_at}
 use Rattle.justfile_syntax.specs.Files.{Entry}
 use Rattle.semver.specs.declared.Version.{Version}
 
 module _ {T : Type 0} (word : T → Word) where
-  -- what is behind a byte order mark, if there is one
+  -- what is after a byte order mark, if there is one
   unfoldable pub behind_mark : List T → List T
   behind_mark ts = on (accept word ByteOrderMark ts) ts (λ p. p.1)
 
@@ -27,7 +27,7 @@ module _ {T : Type 0} (word : T → Word) where
   ended (t ∷ ts) = Err (stopped (unexpected (Some t)))
 
   module _ (expansion : Expansion) (current : Version) where
-    -- a comment alone on its line, or an item behind its attributes
+    -- a comment alone on its line, or an item after its attributes
     unfoldable pub filled_at : List T → Result (Entry × List T) (Halt T)
     filled_at ts =
         if is_next word Comment ts

@@ -7,9 +7,9 @@ use Rattle.just_text.specs.Tokens.{word_of}
 use Rattle.just_text.specs.declared.compile_error.CompileErrorKind.{CompileErrorKind}
 use Rattle.just_text.specs.declared.compile_error.CompileErrorKind.TheVariants.{OutOfMemory, NumbersUsed}
 use Rattle.just_text.specs.declared.token.Token.{Token}
-use Rattle.just_tree.specs.Files.{ItemShape}
-use Rattle.just_expressions.specs.Literals.{Expansion}
-use Rattle.just_expressions.specs.Reading.{shown}
+use Rattle.tree_items.specs.Files.{ItemShape}
+use Rattle.parse_expressions.specs.Literals.{Expansion}
+use Rattle.parse_expressions.specs.Reading.{shown}
 use Rattle.justfile_syntax.specs.Files.{Derives}
 use Rattle.justfile_syntax.specs.Parsed.{HaltsBy}
 use Rattle.justfile_syntax.specs.Reading.{file_at}

@@ -4,10 +4,10 @@ use Rattle.just_text.specs.declared.compile_error.CompileError.{CompileError}
 use Rattle.just_text.specs.declared.compile_error.CompileErrorKind.{CompileErrorKind}
 use Rattle.just_text.specs.declared.compile_error.CompileErrorKind.TheVariants as kinds
 use Rattle.just_text.specs.declared.token.Token.{Token}
-use Rattle.just_tree.specs.Files.{ItemShape}
-use Rattle.just_expressions.specs.declared.fault.Fault.{Fault}
-use Rattle.just_expressions.specs.declared.fault.Fault.TheVariants as faults
-use Rattle.just_attributed_items.specs.Halting.{Halt}
+use Rattle.tree_items.specs.Files.{ItemShape}
+use Rattle.parse_expressions.specs.declared.fault.Fault.{Fault}
+use Rattle.parse_expressions.specs.declared.fault.Fault.TheVariants as faults
+use Rattle.parse_attributed_items.specs.Halting.{Halt}
 use Rattle.justfile_syntax.specs.Files.{Entry, items_in}
 use Rattle.justfile_syntax.specs.Parsed.{IsTooFew, last_token}
 

@@ -24,7 +24,7 @@ abbrev pub fragment_words : Fragment → List Word
 fragment_words (text t) = word Text t ∷ []
 fragment_words (expression ws) = word InterpolationStart (codes "{{") ∷ (ws ++ word InterpolationEnd (codes "}}") ∷ [])
 
--- the words of a line behind its indentation, and its end
+-- the words of a line after its indentation, and its end
 abbrev pub line_words : List Fragment → List Word
 line_words [] = newline ∷ []
 line_words (f ∷ fs) = fragment_words f ++ line_words fs
@@ -72,7 +72,7 @@ abbrev pub LinesFit : Indentation → List (List Fragment) → Type 0
 LinesFit i [] = Unit {0}
 LinesFit i (fs ∷ lines) = (FragmentsFit i fs × (shows fs ≡ true)) × LinesFit i lines
 
--- a body's words lead from where it may begin to the line behind it, which isn't indented and isn't empty
+-- a body's words lead from where it may begin to the line after it, which isn't indented and isn't empty
 abbrev pub BodiesLex : Type 0
 BodiesLex = (indentation : List ℕ) (line : List Fragment) (lines : List (List Fragment)) (rest : List ℕ) → is_indentation indentation ≡ true → FragmentsFit (indentation_of indentation) line → shows_first line ≡ true → LinesFit (indentation_of indentation) lines
     → not (is_blank (first rest) || at_line_end rest) ≡ true → LexesFrom (at_line true) (body_words indentation line lines) rest (at_line false)

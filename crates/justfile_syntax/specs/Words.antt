@@ -7,7 +7,7 @@ use Rattle.just_lexer.specs.Modes.{Mode, after, is_over, moved}
 use Rattle.just_lexer.specs.Longest.{IsLongest}
 use Rattle.just_lexer.specs.Lexes.{Piece, Lexes, start}
 
--- the texts of the words in order, and what comes behind them
+-- the texts of the words in order, and what comes after them
 abbrev pub joined : List Word → List ℕ → List ℕ
 joined [] rest = rest
 joined (w ∷ ws) rest = w.text ++ joined ws rest
@@ -17,7 +17,7 @@ abbrev pub placed : Position → List Word → List Piece
 placed at [] = []
 placed at (w ∷ ws) = record { kind = w.kind; text = w.text; at = at } ∷ placed (moved at w.kind w.text) ws
 
--- the mode behind a word
+-- the mode after a word
 abbrev pub behind_word : Mode → Word → Mode
 behind_word m w = after m w.kind w.text
 
@@ -25,7 +25,7 @@ behind_word m w = after m w.kind w.text
 abbrev pub StandsBefore : Mode → Word → List ℕ → Type 0
 StandsBefore m w rest = IsLongest m (w.text ++ rest) w.kind (length w.text)
 
--- each word is the longest token where the words before it lead, before those behind it and the rest
+-- each word is the longest token where the words before it lead, before those after it and the rest
 abbrev pub AllStand : Mode → List Word → List ℕ → Type 0
 AllStand m [] rest = Unit {0}
 AllStand m (w ∷ ws) rest = StandsBefore m w (joined ws rest) × AllStand (behind_word m w) ws rest
@@ -35,7 +35,7 @@ pub record LexesFrom (from : Mode) (ws : List Word) (rest : List ℕ) (to : Mode
   pub each : AllStand from ws rest
   pub goes : fold behind_word from ws ≡ to
 
--- words that lead on from the mode that others lead to may stand behind them
+-- words that lead on from the mode that others lead to may stand after them
 abbrev pub JoinsUp : Type 0
 JoinsUp = (from between to : Mode) (ws vs : List Word) (rest : List ℕ) → LexesFrom from ws (joined vs rest) between → LexesFrom between vs rest to → LexesFrom from (ws ++ vs) rest to
 
@@ -45,10 +45,10 @@ pub record Between (from : Mode) (ws vs : List Word) (rest : List ℕ) (to : Mod
   pub before : LexesFrom from ws (joined vs rest) between
   pub behind : LexesFrom between vs rest to
 
--- words one behind the other have one
+-- words one after the other have one
 abbrev pub ComesApart : Type 0
 ComesApart = (from to : Mode) (ws vs : List Word) (rest : List ℕ) → LexesFrom from (ws ++ vs) rest to → Between from ws vs rest to
 
--- words that lead from the start to the end, with nothing behind them, are the tokens of their joined text
+-- words that lead from the start to the end, with nothing after them, are the tokens of their joined text
 abbrev pub LexesBack : Type 0
 LexesBack = (ws : List Word) (to : Mode) → LexesFrom (start []).mode ws [] to → is_over to.line ≡ true → Lexes (joined ws []) (placed (start []).at ws)

@@ -1,12 +1,12 @@
 //! The features of a file that must be asked for.
 ghost use Rattle.std.specs.Prelude.{◌≡◌, IfOk};
 ghost use Rattle.std.specs.List.{list_any};
-ghost use Rattle.just_tree.specs.Files.{item_shape, item_shapes};
+ghost use Rattle.tree_items.specs.Files.{item_shape, item_shapes};
 ghost use Rattle.justfile_syntax.specs.Features.{features_of, is_cached, is_function, sets_lists};
 
-use just_attribute_tree::AttributeKind;
-use just_tree::{Item, UnstableFeature};
 use std::alloc::{AllocError, Global};
+use tree_attributes::AttributeKind;
+use tree_items::{Item, UnstableFeature};
 
 /// Whether the item is a recipe with `[cache]`.
 #[tactic(auto, using(crate::proofs::AnyShape::any_shape))]

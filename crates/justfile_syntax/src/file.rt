@@ -2,11 +2,12 @@
 ghost use Rattle.std.specs.Prelude.{◌≡◌, IfOk, OnOk, []};
 ghost use Rattle.std.specs.List.{All};
 ghost use Rattle.just_text.specs.Tokens.{word_of};
-ghost use Rattle.just_tree.specs.Files.{item_shapes};
-ghost use Rattle.just_expressions.specs.Reading.{ahead};
-ghost use Rattle.just_recipes.specs.Numbering.{AreUsed};
-ghost use Rattle.just_attributed_items.specs.Halting.{GivesOrHalts};
-ghost use Rattle.just_attributed_items.specs.Held.{IsItemCooked, IsOwnItem};
+ghost use Rattle.tree_items.specs.Files.{item_shapes};
+ghost use Rattle.parse_expressions.specs.Origins.{origin_of};
+ghost use Rattle.parse_expressions.specs.Reading.{ahead};
+ghost use Rattle.parse_recipes.specs.Numbering.{AreUsed, IsFrugal};
+ghost use Rattle.parse_attributed_items.specs.Halting.{GivesOrHalts};
+ghost use Rattle.parse_attributed_items.specs.Held.{IsItemCooked, IsOwnItem};
 ghost use Rattle.justfile_syntax.specs.Features.{features_of};
 ghost use Rattle.justfile_syntax.specs.Numbered.{AreInOrder};
 ghost use Rattle.justfile_syntax.specs.Parsed.{IsWhole};
@@ -15,15 +16,15 @@ ghost use Rattle.justfile_syntax.specs.Told.{items_read};
 
 use crate::features::features;
 use crate::item::{entry, push_entry};
-use just_attributed_items::law::law;
-use just_expressions::{Cursor, Fault};
-use just_recipes::recipe_law::recipe_law;
 use just_text::{Expander, Numerator, TokenKind};
-use just_tree::{Ast, Item};
+use parse_attributed_items::law::law;
+use parse_expressions::{Context, Cursor, Fault};
+use parse_recipes::recipe_law::recipe_law;
 use semver::Version;
 use std::alloc::{AllocError, Global};
+use tree_items::{Ast, Item};
 
-/// Refuses what stands behind the end of a file.
+/// Refuses what stands after the end of a file.
 fn check_end<'src>(cursor: &mut Cursor<'_, 'src>) -> Result<(), Fault<'src>>
     ensures { GivesOrHalts ⊥ (λ _. []) result (ended word_of (ahead cursor.old)) }
 {
@@ -33,25 +34,26 @@ fn check_end<'src>(cursor: &mut Cursor<'_, 'src>) -> Result<(), Fault<'src>>
     }
 }
 
-/// The items of a file, behind a byte order mark if there is one.
+/// The items of a file, after a byte order mark if there is one.
 fn items<'src, E: Expander>(
     alloc: Global,
     cursor: &mut Cursor<'_, 'src>,
-    expander: &E,
+    context: &Context<'_, 'src, E>,
     numerator: &mut Numerator,
     current: &Version,
 ) -> Result<Vec<Item<'src>>, Fault<'src>>
-    ensures gives { GivesOrHalts (AreUsed numerator.new) (λ items. item_shapes items.items) result (items_read (file_at word_of (E.expansion expander.now) current.now (ahead cursor.old))) }
+    ensures gives { GivesOrHalts (AreUsed numerator.new) (λ items. item_shapes items.items) result (items_read (file_at word_of (E.expansion context.now.expander.now) current.now (ahead cursor.old))) }
     ensures numbers { IfOk result (λ items. AreInOrder numerator.old numerator.new items.items) }
-    ensures own { IfOk result (λ items. All (IsOwnItem (E.expansion expander.now)) items.items) }
-    ensures cooked { IfOk result (λ items. All (IsItemCooked (E.expansion expander.now)) items.items) }
+    ensures frugal { IsFrugal (ahead cursor.old) numerator.old numerator.new }
+    ensures own { IfOk result (λ items. All (IsOwnItem (E.expansion context.now.expander.now)) items.items) }
+    ensures cooked { IfOk result (λ items. All (IsItemCooked (origin_of E.expansion context.now)) items.items) }
 {
     law();
     recipe_law();
     let _mark = cursor.accept(TokenKind::ByteOrderMark);
     let mut items = Vec::new(alloc);
     while cursor.accept(TokenKind::Eof).is_none() {
-        let read = entry(alloc, cursor, expander, numerator, current)?;
+        let read = entry(alloc, cursor, context, numerator, current)?;
         push_entry(&mut items, read)?;
     }
     check_end(cursor)?;
@@ -67,22 +69,23 @@ fn tell_features(alloc: Global, ast: &mut Ast) -> Result<(), AllocError>
     Ok(())
 }
 
-/// The tree of a file, behind a byte order mark if there is one. Variables, parameters and recipes
+/// The tree of a file, after a byte order mark if there is one. Variables, parameters and recipes
 /// take the numerator's next numbers in order.
 ///
 /// Refused with the first rule that is broken, where numbers run out, and where memory does.
 pub(crate) fn tree<'src, E: Expander>(
     alloc: Global,
     cursor: &mut Cursor<'_, 'src>,
-    expander: &E,
+    context: &Context<'_, 'src, E>,
     numerator: &mut Numerator,
     current: &Version,
 ) -> Result<Ast<'src>, Fault<'src>>
-    ensures gives { GivesOrHalts (AreUsed numerator.new) (λ ast. item_shapes ast.items.items) result (items_read (file_at word_of (E.expansion expander.now) current.now (ahead cursor.old))) }
+    ensures gives { GivesOrHalts (AreUsed numerator.new) (λ ast. item_shapes ast.items.items) result (items_read (file_at word_of (E.expansion context.now.expander.now) current.now (ahead cursor.old))) }
     ensures numbers { IfOk result (λ ast. AreInOrder numerator.old numerator.new ast.items.items) }
-    ensures whole { IfOk result (IsWhole (E.expansion expander.now)) }
+    ensures frugal { IsFrugal (ahead cursor.old) numerator.old numerator.new }
+    ensures whole { IfOk result (IsWhole (origin_of E.expansion context.now)) }
 {
-    let items = items(alloc, cursor, expander, numerator, current)?;
+    let items = items(alloc, cursor, context, numerator, current)?;
     let mut ast = Ast {
         items,
         unstable_features: Vec::new(alloc),

@@ -10,6 +10,6 @@ pub fn file_law()
     ensures faults { FaultsSayNothing }
 {
     just_lexer::lexer::law();
-    just_attributed_items::law::law();
-    just_recipes::recipe_law::recipe_law();
+    parse_attributed_items::law::law();
+    parse_recipes::recipe_law::recipe_law();
 }

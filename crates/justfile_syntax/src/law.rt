@@ -12,11 +12,11 @@ ghost use Rattle.justfile_syntax.specs.Beside.{LeadsToBreaks, LeadsToNext, Space
 
 /// Words lex back: what holds of the tokens of a text that is made of words.
 pub fn words_lex_back()
-    // Words that lead to a mode, and words that lead on from it, lead on one behind the other.
+    // Words that lead to a mode, and words that lead on from it, lead on one after the other.
     ensures joins { JoinsUp }
-    // Words one behind the other lead to a mode between the first and the others.
+    // Words one after the other lead to a mode between the first and the others.
     ensures apart { ComesApart }
-    // Words that lead from the start to the end, with nothing behind them, are the tokens of their joined text.
+    // Words that lead from the start to the end, with nothing after them, are the tokens of their joined text.
     ensures back { LexesBack }
     // A word that fits is the longest token at its place.
     ensures fits { FittingStand }
@@ -32,7 +32,7 @@ pub fn code_lexes_back()
     ensures words { PlainWords }
     // A name, a string, a command or a mark leads on before a byte that it doesn't go on with.
     ensures breaks { LeadsToBreaks }
-    // It leads on before a token that may stand behind it.
+    // It leads on before a token that may stand after it.
     ensures next { LeadsToNext }
     // A space leads on before anything but white space.
     ensures spaces { SpacesLeadOn }
@@ -56,7 +56,7 @@ pub fn lines_lex_back()
     ensures begin { LinesBegin }
     // An opening bracket leads into the bracket in the line.
     ensures bracket { BracketsBegin }
-    // Behind a `:` a body may come.
+    // After a `:` a body may come.
     ensures colon { ColonsAnnounce }
     // A line end leads to the next line.
     ensures end { LinesEnd }
@@ -86,7 +86,7 @@ pub fn bodies_lex_back()
     ensures end { BodyLinesEnd }
     // The body ends before what isn't indented.
     ensures last { BodiesEnd }
-    // A whole body's words lead to the line behind it.
+    // A whole body's words lead to the line after it.
     ensures whole { BodiesLex }
 {}
 
@@ -100,6 +100,6 @@ pub fn tokens_are_words()
     ensures each { LexedAreLexemes }
     // The parts of a format string are tokens whatever is open around it.
     ensures parts { PartsAnywhere }
-    // Text with an expression behind it may have one behind it again.
+    // Text with an expression after it may have one after it again.
     ensures text { TextsEndWell }
 {}

@@ -13,28 +13,28 @@ pub mod plain_files;
 mod printer;
 mod refusal;
 
-pub use just_attribute_tree::{
-    ArgumentOptions, Attribute, AttributeArguments, AttributeKind, Interpreter, LongName, Setting,
-    kind_from_name,
-};
-pub use just_attributes::{
-    AttributeItem, AttributeSet, Indentation, InvalidIndentation, ItemKind, PrintedArguments,
-    is_private, may_carry,
-};
-pub use just_expression_tree::{
-    ConditionalOperator, Expression, ListOperator, StringDelimiter, StringKind, StringLiteral,
-    StringPrefix, command_text, cook_part, halve, unindent,
-};
 pub use just_lexer::Lexer;
 pub use just_text::{
     CompileError, CompileErrorKind, Count, Delimiter, ExpandFault, Expander, Keyword, Name,
     Namepath, Number, Numerator, Os, Sequence, Text, Token, TokenKind,
 };
-pub use just_tree::{
+pub use parser::Parser;
+pub use printer::print;
+pub use tree_attribute_sets::{
+    AttributeItem, AttributeSet, Indentation, InvalidIndentation, ItemKind, PrintedArguments,
+    is_private, may_carry,
+};
+pub use tree_attributes::{
+    ArgumentOptions, Attribute, AttributeArguments, AttributeKind, Interpreter, LongName, Setting,
+    kind_from_name,
+};
+pub use tree_expressions::{
+    ConditionalOperator, Expression, ListOperator, StringDelimiter, StringKind, StringLiteral,
+    StringPrefix, command_text, cook_part, halve, unindent,
+};
+pub use tree_items::{
     Alias, Assignment, Ast, Binding, DependencyArgument, ExpressionContext, Fragment,
     FunctionDefinition, FunctionParameter, Import, Item, Keyed, Line, ListFeature, Module,
     Parameter, ParameterKind, Recipe, RecipeAlias, RecipeSignature, Set, Sigils, Unexport,
     UnresolvedDependency, UnstableFeature, resolve_attributes, resolve_variables,
 };
-pub use parser::Parser;
-pub use printer::print;

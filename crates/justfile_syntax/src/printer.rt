@@ -1,14 +1,14 @@
 //! A file's text as the formatter writes it.
 ghost use Rattle.std.specs.Prelude.{◌≡◌, IfOk};
 ghost use Rattle.std.specs.String.{string_bytes};
-ghost use Rattle.just_tree.specs.Files.{file_text, item_shapes};
+ghost use Rattle.tree_items.specs.Files.{file_text, item_shapes};
 
-use just_tree::Ast;
 use std::alloc::{AllocError, Global};
 use std::fmt::Formatter;
+use tree_items::Ast;
 
 /// The file's text, bodies with this indentation. Between items and at the start, a run of blank
-/// lines is cut to two; behind the last item there is one newline. Refused only where memory is.
+/// lines is cut to two; after the last item there is one newline.
 pub fn print(alloc: Global, ast: &Ast, indentation: &str) -> Result<String, AllocError>
     ensures { IfOk result (λ text. string_bytes text ≡ file_text indentation.now (item_shapes ast.now.items.items)) }
 {

@@ -2,8 +2,8 @@
 ghost use Rattle.justfile_syntax.specs.Parsed.{IsTooFew, last_token};
 ghost use Rattle.justfile_syntax.specs.Told.{IsRefused, Tells};
 
-use just_expressions::Fault;
 use just_text::{CompileError, CompileErrorKind, Token, TokenKind};
+use parse_expressions::Fault;
 
 /// The refusal where tokens end too early, at the last of them.
 fn too_few<'src>(tokens: &[Token<'src>]) -> CompileError<'src>

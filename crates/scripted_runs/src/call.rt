@@ -4,8 +4,10 @@ use crate::driver::told_driven;
 use crate::given::{Given, given_of};
 use crate::plain::told_plain;
 use crate::way::{RUN, Telling, Way};
+use scripted_files::{
+    root_of, told_modules, told_printed, told_resolved, told_steady, told_tokens,
+};
 use std::alloc::{AllocError, Global};
-use told_files::{root_of, told_modules, told_printed, told_resolved, told_steady, told_tokens};
 
 /// The first word that says nothing, if there is one.
 pub fn first_unknown(words: &[String]) -> Option<&str> {

@@ -3,8 +3,8 @@ use crate::answers::{Answers, Reply};
 use crate::scripted::Failing;
 use crate::way::{RUN, Telling, Way};
 use just_run::{Action, Confirmation};
+use scripted_files::Subject;
 use std::alloc::{AllocError, Global};
-use told_files::Subject;
 
 /// The directive's name and value, which is empty for a flag.
 fn name_and_value(word: &str) -> (&str, &str) {
@@ -219,7 +219,7 @@ fn truth(text: &str) -> Option<Reply<'_>> {
     }
 }
 
-/// The reply: its kind, and behind a space what it comes with.
+/// The reply: its kind, and after a space what it comes with.
 fn reply(value: &str) -> Option<Reply<'_>> {
     let (kind, text) = value.split_once(' ').unwrap_or((value, ""));
     match kind {

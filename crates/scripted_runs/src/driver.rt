@@ -7,8 +7,8 @@ use crate::told::told;
 use crate::way::{Telling, Way};
 use crate::whole::told_whole;
 use just_run::{Collected, Device, Entry, Fault, Out, Outcome, Recorded, Trees, drive};
+use scripted_files::Unchanged;
 use std::alloc::{AllocError, Global};
-use told_files::Unchanged;
 
 /// What came of it, in words, and where a refusal stands, if that is told.
 fn answer_text(
@@ -51,7 +51,7 @@ fn told_of(
 }
 
 /// What comes of the call with this output.
-fn drive_into<'g, O: Out>(
+pub(crate) fn drive_into<'g, O: Out>(
     alloc: Global,
     way: Way<'_>,
     given: &'g Given,
@@ -94,7 +94,7 @@ fn told_with_output(alloc: Global, way: Way<'_>, given: &Given) -> Result<String
     told_of(alloc, way, &host, out.bytes(), answer)
 }
 
-/// What is told where the output fails behind so many writes.
+/// What is told where the output fails after so many writes.
 fn told_with_failing_output(
     alloc: Global,
     way: Way<'_>,

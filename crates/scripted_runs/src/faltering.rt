@@ -1,7 +1,7 @@
 //! An output that fails.
 use std::io::{Error, ErrorKind, Result, Write};
 
-/// Takes at most two bytes a write, and fails behind so many writes.
+/// Takes at most two bytes a write, and fails after so many writes.
 #[derive(Drop)]
 pub(crate) struct Faltering {
     pub(crate) left: usize,

@@ -1,9 +1,9 @@
 //! What a call is given: files, words and a configuration.
 use crate::way::{Way, config};
 use just_run::Config;
+use scripted_files::{root_of, sources};
 use std::alloc::{AllocError, Global};
 use std::collections::BTreeMap;
-use told_files::{root_of, sources};
 
 /// What a call is given.
 #[derive(Drop)]

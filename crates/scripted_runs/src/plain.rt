@@ -1,10 +1,9 @@
-//! What comes of a file of plain recipes by the driver that runs such files alone, in words.
-use crate::driver::host;
+//! What comes of a run, in few words, with its status.
+use crate::driver::{drive_into, host};
 use crate::given::Given;
 use crate::way::Way;
-use just_plain_run::{Action, Collected, Entry, Fault, Outcome, drive};
+use just_run::{Collected, Entry, Fault, Outcome};
 use std::alloc::{AllocError, Global};
-use told_files::Unchanged;
 
 /// Writes the entries: commands and what is shown.
 fn tell(told: &mut String, entries: &[Entry]) -> Result<(), AllocError> {
@@ -25,6 +24,7 @@ fn tell(told: &mut String, entries: &[Entry]) -> Result<(), AllocError> {
 fn answer_text(alloc: Global, answer: Result<Outcome, Fault>) -> Result<String, AllocError> {
     match answer {
         Ok(Outcome::Ran) => String::from_str(alloc, "ran"),
+        Ok(_) => String::from_str(alloc, "did not run"),
         Err(fault) => {
             let status = fault.status();
             format!(in alloc; "{fault} ({status})")
@@ -32,21 +32,11 @@ fn answer_text(alloc: Global, answer: Result<Outcome, Fault>) -> Result<String, 
     }
 }
 
-/// What is handed over and shown, each behind the other, then what came of it.
+/// What is handed over and shown, each after the other, then what came of it.
 pub(crate) fn told_plain(alloc: Global, way: Way<'_>, given: &Given) -> Result<String, AllocError> {
     let mut host = host(alloc, way);
     let mut out = Collected::new(alloc);
-    let answer = drive(
-        alloc,
-        &given.config,
-        &Unchanged,
-        &given.sources,
-        &given.roots,
-        given.words.as_slice(),
-        Action::Run,
-        &mut host,
-        &mut out,
-    );
+    let answer = drive_into(alloc, way, given, &mut host, &mut out);
     let answer = answer_text(alloc, answer)?;
     let mut told = String::new(alloc);
     tell(&mut told, host.entries())?;

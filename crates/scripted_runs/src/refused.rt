@@ -1,9 +1,9 @@
 //! Refusals in words, and where they stand.
-use just_builtins::Error;
+use evaluate_context::Error;
 use just_run::Fault;
 use justfile_syntax::Token;
+use scripted_files::write_place;
 use std::alloc::{AllocError, Global};
-use told_files::write_place;
 
 /// What the evaluation was refused for, if that stands in a source.
 fn evaluation_token<'src>(error: &Error<'src>) -> Option<Token<'src>> {

@@ -21,7 +21,7 @@ fn push_pairs(told: &mut String, pairs: &[Pair]) -> Result<(), AllocError> {
     Ok(())
 }
 
-/// The command, then its words, and its variables, each behind a space.
+/// The command, then its words, and its variables, each after a space.
 fn push_job(told: &mut String, job: &CommandJob) -> Result<(), AllocError> {
     told.push_str(job.command.as_str())?;
     push_texts(told, job.positional.as_slice())?;
@@ -29,7 +29,7 @@ fn push_job(told: &mut String, job: &CommandJob) -> Result<(), AllocError> {
     told.push_str("; ")
 }
 
-/// The interpreter, the lines, the words and the variables, each behind a space.
+/// The interpreter, the lines, the words and the variables, each after a space.
 fn push_script(told: &mut String, job: &ScriptJob) -> Result<(), AllocError> {
     told.push_str("script")?;
     push_texts(told, job.interpreter.as_slice())?;

@@ -5,9 +5,9 @@ use crate::answers::Answers;
 use crate::scripted::Failing;
 use just_run::{Action, Config, Confirmation};
 use justfile_syntax::Os;
+use scripted_files::Subject;
 use semver::Version;
 use std::alloc::{AllocError, Global};
-use told_files::Subject;
 
 /// What is told of a justfile, and how much.
 #[derive(Clone, Copy)]
@@ -16,7 +16,7 @@ pub enum Telling {
     Short,
     /// All that was asked, handed over and shown, with what it runs under, one a line.
     Whole,
-    /// What the driver of plain recipes hands over and shows, and its answer with the status.
+    /// The commands that are handed over and what is shown, and the answer with its status.
     Plain,
     /// What the modules keep of the files; nothing is asked or handed over.
     Modules,
@@ -36,7 +36,7 @@ pub struct Way<'a> {
     pub action: Action,
     pub telling: Telling,
     pub answers: Answers<'a>,
-    /// Whether the answers to single questions are used one behind the other, each once.
+    /// Whether the answers to single questions are used one after the other, each once.
     pub in_turn: bool,
     /// Whether it is told of a refusal where it stands.
     pub is_placed: bool,
@@ -60,7 +60,7 @@ pub struct Way<'a> {
     /// The place of the question or event that fails, from 0; none does at the greatest place.
     pub failing_place: usize,
     pub failing: Failing,
-    /// The output takes at most two bytes a write, and fails behind so many writes.
+    /// The output takes at most two bytes a write, and fails after so many writes.
     pub writes: Option<usize>,
 }
 

@@ -38,7 +38,7 @@ fn push_flag(told: &mut String, flag: bool, text: &str) -> Result<(), AllocError
     Ok(())
 }
 
-/// What stands behind the shell: the words, the folder, the variables and the names that are removed.
+/// What stands after the shell: the words, the folder, the variables and the names that are removed.
 fn push_site(
     told: &mut String,
     words: &[Text],
@@ -52,7 +52,7 @@ fn push_site(
     push_texts(told, " -", removed)
 }
 
-/// What a command runs under: the shell, what stands behind it, and whether it runs unprinted.
+/// What a command runs under: the shell, what stands after it, and whether it runs unprinted.
 fn push_job(told: &mut String, job: &CommandJob) -> Result<(), AllocError> {
     told.push_str(" by")?;
     push_texts(told, " ", job.shell.as_slice())?;
@@ -66,7 +66,7 @@ fn push_job(told: &mut String, job: &CommandJob) -> Result<(), AllocError> {
     push_flag(told, job.quiet, " quiet")
 }
 
-/// What a script runs under: the interpreter, the end of its name, and what stands behind.
+/// What a script runs under: the interpreter, the end of its name, and what stands after.
 fn push_script_site(told: &mut String, job: &ScriptJob) -> Result<(), AllocError> {
     told.push_str(" by")?;
     push_texts(told, " ", job.interpreter.as_slice())?;

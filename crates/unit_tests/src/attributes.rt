@@ -1,10 +1,10 @@
 //! Names of attributes, and indentations.
 
 use crate::tokens::name;
-use just_attribute_tree::kind_from_name;
-use just_attributes::Indentation;
-use just_tree::Keyed;
 use std::test::Fail;
+use tree_attribute_sets::Indentation;
+use tree_attributes::kind_from_name;
+use tree_items::Keyed;
 
 #[test]
 fn knows_names(rt: HostRuntime) -> Result<(), Fail> {

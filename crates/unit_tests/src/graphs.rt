@@ -1,7 +1,7 @@
 //! Graphs of places.
 
 use crate::orders::copied;
-use just_order::{OrderFault, components, variable_order};
+use resolve_order::{OrderFault, components, variable_order};
 use std::alloc::{AllocError, Global};
 use std::test::Fail;
 
@@ -22,7 +22,7 @@ fn are_components(alloc: Global, rows: &[&[usize]], want: &str) -> Result<bool, 
 }
 
 #[test]
-fn circles_are_one_component(rt: HostRuntime) -> Result<(), Fail> {
+fn cycles_are_one_component(rt: HostRuntime) -> Result<(), Fail> {
     const ROWS: &[(&[&[usize]], &str)] = &[
         (&[], "[]"),
         (
@@ -36,12 +36,12 @@ fn circles_are_one_component(rt: HostRuntime) -> Result<(), Fail> {
     Ok(())
 }
 
-/// The order of the variables, or their circle, as it prints.
+/// The order of the variables, or their cycle, as it prints.
 fn ordered(alloc: Global, rows: &[&[usize]], variables: usize) -> Result<String, AllocError> {
     let graph = copied(alloc, rows)?;
     match variable_order(alloc, graph.as_slice(), variables) {
         Ok(places) => format!(in alloc; "{places:?}"),
-        Err(OrderFault::Circle(places)) => format!(in alloc; "circle {places:?}"),
+        Err(OrderFault::Cycle(places)) => format!(in alloc; "cycle {places:?}"),
         Err(OrderFault::OutOfMemory) => Err(AllocError),
     }
 }
@@ -61,7 +61,7 @@ fn functions_stand_between_variables(rt: HostRuntime) -> Result<(), Fail> {
         // x, y, z; f calls g and reads y, g calls f and reads z
         (&[&[3], &[], &[], &[4, 1], &[3, 2]], 3, "[1, 2, 0]"),
         // f calls g, reads z and w; g calls f; z calls g
-        (&[&[3], &[4], &[], &[4, 1, 2], &[3]], 3, "circle [1, 1]"),
+        (&[&[3], &[4], &[], &[4, 1, 2], &[3]], 3, "cycle [1, 1]"),
     ];
     for (graph, variables, want) in ROWS {
         assert!(rt; orders_to(rt.alloc(), graph, *variables, want)?, "{want}");

@@ -1,6 +1,7 @@
 //! Keys of files and paths of modules.
 
-use just_compilation::{Modulepath, Table, folder_from, is_clean, key_from};
+use just_value::Steps;
+use modules_compilation::{Modulepath, Table, folder_from, is_clean, key_from};
 use std::alloc::{AllocError, Global};
 use std::test::Fail;
 
@@ -120,5 +121,38 @@ fn tables(rt: HostRuntime) -> Result<(), Fail> {
     assert_eq!(rt; table.len(), 2);
     assert_eq!(rt; table.get("b").copied(), Some(3u8));
     assert_eq!(rt; table.pop(), Some(("a", 2u8)));
+    Ok(())
+}
+
+/// A table of `a`, `c` and `e`.
+fn letters(alloc: Global) -> Result<Table<'static, u8>, Fail> {
+    let mut table = Table::new(alloc);
+    table.insert("c", 1u8)?;
+    table.insert("e", 2u8)?;
+    table.insert("a", 3u8)?;
+    Ok(table)
+}
+
+/// Whether the key's place is that, found by two comparisons at most.
+fn is_place(table: &Table<'static, u8>, key: &str, want: Result<usize, usize>) -> bool {
+    let mut steps = Steps { taken: 0 };
+    table.position(key, &mut steps) == want && steps.taken <= 2
+}
+
+#[test]
+fn places_in_tables(rt: HostRuntime) -> Result<(), Fail> {
+    let table = letters(rt.alloc())?;
+    assert!(rt; is_place(&table, "c", Ok(1)));
+    assert!(rt; is_place(&table, "d", Err(2)));
+    assert!(rt; is_place(&table, "f", Err(3)));
+    Ok(())
+}
+
+#[test]
+fn key_put_in_again(rt: HostRuntime) -> Result<(), Fail> {
+    let mut table = letters(rt.alloc())?;
+    assert_eq!(rt; table.insert("c", 4u8)?, Some(1u8));
+    assert_eq!(rt; table.len(), 3);
+    assert_eq!(rt; table.get("c").copied(), Some(4u8));
     Ok(())
 }

@@ -1,6 +1,6 @@
 //! Orders of things by what they need.
 
-use just_order::order;
+use resolve_order::order;
 use std::alloc::{AllocError, Global};
 use std::test::Fail;
 
@@ -13,7 +13,7 @@ pub(crate) fn copied(alloc: Global, rows: &[&[usize]]) -> Result<Vec<Vec<usize>>
     Ok(needs)
 }
 
-/// The order, or the circle, as it prints.
+/// The order, or the cycle, as it prints.
 fn ordered(alloc: Global, rows: &[&[usize]]) -> Result<String, AllocError> {
     let needs = copied(alloc, rows)?;
     match order(alloc, needs.as_slice()) {
@@ -32,8 +32,8 @@ fn needs_come_first(rt: HostRuntime) -> Result<(), Fail> {
         (&[], "[]"),
         (&[&[1, 2], &[2], &[]], "[2, 1, 0]"),
         (&[&[], &[0], &[7]], "[0, 1, 2]"),
-        (&[&[0]], "Circle([0, 0])"),
-        (&[&[1], &[2], &[1]], "Circle([1, 2, 1])"),
+        (&[&[0]], "Cycle([0, 0])"),
+        (&[&[1], &[2], &[1]], "Cycle([1, 2, 1])"),
     ];
     for (needs, want) in ROWS {
         assert!(rt; orders_to(rt.alloc(), needs, want)?, "{want}");

@@ -2,8 +2,8 @@
 
 use crate::tokens::token;
 use just_text::TokenKind;
-use just_tree::{Fragment, Line};
 use std::test::Fail;
+use tree_items::{Fragment, Line};
 
 #[test]
 fn reads_marks(rt: HostRuntime) -> Result<(), Fail> {

@@ -1,13 +1,13 @@
 //! Numbers of names.
 
 use crate::tokens::name;
-use just_attribute_tree::{Attribute, AttributeKind};
-use just_attributes::{AttributeItem, AttributeSet};
-use just_expression_tree::Expression;
 use just_text::{Number, Numerator};
-use just_tree::{ExpressionContext, resolve_attributes};
 use std::alloc::{AllocError, Global};
 use std::test::Fail;
+use tree_attribute_sets::{AttributeItem, AttributeSet};
+use tree_attributes::{Attribute, AttributeKind};
+use tree_expressions::Expression;
+use tree_items::{ExpressionContext, resolve_attributes};
 
 fn numbers() -> [Number; 3] {
     let numerator = Numerator::new(3);

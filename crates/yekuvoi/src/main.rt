@@ -6,11 +6,11 @@ mod switch;
 
 use anyhow::{Context, Result, bail};
 use just_lexer::Excerpt;
-use just_loader::{base_folder, clean_folder, find_root, load};
 use just_run::{Config, Device, Fault, Outcome, Recorded, Trees, drive};
-use just_system::{Environment, Shell};
 use just_value::Positional;
 use justfile_syntax::{Os, Text};
+use program_loader::{base_folder, clean_folder, find_root, load};
+use program_system::{Environment, Shell};
 use replace::replace;
 use semver::Version;
 use std::alloc::{AllocError, Global};

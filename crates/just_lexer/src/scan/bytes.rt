@@ -89,7 +89,7 @@ pub fn at_line_end(text: &[u8]) -> bool
     0 < line_end_len(text)
 }
 
-/// The length of the line end behind a backslash; 0 where they don't stand here.
+/// The length of the line end after a backslash; 0 where they don't stand here.
 pub fn continued_len(text: &[u8]) -> usize
     ensures { result ≡ spec.continued_len text.now }
 {

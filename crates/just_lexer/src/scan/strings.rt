@@ -80,7 +80,7 @@ fn end_len(quotes: Quotes, text: &[u8]) -> usize
     }
 }
 
-/// The length up to and with the end of the part behind `start` bytes, or 0 where it has none.
+/// The length up to and with the end of the part after `start` bytes, or 0 where it has none.
 #[tactic(auto, unfolding(crate::specs::Strings::ended_len))]
 pub fn ended_len(is_format: bool, quotes: Quotes, start: usize, text: &[u8]) -> usize
     requires { start ≤ length text.now }
@@ -95,7 +95,7 @@ pub fn ended_len(is_format: bool, quotes: Quotes, start: usize, text: &[u8]) -> 
     }
 }
 
-/// The same where quotes open behind `letters` bytes.
+/// The same where quotes open after `letters` bytes.
 fn opened_len(is_format: bool, letters: usize, text: &[u8]) -> usize
     requires { letters + spec.quotes_len (spec.quotes_at (drop letters text.now)) ≤ length text.now }
     ensures { result ≡ spec.opened_len is_format letters text.now }
@@ -127,7 +127,7 @@ fn sized(kind: TokenKind, fault: Fault, length: usize) -> Result<(TokenKind, usi
     }
 }
 
-/// A string of this kind, whose quotes open behind `letters` bytes.
+/// A string of this kind, whose quotes open after `letters` bytes.
 pub fn string_token(
     kind: TokenKind,
     is_format: bool,
@@ -150,7 +150,7 @@ pub fn command_token(text: &[u8]) -> Result<(TokenKind, usize), Fault>
     sized(TokenKind::Backtick, Fault::UnclosedCommand, length)
 }
 
-/// The part of a format string behind an expression in it.
+/// The part of a format string after an expression in it.
 pub fn part_token(length: usize, text: &[u8]) -> Result<(TokenKind, usize), Fault>
     ensures { result ≡ part_token length text.now }
 {

@@ -17,7 +17,7 @@ pub struct Recipe<'src> {
     pub body: Vec<Line<'src>>,
 }
 
-/// A line of a body behind its indentation. A blank line has no text.
+/// A line of a body after its indentation. A blank line has no text.
 #[derive(Clone, Copy, Debug)]
 pub struct Line<'src> {
     pub text: Option<Token<'src>>,

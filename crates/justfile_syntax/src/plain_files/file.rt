@@ -1,15 +1,15 @@
 //! Which files are plain.
 ghost use Rattle.std.specs.Prelude.{◌≡◌, ◌∷◌, ◌++◌, [], IfOk, OnOk, option_map, map, filter_map};
-ghost use Rattle.just_tree.specs.Files.{item_shape, item_shapes};
-ghost use Rattle.just_tree.specs.Recipes.{dependency_shape, recipe_shape as shape_of_recipe};
+ghost use Rattle.tree_items.specs.Files.{item_shape, item_shapes};
+ghost use Rattle.tree_items.specs.Recipes.{dependency_shape, recipe_shape as shape_of_recipe};
 ghost use Rattle.justfile_syntax.specs.PlainShapes.{name_text, recipe_shape, shape_of};
 ghost use Rattle.justfile_syntax.specs.Plain.{each, plain_dependency, plain_item, plain_of, plain_recipe};
 
 use crate::plain_files::ast::{Ast, Recipe};
 use crate::plain_files::lines::plain_lines;
 use just_text::Name;
-use just_tree::{Item, Recipe as RecipeTree, UnresolvedDependency};
 use std::alloc::{AllocError, Global};
+use tree_items::{Item, Recipe as RecipeTree, UnresolvedDependency};
 
 /// The name of the dependency, if it is a name alone.
 fn plain_dependency<'src>(dependency: &UnresolvedDependency<'src>) -> Option<Name<'src>>
@@ -25,7 +25,7 @@ fn plain_dependency<'src>(dependency: &UnresolvedDependency<'src>) -> Option<Nam
     }
 }
 
-/// The names of the dependencies, if each is a name alone. Refused only where memory is.
+/// The names of the dependencies, if each is a name alone.
 fn plain_dependencies<'src>(
     alloc: Global,
     dependencies: &[UnresolvedDependency<'src>],
@@ -42,7 +42,7 @@ fn plain_dependencies<'src>(
     Ok(Some(names))
 }
 
-/// The recipe, if it is plain. Refused only where memory is.
+/// The recipe, if it is plain.
 fn plain_recipe<'src>(
     alloc: Global,
     recipe: &RecipeTree<'src, UnresolvedDependency<'src>>,
@@ -85,7 +85,7 @@ fn plain_item<'src>(
     }
 }
 
-/// Puts a recipe behind others, if there is one.
+/// Puts a recipe after others, if there is one.
 fn push_found<'src>(
     recipes: &mut Vec<Recipe<'src>>,
     found: Option<Recipe<'src>>,
@@ -100,7 +100,7 @@ fn push_found<'src>(
 
 /// The plain recipes of a file with these items, which has nothing else but comments and blank lines: each without
 /// attributes, marks and parameters, its dependencies names, its lines texts that run as they
-/// stand. None where the file has anything else; refused only where memory is.
+/// stand. None where the file has anything else;
 pub fn plain<'src>(alloc: Global, items: &[Item<'src>]) -> Result<Option<Ast<'src>>, AllocError>
     ensures { IfOk result (λ ast. option_map shape_of ast ≡ plain_of (item_shapes items.now)) }
 {

@@ -1,14 +1,14 @@
 //! Plain lines of bodies.
 ghost use Rattle.std.specs.Prelude.{◌≡◌, ◌∷◌, [], IfOk, option_map, map};
 ghost use Rattle.just_text.specs.Tokens.{lexeme};
-ghost use Rattle.just_tree.specs.Lines.{piece_of, pieces_of};
+ghost use Rattle.tree_items.specs.Lines.{piece_of, pieces_of};
 ghost use Rattle.justfile_syntax.specs.PlainShapes.{line_text};
 ghost use Rattle.justfile_syntax.specs.Plain.{each, has_braces, is_plain, plain_line};
 
 use crate::plain_files::ast::Line;
 use just_text::Token;
-use just_tree::{Fragment, Line as LineTree};
 use std::alloc::{AllocError, Global};
+use tree_items::{Fragment, Line as LineTree};
 
 /// Whether `{{` stands in the text.
 fn has_braces(bytes: &[u8]) -> bool
@@ -68,7 +68,7 @@ fn plain_line<'src>(line: &LineTree<'src>) -> Option<Line<'src>>
     }
 }
 
-/// The lines, if each is plain. Refused only where memory is.
+/// The lines, if each is plain.
 pub(crate) fn plain_lines<'src>(
     alloc: Global,
     body: &[LineTree<'src>],

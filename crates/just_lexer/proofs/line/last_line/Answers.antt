@@ -1,4 +1,4 @@
--- What stands behind the last newline, or all where there is none.
+-- What stands after the last newline, or all where there is none.
 use Rattle.std.proofs.Common.{Some, None, ◌∙◌, sym, arith}
 use Rattle.std.proofs.lemmas.Str.Pattern.{rfind_char}
 use Rattle.just_lexer.proofs.Lines.{after_last_newline, after_no_newline}

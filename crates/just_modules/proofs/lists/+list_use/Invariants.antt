@@ -1,6 +1,6 @@
 -- What falls from call to call.
 use Rattle.std.proofs.Common.{◌+◌, ◌*◌, max}
-use Rattle.just_expression_tree.specs.declared.expression.Expression.{size-Expression}
+use Rattle.tree_expressions.specs.declared.expression.Expression.{size-Expression}
 use Rattle.just_modules.proofs.lists.+list_use.Given as goal
 
 abbrev pub decreases-in_expression : goal.decreases-in_expression

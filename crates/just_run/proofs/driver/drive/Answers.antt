@@ -1,12 +1,12 @@
 use Rattle.std.proofs.Common.{◌≡◌, sym, subst}
 use Rattle.std.proofs.lemmas.Result.{err_from_is_err_and}
 use Rattle.std.specs.Option.{option_map}
-use Rattle.just_builtins.specs.Laws.{asked_nothing}
+use Rattle.just_host.specs.AskingLaws.{asked_nothing}
 use Rattle.justfile_syntax.specs.PlainShapes.{shape_of}
-use Rattle.just_plain_run.specs.Inputs.{given, inputs_of, reader_of}
-use Rattle.just_plain_run.specs.Setup.{setup_of}
-use Rattle.just_plain_run.specs.Drives.{verdict}
-use Rattle.just_plain_run.specs.Stages.{IsRoot, IsTold}
+use Rattle.run_plain.specs.Inputs.{given, inputs_of, reader_of}
+use Rattle.run_plain.specs.Setup.{setup_of}
+use Rattle.run_plain.specs.Drives.{verdict}
+use Rattle.run_plain.specs.Stages.{IsRoot, IsTold}
 use Rattle.just_run.proofs.Driven.{ran_out_answers, told_answers_plain}
 use Rattle.just_run.proofs.driver.drive.Goals as goal
 

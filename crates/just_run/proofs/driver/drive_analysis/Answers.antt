@@ -1,5 +1,5 @@
 use Rattle.just_host.specs.Follows.{questions}
-use Rattle.just_builtins.specs.Laws.{asked_then}
+use Rattle.just_host.specs.AskingLaws.{asked_then}
 use Rattle.just_run.proofs.driver.drive_analysis.Goals as goal
 
 pub returns-in-Plan-clause-asks : goal.returns-in-Plan-clause-asks

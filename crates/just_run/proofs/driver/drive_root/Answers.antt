@@ -1,9 +1,9 @@
 use Rattle.std.proofs.Common.{option_map, ap, subst}
 use Rattle.just_host.specs.Follows.{questions}
-use Rattle.just_builtins.specs.Laws.{asked_then}
+use Rattle.just_host.specs.AskingLaws.{asked_then}
 use Rattle.justfile_syntax.specs.PlainShapes.{shape_of}
-use Rattle.just_plain_run.specs.Stages.{IsRoot}
-use Rattle.just_plain_run.specs.Setup.{setup_of}
+use Rattle.run_plain.specs.Stages.{IsRoot}
+use Rattle.run_plain.specs.Setup.{setup_of}
 use Rattle.just_run.proofs.Early.{plain_is_early, plans_is_early}
 use Rattle.just_run.proofs.driver.drive_root.Goals as goal
 

@@ -1,6 +1,6 @@
 use Rattle.std.proofs.Common.{Ok, Err}
-use Rattle.just_builtins.specs.Laws.{asked_then}
-use Rattle.just_plain_run.specs.Setup.{setup_of}
+use Rattle.just_host.specs.AskingLaws.{asked_then}
+use Rattle.run_plain.specs.Setup.{setup_of}
 use Rattle.just_run.proofs.Driven.{file_answers}
 use Rattle.just_run.proofs.driver.run_plain.Goals as goal
 

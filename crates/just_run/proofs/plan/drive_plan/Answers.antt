@@ -2,8 +2,8 @@ use Rattle.std.proofs.Common.{rules, ◌≡◌, ◌++◌, refl, ap, subst, ◌�
 use Rattle.std.specs.String.{string_bytes}
 use Rattle.just_host.specs.Follows.{Follows, questions}
 use Rattle.just_host.specs.Steps.{idle}
-use Rattle.just_builtins.specs.Laws.{asked_nothing}
-use Rattle.just_plan.specs.Plans.{plan_text}
+use Rattle.just_host.specs.AskingLaws.{asked_nothing}
+use Rattle.run_plan.specs.Plans.{plan_text}
 use Rattle.just_run.proofs.plan.drive_plan.Goals as goal
 
 pub returns : goal.returns

@@ -1,8 +1,8 @@
 use Rattle.std.proofs.Common.{rules, ◌≡◌, ◌++◌, refl, ap, subst, ◌∙◌, IfSome}
 use Rattle.std.specs.String.{string_bytes}
 use Rattle.just_host.specs.Follows.{Follows, questions}
-use Rattle.just_plan.specs.Plans.{plan_text}
-use Rattle.just_plain_run.specs.Drives.{verdict}
+use Rattle.run_plan.specs.Plans.{plan_text}
+use Rattle.run_plain.specs.Drives.{verdict}
 use Rattle.just_run.specs.Plain.{fault_of}
 use Rattle.just_run.specs.Plans.{breaks_rule}
 use Rattle.just_run.proofs.Planned.{written_is_kept, failed_is_kept, failed_plans, refused_asks_nothing}

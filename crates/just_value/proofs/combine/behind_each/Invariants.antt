@@ -1,4 +1,4 @@
--- The text stands behind each of the others so far.
+-- The text stands after each of the others so far.
 use Rattle.std.proofs.Common.{◌≡◌, map, take}
 use Rattle.std.specs.String.{string_bytes}
 use Rattle.just_value.specs.Values as spec

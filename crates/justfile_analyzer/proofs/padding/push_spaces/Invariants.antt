@@ -1,4 +1,4 @@
--- The spaces so far stand behind the text.
+-- The spaces so far stand after the text.
 use Rattle.std.proofs.Common.{◌≡◌, ◌++◌, replicate}
 use Rattle.std.specs.String.{string_bytes}
 use Rattle.justfile_analyzer.proofs.padding.push_spaces.Given as goal

@@ -1,5 +1,5 @@
 -- What was asked so far.
-use Rattle.just_builtins.specs.Asking.{Asks}
+use Rattle.just_host.specs.Asking.{Asks}
 use Rattle.justfile_evaluator.proofs.assignments.open_assignments.Given as goal
 
 abbrev pub invariant-loop-place : goal.invariant-loop-place

@@ -1,5 +1,5 @@
 -- What was asked so far.
-use Rattle.just_builtins.specs.Asking.{Asks}
+use Rattle.just_host.specs.Asking.{Asks}
 use Rattle.justfile_evaluator.proofs.parameters.attribute_pairs.Given as goal
 
 abbrev pub invariant-loop-item : goal.invariant-loop-item

@@ -1,4 +1,4 @@
-use Rattle.just_builtins.specs.Laws.{asked_then}
+use Rattle.just_host.specs.AskingLaws.{asked_then}
 use Rattle.justfile_evaluator.proofs.script.hand_over.Goals as goal
 
 pub returns-in_err-_goes_on : goal.returns-in_err-_goes_on

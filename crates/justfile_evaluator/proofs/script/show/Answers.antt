@@ -1,4 +1,4 @@
-use Rattle.just_builtins.specs.Laws.{asked_then}
+use Rattle.just_host.specs.AskingLaws.{asked_then}
 use Rattle.justfile_evaluator.proofs.script.show.Goals as goal
 
 pub returns-in_ok-text : goal.returns-in_ok-text

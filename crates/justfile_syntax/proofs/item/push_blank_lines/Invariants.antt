@@ -1,6 +1,6 @@
--- So many blank lines stand behind the items.
+-- So many blank lines stand after the items.
 use Rattle.std.proofs.Common.{◌≡◌, ◌++◌, replicate}
-use Rattle.just_tree.specs.declared.ast.Item.TheVariants.{Newline}
+use Rattle.tree_items.specs.declared.ast.Item.TheVariants.{Newline}
 use Rattle.justfile_syntax.proofs.item.push_blank_lines.Given as goal
 
 abbrev pub invariant-loop : goal.invariant-loop

@@ -1,6 +1,6 @@
 use Rattle.std.proofs.Common.{◌++◌, ℕ, List, IsOk, string_bytes, ap, ◌∙◌, rules}
 use Rattle.std.proofs.lemmas.Fmt.{contents_after_writes}
-use Rattle.just_tree.specs.Files.{file_text, item_shapes}
+use Rattle.tree_items.specs.Files.{file_text, item_shapes}
 use Rattle.justfile_syntax.proofs.printer.print.Goals as goal
 
 pub returns-in-Ok : goal.returns-in-Ok

@@ -1,4 +1,4 @@
--- The position so far is behind the bytes so far.
+-- The position so far is after the bytes so far.
 use Rattle.std.proofs.Common.{◌≡◌, take}
 use Rattle.std.specs.List.{fold}
 use Rattle.just_lexer.specs.Modes.{advance}

@@ -1,4 +1,4 @@
--- The names behind the first one are written one after the other.
+-- The names after the first one are written one after the other.
 use Rattle.std.proofs.Common.{take}
 use Rattle.std.specs.Fmt.{HasWritten, IsPlainFormatter}
 use Rattle.just_text.specs.Names.{more_names}

@@ -1,4 +1,4 @@
--- The characters so far are written, escaped, and what is left of the text stands behind them.
+-- The characters so far are written, escaped, and what is left of the text stands after them.
 use Rattle.std.proofs.Common.{◌≡◌, ◌++◌}
 use Rattle.std.specs.Fmt.{HasWritten, IsPlainFormatter}
 use Rattle.std.specs.List.{flat_map}

@@ -1,17 +1,23 @@
--- The map with one more entry is the frame with the binding.
-use Rattle.std.proofs.Common.{ap, subst, sym}
-use Rattle.just_value.specs.Frames.{Rebinds, bound_of}
-use Rattle.just_value.proofs.Numbered.{numbered_stays, rebinds, frame_of}
+-- The binding at the place that the search finds keeps the order, and is the number's.
+use Rattle.std.proofs.Common.{subst}
+use Rattle.just_value.specs.Frames.{ByNumber}
+use Rattle.just_value.proofs.Numbered.{set_by_number, set_rebinds, inserted_by_number, inserted_rebinds}
 use Rattle.just_value.proofs.frame.Frame.bind.Goals as goal
 
 pub invariant_of-self : goal.invariant_of-self
 invariant_of-self c =
-    let same = sym (ap (λ b. b.number) c.in_ok-boxed.ensures.ok) in
-    numbered_stays c.insert.result c.self.inside.bindings.entries c.insert.new.self.entries c.args.binding.number c.in_ok-boxed.boxed c.insert.ensures.entries c.insert.ensures.err same c.self.invariant
+    set_by_number c.self.inside.bindings.items c.args.self.now c.self.view_is (subst ByNumber c.self.view_is c.self.invariant) c.in-Ok.place c.args.binding c.in-Ok.ensures.place
+
+pub invariant_of-self-in-Err : goal.invariant_of-self-in-Err
+invariant_of-self-in-Err c =
+    inserted_by_number c.self.inside.bindings.items c.args.self.now c.self.view_is (subst ByNumber c.self.view_is c.self.invariant) c.in-Err.place c.args.binding c.in-Err.ensures.place.1
+    c.put_in.result c.put_in.new.bindings.items c.put_in.ensures.items
 
 pub returns-in-Ok-clause-bound : goal.returns-in-Ok-clause-bound
 returns-in-Ok-clause-bound c =
-    let same = sym (ap (λ b. b.number) c.in_ok-boxed.ensures.ok) in
-    let numbered = numbered_stays c.insert.result c.self.inside.bindings.entries c.insert.new.self.entries c.args.binding.number c.in_ok-boxed.boxed c.insert.ensures.entries c.insert.ensures.err same c.self.invariant in
-    subst (λ b. Rebinds c.args.self.now (bound_of b) (frame_of c.insert.new.self.entries)) c.in_ok-boxed.ensures.ok
-    (subst (λ f. Rebinds f (bound_of c.in_ok-boxed.boxed.value) (frame_of c.insert.new.self.entries)) c.self.view_is (rebinds c.self.inside.bindings.entries c.insert.new.self.entries c.args.binding.number c.in_ok-boxed.boxed same c.self.invariant numbered c.in-Ok.ensures.updates.0))
+    set_rebinds c.self.inside.bindings.items c.args.self.now c.self.view_is (subst ByNumber c.self.view_is c.self.invariant) c.in-Ok.place c.args.binding c.in-Ok.ensures.place
+
+pub returns-in-Err-clause-bound : goal.returns-in-Err-clause-bound
+returns-in-Err-clause-bound c =
+    inserted_rebinds c.self.inside.bindings.items c.args.self.now c.self.view_is (subst ByNumber c.self.view_is c.self.invariant) c.in-Err.place c.args.binding c.in-Err.ensures.place.1
+    c.put_in.result c.put_in.new.bindings.items c.put_in.ensures.items

@@ -1,16 +1,13 @@
--- The map's look-up is the frame's.
-use Rattle.std.proofs.Common.{ap, sym, ◌∙◌, Some}
-use Rattle.std.specs.Option.{option_map, option_copied}
-use Rattle.just_value.specs.Frames.{bound_of, bound_in}
-use Rattle.just_value.proofs.Numbered.{bound_in_is}
+-- The number's row is at the place that the search finds, or nowhere.
+use Rattle.std.proofs.Common.{subst, sym, ◌∙◌}
+use Rattle.just_value.specs.Frames.{ByNumber}
+use Rattle.just_value.proofs.Numbered.{found, missing, row_read}
 use Rattle.just_value.proofs.frame.Frame.binding.Goals as goal
 
-pub returns-in-Some : goal.returns-in-Some
-returns-in-Some c =
-    ap Some (ap bound_of c.as_ref.ensures) ∙ sym (ap (λ r. option_map (λ b. bound_of b.value) (option_copied r)) c.in-Some.is) ∙ ap (option_map (λ b. bound_of b.value)) c.get.ensures.value
-    ∙ bound_in_is c.self.inside.bindings.entries c.args.number c.self.invariant ∙ ap (λ f. bound_in f c.args.number) c.self.view_is
+pub returns-in-Ok : goal.returns-in-Ok
+returns-in-Ok c =
+    row_read c.self.inside.bindings.items c.args.self.now c.self.view_is c.in-Ok.place c.args.number c.index.result.now c.in-Ok.ensures.place c.index.ensures
+    ∙ sym (found c.args.self.now c.args.number c.in-Ok.place (subst ByNumber c.self.view_is c.self.invariant) c.in-Ok.ensures.place)
 
-pub returns-in-None : goal.returns-in-None
-returns-in-None c =
-    sym (ap (λ r. option_map (λ b. bound_of b.value) (option_copied r)) c.in-None.is) ∙ ap (option_map (λ b. bound_of b.value)) c.get.ensures.value
-    ∙ bound_in_is c.self.inside.bindings.entries c.args.number c.self.invariant ∙ ap (λ f. bound_in f c.args.number) c.self.view_is
+pub returns-in-Err : goal.returns-in-Err
+returns-in-Err c = sym (missing c.args.self.now c.args.number c.in-Err.field-0 c.in-Err.ensures.place.1)

@@ -1,4 +1,4 @@
--- The last item stands behind the conjunction.
+-- The last item stands after the conjunction.
 use Rattle.std.proofs.Common.{arith, rules, length, ◌<◌}
 use Rattle.std.proofs.lemmas.Grind.{put_two}
 use Rattle.just_value.specs.Lists.{enclosed}

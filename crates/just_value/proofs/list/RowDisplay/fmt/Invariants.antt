@@ -1,4 +1,4 @@
--- The items so far are written, each with a comma behind it.
+-- The items so far are written, each with a comma after it.
 use Rattle.std.proofs.Common.{take, map}
 use Rattle.std.specs.Fmt.{HasWritten, IsPlainFormatter}
 use Rattle.std.specs.List.{flat_map}

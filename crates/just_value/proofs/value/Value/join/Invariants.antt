@@ -1,4 +1,4 @@
--- The texts so far are written, each behind a space.
+-- The texts so far are written, each after a space.
 use Rattle.std.proofs.Common.{◌≡◌, ◌++◌, map, take, codes}
 use Rattle.std.specs.List.{flat_map}
 use Rattle.std.specs.String.{string_bytes}

@@ -1,31 +1,9 @@
--- What the tokens derive, from what reading them gives.
-use Rattle.std.proofs.Common.{◌∙◌, sym}
-use Rattle.just_tree.specs.Files.{item_shapes}
-use Rattle.just_expressions.proofs.Taken.{ok_is}
-use Rattle.justfile_syntax.proofs.Answered.{derived, holds, read, reason, starved}
+-- The path of the context is that of the first token.
+use Rattle.std.proofs.Common.{subst}
+use Rattle.std.specs.Prelude.{IfOk}
+use Rattle.parse_expressions.specs.Literals.{from_file}
+use Rattle.justfile_syntax.specs.Parsed.{IsWhole}
 use Rattle.justfile_syntax.proofs.parser.Parser.parse.Goals as goal
 
-pub returns-in-Ok-clause-found : goal.returns-in-Ok-clause-found
-returns-in-Ok-clause-found g c =
-    let x = g.E.Expander.expansion c.args.expander.now in
-    derived x c.args.version.now (c.file_law.ensures.files x c.args.version.now) c.args.tokens.now (item_shapes c.in-Ok.ast.items.items) (rw c.new-cursor.ensures at c.in-Ok.ensures.gives)
-
-pub returns-in-Ok-clause-only : goal.returns-in-Ok-clause-only
-returns-in-Ok-clause-only g c items d =
-    let x = g.E.Expander.expansion c.args.expander.now in
-    ok_is (item_shapes c.in-Ok.ast.items.items) items (sym (rw c.new-cursor.ensures at c.in-Ok.ensures.gives) ∙ read x c.args.version.now (c.file_law.ensures.files x c.args.version.now) c.args.tokens.now items d)
-
-pub returns-in-Err-clause-only : goal.returns-in-Err-clause-only
-returns-in-Err-clause-only g c items d =
-    let x = g.E.Expander.expansion c.args.expander.now in
-    starved x c.args.version.now (c.file_law.ensures.files x c.args.version.now) c.args.tokens.now _ c.refusal.result c.in-Err.fault (rw c.new-cursor.ensures at c.in-Err.ensures.gives) c.refusal.ensures items d
-
-pub returns-in-Err-clause-fault : goal.returns-in-Err-clause-fault
-returns-in-Err-clause-fault g c =
-    let x = g.E.Expander.expansion c.args.expander.now in
-    holds x c.args.version.now (c.file_law.ensures.files x c.args.version.now) c.args.tokens.now _ c.refusal.result c.in-Err.fault (rw c.new-cursor.ensures at c.in-Err.ensures.gives) c.refusal.ensures
-
-pub returns-in-Err-clause-reason : goal.returns-in-Err-clause-reason
-returns-in-Err-clause-reason g c =
-    let x = g.E.Expander.expansion c.args.expander.now in
-    reason x c.args.version.now (c.file_law.ensures.files x c.args.version.now) c.args.tokens.now _ c.refusal.result c.in-Err.fault (rw c.new-cursor.ensures at c.in-Err.ensures.gives) c.refusal.ensures
+pub returns-clause-whole : goal.returns-clause-whole
+returns-clause-whole g c = subst (λ path. IfOk c.parse_in.result (IsWhole (from_file path (g.E.Expander.expansion c.args.expander.now)))) c.path_ahead-path.ensures c.parse_in.ensures.whole

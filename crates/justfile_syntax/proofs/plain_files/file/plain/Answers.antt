@@ -1,8 +1,8 @@
--- An item that isn't plain ends the turns; a recipe stands behind those before.
+-- An item that isn't plain ends the turns; a recipe stands after those before.
 use Rattle.std.proofs.Common.{◌≡◌, ◌∷◌, [], Some, map, sym, ap, ◌∙◌}
 use Rattle.std.specs.Prelude.{filter_map}
 use Rattle.std.specs.Option.{option_map}
-use Rattle.just_tree.specs.Files.{item_shape}
+use Rattle.tree_items.specs.Files.{item_shape}
 use Rattle.justfile_syntax.specs.PlainShapes.{recipe_shape}
 use Rattle.justfile_syntax.specs.Plain.{each, plain_item}
 use Rattle.justfile_syntax.proofs.Each.{each-none, kept-more}

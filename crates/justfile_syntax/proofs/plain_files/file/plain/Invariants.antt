@@ -2,7 +2,7 @@
 use Rattle.std.proofs.Common.{ℕ, ◌≡◌, List, Some, Option, map, take}
 use Rattle.std.specs.Prelude.{filter_map}
 use Rattle.std.specs.Option.{option_map}
-use Rattle.just_tree.specs.Files.{item_shape}
+use Rattle.tree_items.specs.Files.{item_shape}
 use Rattle.justfile_syntax.specs.PlainShapes.{recipe_shape}
 use Rattle.justfile_syntax.specs.Plain.{each, plain_item}
 use Rattle.justfile_syntax.proofs.plain_files.file.plain.Given as goal

@@ -1,8 +1,8 @@
--- A dependency that is no name alone ends the turns; a name stands behind those before.
+-- A dependency that is no name alone ends the turns; a name stands after those before.
 use Rattle.std.proofs.Common.{◌≡◌, ◌∷◌, [], Some, map, sym, ap, ◌∙◌}
 use Rattle.std.specs.Option.{option_map}
 use Rattle.std.proofs.lemmas.List.{map-append}
-use Rattle.just_tree.specs.Recipes.{dependency_shape}
+use Rattle.tree_items.specs.Recipes.{dependency_shape}
 use Rattle.justfile_syntax.specs.PlainShapes.{name_text}
 use Rattle.justfile_syntax.specs.Plain.{plain_dependency}
 use Rattle.justfile_syntax.proofs.Each.{each-more, each-none}

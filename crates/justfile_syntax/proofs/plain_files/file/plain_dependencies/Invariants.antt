@@ -1,6 +1,6 @@
 -- The dependencies so far are names alone.
 use Rattle.std.proofs.Common.{◌≡◌, Some, map, take}
-use Rattle.just_tree.specs.Recipes.{dependency_shape}
+use Rattle.tree_items.specs.Recipes.{dependency_shape}
 use Rattle.justfile_syntax.specs.PlainShapes.{name_text}
 use Rattle.justfile_syntax.specs.Plain.{each, plain_dependency}
 use Rattle.justfile_syntax.proofs.plain_files.file.plain_dependencies.Given as goal

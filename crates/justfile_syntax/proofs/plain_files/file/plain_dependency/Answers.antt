@@ -2,8 +2,8 @@
 use Rattle.std.proofs.Common.{◌≡◌, ◌≤◌, length, sym, ap, ◌∙◌, subst, arith}
 use Rattle.std.proofs.lemmas.List.{length-map}
 use Rattle.just_text.specs.Tokens.{lexeme}
-use Rattle.just_tree.specs.Paths.{path_names}
-use Rattle.just_tree.specs.Recipes.{dependency_shape}
+use Rattle.tree_items.specs.Paths.{path_names}
+use Rattle.tree_items.specs.Recipes.{dependency_shape}
 use Rattle.justfile_syntax.proofs.Lone.{many-names, not-plain}
 use Rattle.justfile_syntax.proofs.plain_files.file.plain_dependency.Goals as goal
 

@@ -1,7 +1,7 @@
 -- A line of two parts or more is not plain.
 use Rattle.std.proofs.Common.{◌≡◌, ◌≤◌, length, sym, ap, ◌∙◌, subst}
 use Rattle.std.proofs.lemmas.List.{length-map}
-use Rattle.just_tree.specs.Lines.{piece_of, pieces_of}
+use Rattle.tree_items.specs.Lines.{piece_of, pieces_of}
 use Rattle.justfile_syntax.proofs.Lone.{many-parts}
 use Rattle.justfile_syntax.proofs.plain_files.lines.plain_line.Goals as goal
 

@@ -1,8 +1,8 @@
--- A line that isn't plain ends the turns; a plain one stands behind those before.
+-- A line that isn't plain ends the turns; a plain one stands after those before.
 use Rattle.std.proofs.Common.{◌≡◌, ◌∷◌, [], Some, map, sym, ap, ◌∙◌}
 use Rattle.std.specs.Option.{option_map}
 use Rattle.std.proofs.lemmas.List.{map-append}
-use Rattle.just_tree.specs.Lines.{pieces_of}
+use Rattle.tree_items.specs.Lines.{pieces_of}
 use Rattle.justfile_syntax.specs.PlainShapes.{line_text}
 use Rattle.justfile_syntax.specs.Plain.{plain_line}
 use Rattle.justfile_syntax.proofs.Each.{each-more, each-none}

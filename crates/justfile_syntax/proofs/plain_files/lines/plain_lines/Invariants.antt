@@ -1,6 +1,6 @@
 -- The lines so far are plain.
 use Rattle.std.proofs.Common.{◌≡◌, Some, map, take}
-use Rattle.just_tree.specs.Lines.{pieces_of}
+use Rattle.tree_items.specs.Lines.{pieces_of}
 use Rattle.justfile_syntax.specs.PlainShapes.{line_text}
 use Rattle.justfile_syntax.specs.Plain.{each, plain_line}
 use Rattle.justfile_syntax.proofs.plain_files.lines.plain_lines.Given as goal

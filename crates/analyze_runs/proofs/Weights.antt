@@ -1,0 +1,62 @@
+-- A turn leaves less to do.
+use Rattle.std.proofs.Common.{◌≡◌, ◌∷◌, [], ◌<◌, ◌≤◌, length, ℕ, suc, ◌+◌, ◌*◌, ◌^◌, List, ◌∙◌, ap, add-one, arith}
+use Rattle.std.specs.List.{AllByRecursion}
+use Rattle.std.proofs.lemmas.List.Elements.{recursion_from_All}
+use Rattle.std.proofs.Math.Nat.{one-le-pow, pow-le-pow_right, mul-le-mul_left, pow-succ'}
+use Rattle.analyze_runs.specs.Todo.{Todo, Calls, Body, After}
+use Rattle.analyze_runs.specs.Weight.{most, base, weight_of, weight, AreBelow}
+use Rattle.analyze_runs.specs.declared.call.Call.{Call}
+
+least : 1 ≤ base
+least = omega arith
+
+-- calls below p weigh at most base ^ p each
+weight_below : (p : ℕ) (calls : List Call) → AllByRecursion (λ c. c.recipe < p) calls → weight_of calls ≤ length calls * base ^ p
+weight_below p [] h = omega arith
+weight_below p (c ∷ cs) h =
+    let k : base ^ (c.recipe + 1) ≤ base ^ p = pow-le-pow_right least (omega (arith, h.0)) in
+    let q : weight_of cs ≤ length cs * base ^ p = weight_below p cs h.1 in
+    omega (arith, k, q)
+
+-- as many as a list can hold weigh less than so many times base ^ p
+products : (n m x : ℕ) → 1 ≤ x → n < m → n * x + 1 ≤ m * x
+products n m x h k = let l : x * suc n ≤ x * m = mul-le-mul_left x k in omega (arith, l)
+
+pub bounded : (p : ℕ) (calls : List Call) → AreBelow p calls → weight_of calls + 1 ≤ most * base ^ p
+bounded p calls h =
+    let q : weight_of calls ≤ length calls * base ^ p = weight_below p calls (recursion_from_All _ calls h.earlier) in
+    let x : 1 ≤ base ^ p = one-le-pow p base least in
+    let l = products (length calls) most (base ^ p) x h.few in
+    omega (arith, q, l)
+
+doubled : (m x : ℕ) → 1 ≤ x → m * x + m * x + 3 ≤ (2 * m + 3) * x
+doubled m x h = omega (arith, h)
+
+pub lighter : (p : ℕ) → most * base ^ p + most * base ^ p + 3 ≤ base ^ (p + 1)
+lighter p =
+    let x : 1 ≤ base ^ p = one-le-pow p base least in
+    let e : base ^ (p + 1) ≡ base * base ^ p = ap (λ k. base ^ k) (add-one p) ∙ pow-succ' base p in
+    let d = doubled most (base ^ p) x in
+    omega (arith, e, d)
+
+-- ---- the turns
+
+pub entered : (call : Call) (priors : List Call) (old new : List Todo) → AreBelow call.recipe priors → new ≡ Calls priors ∷ Body call ∷ old
+    → weight new + 1 < weight (Calls (call ∷ []) ∷ old)
+entered call priors old new h e =
+    omega (arith, ap weight e, bounded call.recipe priors h, lighter call.recipe)
+
+pub chained : (call : Call) (calls : List Call) (old mid new : List Todo) → mid ≡ Calls calls ∷ old → weight new + 1 < weight (Calls (call ∷ []) ∷ mid)
+    → weight new < weight (Calls (call ∷ calls) ∷ old)
+chained call calls old mid new e h = omega (arith, ap weight e, h)
+
+pub passed : (call : Call) (calls : List Call) (old new : List Todo) → new ≡ Calls calls ∷ old
+    → weight new < weight (Calls (call ∷ calls) ∷ old)
+passed call calls old new e =
+    let p : 1 ≤ base ^ (call.recipe + 1) = one-le-pow (call.recipe + 1) base least in
+    omega (arith, ap weight e, p)
+
+pub behind : (call : Call) (subsequents : List Call) (old new : List Todo) → AreBelow call.recipe subsequents → new ≡ Calls subsequents ∷ After call ∷ old
+    → weight new < weight (Body call ∷ old)
+behind call subsequents old new h e =
+    omega (arith, ap weight e, bounded call.recipe subsequents h)

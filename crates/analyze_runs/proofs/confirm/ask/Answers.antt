@@ -1,0 +1,5 @@
+use Rattle.just_host.specs.AskingLaws.{asked_then}
+use Rattle.analyze_runs.proofs.confirm.ask.Goals as goal
+
+pub returns : goal.returns
+returns g c = record { asks = asked_then g.H.Host.goes g.met.H.Host.joins c.args.host.now c.confirm-answer.new.self _ c.confirm-answer.ensures.followed }

@@ -1,0 +1,41 @@
+//! Parts of a run.
+use crate::call::{Call, Done, Pending};
+use just_host::Pair;
+use just_value::Scope;
+
+/// What a recipe was entered with.
+#[derive(Drop)]
+pub(crate) struct Entered<'m, 'src> {
+    /// The parameters' frame.
+    pub(crate) scope: Scope<'m, 'src>,
+    /// What its `env` attributes give to commands.
+    pub(crate) env: Vec<Pair>,
+    /// Its parameters' values as words.
+    pub(crate) positional: Vec<String>,
+    pub(crate) is_dependency: bool,
+}
+
+/// The calls after a body, and whether they share the table in which its recipe runs.
+#[derive(Drop)]
+pub(crate) struct Subsequents {
+    pub(crate) calls: Pending,
+    pub(crate) are_shared: bool,
+}
+
+/// Calls in order; what follows a call's priors; and what follows its subsequents, with the calls
+/// that were done before those, unless the subsequents shared them.
+#[derive(Drop)]
+pub(crate) enum Frame<'m, 'src> {
+    Calls {
+        pending: Pending,
+        are_dependencies: bool,
+    },
+    Body {
+        call: Call,
+        entered: Box<Entered<'m, 'src>>,
+    },
+    After {
+        call: Call,
+        outer: Option<Done>,
+    },
+}

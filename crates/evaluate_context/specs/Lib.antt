@@ -1,0 +1,5 @@
+pub mod Environment
+pub mod Environments
+pub mod Errors
+pub mod Folders
+pub mod Shells

@@ -1,0 +1,12 @@
+pub mod Parents
+pub mod Rows
+pub mod Joins
+pub mod Quotes
+pub mod Words
+pub mod Between
+pub mod Trims
+pub mod Ascii
+pub mod Characters
+pub mod Replaced
+pub mod Firsts
+pub mod Tables

@@ -1,0 +1,4 @@
+pub mod Names
+pub mod Arguments
+pub mod Values
+pub mod Functions

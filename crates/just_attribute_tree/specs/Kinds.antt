@@ -1,8 +1,0 @@
--- Kinds of attributes by their names.
-use Rattle.std.specs.Prelude.{ℕ, List, Option, bytes_eq, find}
-use Rattle.just_attribute_tree.specs.declared.attribute.AttributeKind.{AttributeKind}
-use Rattle.just_attribute_tree.specs.Attributes.{kind_name}
-
--- the first of some kinds with this name
-abbrev pub named : List ℕ → List AttributeKind → Option AttributeKind
-named text kinds = find (λ kind. bytes_eq (kind_name kind) text) kinds

@@ -1,9 +1,0 @@
--- The parts so far stand behind the front.
-use Rattle.std.proofs.Common.{◌≡◌, take}
-use Rattle.std.specs.Prelude.{string_bytes}
-use Rattle.just_compilation.specs.Paths.{folder_text}
-use Rattle.just_compilation.specs.Tables.{texts}
-use Rattle.just_compilation.proofs.path.folder_text.Given as goal
-
-abbrev pub invariant-loop-part : goal.invariant-loop-part
-invariant-loop-part l = string_bytes l.text ≡ folder_text l.front (texts (take l.part-index l.parts))

@@ -1,6 +1,0 @@
--- What was asked so far.
-use Rattle.just_builtins.specs.Asking.{Asks}
-use Rattle.just_evaluation.proofs.evaluator.Evaluator.evaluate_interpreter.Given as goal
-
-abbrev pub invariant-loop-argument : goal.invariant-loop-argument
-invariant-loop-argument g l = Asks g.H.Host.goes l.initial.host l.host

@@ -1,6 +1,0 @@
--- What was asked so far.
-use Rattle.just_builtins.specs.Asking.{Asks}
-use Rattle.just_evaluation.proofs.evaluator.Evaluator.evaluate_line.Given as goal
-
-abbrev pub invariant-loop-fragment : goal.invariant-loop-fragment
-invariant-loop-fragment g l = Asks g.H.Host.goes l.initial.host l.host

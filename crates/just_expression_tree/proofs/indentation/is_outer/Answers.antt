@@ -1,6 +1,0 @@
--- No lines are left where no text is.
-use Rattle.just_expression_tree.proofs.Lines.{are_none_is}
-use Rattle.just_expression_tree.proofs.indentation.is_outer.Goals as goal
-
-pub returns-else-first : goal.returns-else-first
-returns-else-first c = rw (c.is_empty.ensures, c.if-first.false) (are_none_is c.args.rest.now)

@@ -1,4 +1,0 @@
-pub mod Parents
-pub mod Rows
-pub mod LastValues
-pub mod FramePairs

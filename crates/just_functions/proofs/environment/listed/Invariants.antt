@@ -1,7 +1,0 @@
--- With the entries that are left behind them the pairs are all entries.
-use Rattle.std.proofs.Common.{◌≡◌, ◌++◌, map}
-use Rattle.just_functions.specs.Environment as spec
-use Rattle.just_functions.proofs.environment.listed.Given as goal
-
-abbrev pub invariant-loop-name : goal.invariant-loop-name
-invariant-loop-name l = l.pairs ++ map spec.pair_at l.name-iterator ≡ map spec.pair_at l.fn.values.entries

@@ -1,6 +1,0 @@
--- The pairs so far stand behind those that stood there.
-use Rattle.std.proofs.Common.{◌≡◌, ◌++◌, take}
-use Rattle.just_functions.proofs.pairs.push_pairs.Given as goal
-
-abbrev pub invariant-loop-other : goal.invariant-loop-other
-invariant-loop-other l = l.pairs ≡ l.initial.pairs ++ take l.other-index l.others

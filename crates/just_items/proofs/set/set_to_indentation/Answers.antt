@@ -1,6 +1,0 @@
--- Of indentations there is one setting.
-use Rattle.just_items.proofs.Forms.{indentation_is}
-use Rattle.just_items.proofs.set.set_to_indentation.Goals as goal
-
-pub returns-clause-name : goal.returns-clause-name
-returns-clause-name g c = indentation_is c.args.name.now c.requires

@@ -1,6 +1,0 @@
--- Of versions there is one setting.
-use Rattle.just_items.proofs.Forms.{version_is}
-use Rattle.just_items.proofs.set.set_to_version.Goals as goal
-
-pub returns-clause-name : goal.returns-clause-name
-returns-clause-name g c = version_is c.args.name.now c.requires

@@ -1,6 +1,0 @@
--- What was asked so far.
-use Rattle.just_builtins.specs.Asking.{Asks}
-use Rattle.just_runner.proofs.block.block.Given as goal
-
-abbrev pub invariant-loop-dependency : goal.invariant-loop-dependency
-invariant-loop-dependency g l = Asks g.H.Host.goes l.initial.host l.host

@@ -1,9 +1,0 @@
-use Rattle.just_runner.specs.Todo.{Todo, Calls, Body, After}
-use Rattle.just_runner.specs.declared.frame.Frame.{Frame}
-use Rattle.just_runner.specs.declared.frame.Frame.TheVariants.{Calls as CallsFrame, Body as BodyFrame, After as AfterFrame}
-
--- a frame, by what is to do
-abbrev pub todo : Frame → Todo
-todo (CallsFrame pending dependencies) = Calls pending
-todo (BodyFrame call entered) = Body call
-todo (AfterFrame call outer) = After call

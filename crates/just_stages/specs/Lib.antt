@@ -1,8 +1,0 @@
-pub mod Refusals
-pub mod Surroundings
-pub mod Functions
-pub mod Builtins
-pub mod Stages
-pub mod Lines
-pub mod Parameters
-pub mod Assigned

@@ -1,5 +1,0 @@
-use Rattle.just_builtins.specs.Laws.{asked_then}
-use Rattle.just_tasks.proofs.command.run_command.Goals as goal
-
-pub returns : goal.returns
-returns g c = record { asks = asked_then g.H.Host.goes g.met.H.Host.joins c.args.host.now c.line-status.new.self _ c.line-status.ensures.followed }

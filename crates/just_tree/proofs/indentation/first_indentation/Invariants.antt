@@ -1,7 +1,0 @@
--- The items so far give nothing.
-use Rattle.std.proofs.Common.{◌≡◌, drop}
-use Rattle.just_tree.specs.FileIndentation.{first_given, item_indentation}
-use Rattle.just_tree.proofs.indentation.first_indentation.Given as goal
-
-abbrev pub invariant-loop-item : goal.invariant-loop-item
-invariant-loop-item l = first_given (item_indentation l.os) (drop l.item-index l.items) ≡ first_given (item_indentation l.os) l.items

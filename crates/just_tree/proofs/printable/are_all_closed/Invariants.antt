@@ -1,9 +1,0 @@
--- What is left of the row settles the answer.
-use Rattle.std.proofs.Common.{◌≡◌, drop, map}
-use Rattle.std.specs.List.{list_all}
-use Rattle.just_tree.specs.Recipes.{dependency_shape}
-use Rattle.just_tree.specs.Printable.{is_closed}
-use Rattle.just_tree.proofs.printable.are_all_closed.Given as goal
-
-abbrev pub invariant-loop-dependency : goal.invariant-loop-dependency
-invariant-loop-dependency l = list_all is_closed (map dependency_shape (drop l.dependency-index l.dependencies)) ≡ list_all is_closed (map dependency_shape l.dependencies)

@@ -1,9 +1,0 @@
--- The dependencies so far are written.
-use Rattle.std.proofs.Common.{take}
-use Rattle.std.specs.Fmt.{HasWritten, IsPlainFormatter}
-use Rattle.just_tree.specs.Recipes.{dependencies_text, dependency_shapes}
-use Rattle.just_tree.proofs.rows.DependenciesDisplay.fmt.Given as goal
-
-abbrev pub invariant-loop-dependency : goal.invariant-loop-dependency
-invariant-loop-dependency g l =
-    IsPlainFormatter l.initial.f → HasWritten g.W.Write.write_str_gives l.initial.f (dependencies_text (dependency_shapes (take l.dependency-index l.dependency-items))) l.f

@@ -1,9 +1,0 @@
--- Where the number of a name stands.
-use Rattle.std.specs.Prelude.{ℕ, List, Option}
-use Rattle.std.specs.Option.{option_or}
-use Rattle.just_tree.specs.declared.variables.context.ExpressionContext.{ExpressionContext}
-use Rattle.just_tree.specs.Contexts.{number_in}
-
--- the context's number for a name, else the bindings', else none
-abbrev pub number_for : ExpressionContext → ExpressionContext → List ℕ → Option ℕ
-number_for context bindings name = option_or (number_in context name) (number_in bindings name)

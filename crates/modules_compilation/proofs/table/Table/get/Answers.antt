@@ -1,0 +1,13 @@
+-- The value is at the key's place, or nowhere.
+use Rattle.std.proofs.Common.{arith}
+use Rattle.modules_compilation.proofs.Tabled.{place_inside, value_found, none_found}
+use Rattle.modules_compilation.proofs.table.Table.get.Goals as goal
+
+pub index-requires : goal.index-requires
+index-requires g c = omega (arith, place_inside c.self.inside.keys.items c.self.inside.values.items c.args.self.now c.self.view_is c.self.invariant c.in-Ok.place c.args.key.now c.in-Ok.ensures.place)
+
+pub returns-in-Ok : goal.returns-in-Ok
+returns-in-Ok g c = value_found c.self.inside.keys.items c.self.inside.values.items c.args.self.now c.self.view_is c.self.invariant c.in-Ok.place c.args.key.now c.index.result.now c.in-Ok.ensures.place c.index.ensures
+
+pub returns-in-Err : goal.returns-in-Err
+returns-in-Err g c = none_found c.self.inside.keys.items c.self.inside.values.items c.args.self.now c.self.view_is c.self.invariant c.in-Err.field-0 c.args.key.now c.in-Err.ensures.place.1

@@ -1,0 +1,443 @@
+//! Loading files into modules.
+ghost use Rattle.std.specs.Prelude.{◌≡◌, ◌+◌, ◌<◌, length, true, IfOk, OnOk};
+
+use crate::folders::Folders;
+use crate::imports::{Reached, depth_behind};
+use crate::nodes::add_node;
+use crate::queue::{Pending, Queue};
+use crate::search::Files;
+use crate::submodules::find_all;
+use just_host::Config;
+use just_value::CONSTANT_COUNT;
+use justfile_syntax::{Ast, Expander, Numerator, Os, Parser};
+use modules_compilation::{Compilation, Error, File, Source, is_clean};
+use std::alloc::{AllocError, Global};
+use std::collections::BTreeMap;
+
+/// A root file that has been read, and which numbers are taken after it.
+pub struct Parsed<'src> {
+    pub ast: Ast<'src>,
+    pub numerator: Numerator,
+}
+
+/// What loading is given: the configuration, the expander and the files.
+struct Loader<'src, 'a, E> {
+    config: &'a Config,
+    expander: &'a E,
+    files: Files<'src, 'a>,
+}
+
+impl<E> Clone for Loader<'_, '_, E> {
+    fn clone(&self) -> Result<Self, AllocError> {
+        Ok(*self)
+    }
+}
+
+impl<E> Copy for Loader<'_, '_, E> {}
+
+/// The file for the module, with its tree. Refused as the parser refuses its text.
+fn read_file<'src, E: Expander>(
+    alloc: Global,
+    config: &Config,
+    expander: &E,
+    numerator: &mut Numerator,
+    source: Source<'src>,
+    module: usize,
+    depth: u32,
+) -> Result<File<'src>, Error<'src>> {
+    let version = &config.version;
+    match Parser::parse_source(alloc, source.key, source.text, expander, version, numerator) {
+        Ok(ast) => Ok(File {
+            key: source.key,
+            module,
+            depth,
+            ast,
+        }),
+        Err(error) => Err(Error::from(error)),
+    }
+}
+
+/// Puts the file after the others, if it was read.
+fn add_file<'src>(
+    files: &mut Vec<File<'src>>,
+    read: Result<File<'src>, Error<'src>>,
+) -> Result<(), Error<'src>> {
+    match read {
+        Ok(file) => match files.push(file) {
+            Ok(()) => Ok(()),
+            Err(_) => Err(Error::OutOfMemory),
+        },
+        Err(error) => Err(error),
+    }
+}
+
+impl<'src, 'a, E: Expander> Loader<'src, 'a, E> {
+    /// Loads the file for the module, and puts it after the others.
+    fn load_file(
+        &self,
+        alloc: Global,
+        files: &mut Vec<File<'src>>,
+        numerator: &mut Numerator,
+        source: Source<'src>,
+        module: usize,
+        depth: u32,
+    ) -> Result<(), Error<'src>> {
+        let read = read_file(
+            alloc,
+            self.config,
+            self.expander,
+            numerator,
+            source,
+            module,
+            depth,
+        );
+        add_file(files, read)
+    }
+
+    /// Loads the files for the module, and puts them after the others.
+    fn load_new(
+        &self,
+        alloc: Global,
+        files: &mut Vec<File<'src>>,
+        numerator: &mut Numerator,
+        new: &[Source<'src>],
+        module: usize,
+        depth: u32,
+    ) -> Result<(), Error<'src>> {
+        for source in new {
+            self.load_file(alloc, files, numerator, *source, module, depth)?;
+        }
+        Ok(())
+    }
+
+    /// Loads what the file at the place imports and the module has not reached yet. False where there
+    /// is no such file.
+    fn load_imports(
+        &self,
+        alloc: Global,
+        files: &mut Vec<File<'src>>,
+        numerator: &mut Numerator,
+        reached: &mut Reached<'src>,
+        module: usize,
+        place: usize,
+    ) -> Result<bool, Error<'src>> {
+        let all = files.as_slice();
+        if place >= all.len() {
+            return Ok(false);
+        }
+        let depth = depth_behind(all, place);
+        let new = reached.follow(alloc, self.files.sources, all, place)?;
+        self.load_new(alloc, files, numerator, new.as_slice(), module, depth)?;
+        Ok(true)
+    }
+
+    /// Loads all that the module's file at the place `first` imports, in reading order, as far as the
+    /// module has not reached it.
+    fn load_reached(
+        &self,
+        alloc: Global,
+        files: &mut Vec<File<'src>>,
+        numerator: &mut Numerator,
+        reached: &mut Reached<'src>,
+        module: usize,
+        first: usize,
+    ) -> Result<(), Error<'src>> {
+        for count in 0..self.files.sources.len() {
+            let place = first.saturating_add(count);
+            if !self.load_imports(alloc, files, numerator, reached, module, place)? {
+                return Ok(());
+            }
+        }
+        Ok(())
+    }
+
+    /// Loads all that the module's file at the place `first` imports, in reading order.
+    ///
+    /// Refused as the parser and imports are, and as `CircularImport` where a file imports itself
+    /// through others.
+    fn load_files(
+        &self,
+        alloc: Global,
+        files: &mut Vec<File<'src>>,
+        numerator: &mut Numerator,
+        key: &'src str,
+        module: usize,
+        first: usize,
+    ) -> Result<(), Error<'src>> {
+        let mut reached = Reached::new(alloc);
+        reached.begin(key)?;
+        self.load_reached(alloc, files, numerator, &mut reached, module, first)?;
+        reached.check(alloc, files.as_slice(), first)
+    }
+
+    /// Loads the file for the module, and all that it imports, in reading order.
+    fn load_texts(
+        &self,
+        alloc: Global,
+        files: &mut Vec<File<'src>>,
+        numerator: &mut Numerator,
+        source: Source<'src>,
+        module: usize,
+    ) -> Result<(), Error<'src>> {
+        let first = files.len();
+        self.load_file(alloc, files, numerator, source, module, 0)?;
+        self.load_files(alloc, files, numerator, source.key, module, first)
+    }
+
+    /// Loads the module's files, and puts it after the others and its submodules with those that are
+    /// still to load.
+    fn load_module(
+        &self,
+        alloc: Global,
+        compilation: &mut Compilation<'src>,
+        numerator: &mut Numerator,
+        queue: &mut Queue<'src>,
+        next: &Pending<'src>,
+    ) -> Result<(), Error<'src>>
+        ensures { OnOk result (length compilation.new.modules.items ≡ length compilation.old.modules.items + 1) }
+    {
+        let module = compilation.modules.len();
+        let first = compilation.files.len();
+        let files = &mut compilation.files;
+        self.load_texts(alloc, files, numerator, next.source, module)?;
+        let os = self.config.os;
+        add_module(alloc, &self.files, os, compilation, queue, next, first)
+    }
+
+    /// Loads the next module that is still to load. False where there is none.
+    fn load_next(
+        &self,
+        alloc: Global,
+        compilation: &mut Compilation<'src>,
+        numerator: &mut Numerator,
+        queue: &mut Queue<'src>,
+    ) -> Result<bool, Error<'src>>
+        ensures { IfOk result (λ loaded. loaded ≡ true → length compilation.old.modules.items < length compilation.new.modules.items) }
+    {
+        let Some(next) = queue.pop() else {
+            return Ok(false);
+        };
+        self.load_module(alloc, compilation, numerator, queue, &next)?;
+        Ok(true)
+    }
+
+    /// Loads all modules that are still to load.
+    fn load_pending(
+        &self,
+        alloc: Global,
+        compilation: &mut Compilation<'src>,
+        numerator: &mut Numerator,
+        queue: &mut Queue<'src>,
+    ) -> Result<(), Error<'src>> {
+        while self.load_next(alloc, compilation, numerator, queue)? {}
+        Ok(())
+    }
+
+    /// Loads all that the root file imports, and its module. The root file is the first file.
+    fn load_own(
+        &self,
+        alloc: Global,
+        compilation: &mut Compilation<'src>,
+        numerator: &mut Numerator,
+        queue: &mut Queue<'src>,
+        root: &Pending<'src>,
+    ) -> Result<(), Error<'src>> {
+        let files = &mut compilation.files;
+        self.load_files(alloc, files, numerator, root.source.key, 0, 0)?;
+        let os = self.config.os;
+        add_module(alloc, &self.files, os, compilation, queue, root, 0)
+    }
+
+    /// Loads the module of the root file, which is the first file, and all modules below it.
+    fn load_all(
+        &self,
+        alloc: Global,
+        compilation: &mut Compilation<'src>,
+        numerator: &mut Numerator,
+        root: Source<'src>,
+    ) -> Result<(), Error<'src>> {
+        let mut queue = Queue::new(alloc);
+        let own = Pending {
+            source: root,
+            parent: None,
+            item: None,
+            name: None,
+        };
+        self.load_own(alloc, compilation, numerator, &mut queue, &own)?;
+        self.load_pending(alloc, compilation, numerator, &mut queue)
+    }
+}
+
+/// Puts the module, whose files are those from the place `first` on, after the others, and its
+/// submodules with those that are still to load.
+fn add_module<'src>(
+    alloc: Global,
+    files: &Files<'src, '_>,
+    os: Os,
+    compilation: &mut Compilation<'src>,
+    queue: &mut Queue<'src>,
+    next: &Pending<'src>,
+    first: usize,
+) -> Result<(), Error<'src>>
+    ensures { OnOk result (length compilation.new.modules.items ≡ length compilation.old.modules.items + 1) }
+{
+    let module = compilation.modules.len();
+    add_node(alloc, compilation, next, first)?;
+    queue.enter(next, module)?;
+    find_all(alloc, files, os, compilation, queue, first, module)
+}
+
+/// Loads all files that can be reached from the root file, which is the first file, given the files by
+/// folder. Modules keep nothing yet.
+fn load_found<'a, 'src, E: Expander>(
+    alloc: Global,
+    config: &'a Config,
+    expander: &'a E,
+    files: Files<'src, 'a>,
+    compilation: &mut Compilation<'src>,
+    numerator: &mut Numerator,
+    root: Source<'src>,
+) -> Result<(), Error<'src>> {
+    let loader = Loader {
+        config,
+        expander,
+        files,
+    };
+    loader.load_all(alloc, compilation, numerator, root)
+}
+
+/// Loads all files that can be reached from the root file, which is the first file. Modules keep nothing
+/// yet.
+fn load_behind<'src, E: Expander>(
+    alloc: Global,
+    config: &Config,
+    expander: &E,
+    sources: &'src BTreeMap<String, String>,
+    compilation: &mut Compilation<'src>,
+    numerator: &mut Numerator,
+    root: Source<'src>,
+) -> Result<(), Error<'src>> {
+    let folders = Folders::new(alloc, sources)?;
+    let files = Files {
+        sources,
+        folders: &folders,
+    };
+    load_found(alloc, config, expander, files, compilation, numerator, root)
+}
+
+/// The text at the key of the root file.
+fn root_source<'src>(
+    sources: &'src BTreeMap<String, String>,
+    root: &'src str,
+) -> Result<Source<'src>, Error<'src>> {
+    if !is_clean(root) {
+        return Err(Error::MissingRoot(root));
+    }
+    match Source::find(sources, root) {
+        Some(source) => Ok(source),
+        None => Err(Error::MissingRoot(root)),
+    }
+}
+
+/// Loads the root file, and all files that can be reached from it.
+fn load_text<'src, E: Expander>(
+    alloc: Global,
+    config: &Config,
+    expander: &E,
+    sources: &'src BTreeMap<String, String>,
+    compilation: &mut Compilation<'src>,
+    root: &'src str,
+) -> Result<(), Error<'src>> {
+    let source = root_source(sources, root)?;
+    let mut numerator = Numerator::new(CONSTANT_COUNT);
+    let read = read_file(alloc, config, expander, &mut numerator, source, 0, 0);
+    add_file(&mut compilation.files, read)?;
+    load_behind(
+        alloc,
+        config,
+        expander,
+        sources,
+        compilation,
+        &mut numerator,
+        source,
+    )
+}
+
+/// Makes the tree the first file.
+fn add_root<'src>(
+    compilation: &mut Compilation<'src>,
+    root: &'src str,
+    ast: Ast<'src>,
+) -> Result<(), AllocError> {
+    compilation.add_file(File {
+        key: root,
+        module: 0,
+        depth: 0,
+        ast,
+    })
+}
+
+/// Makes the root file that has been read the first file, and loads all files that can be reached from
+/// it.
+fn load_parsed<'src, E: Expander>(
+    alloc: Global,
+    config: &Config,
+    expander: &E,
+    sources: &'src BTreeMap<String, String>,
+    compilation: &mut Compilation<'src>,
+    root: &'src str,
+    parsed: Parsed<'src>,
+) -> Result<(), Error<'src>> {
+    let Parsed { ast, mut numerator } = parsed;
+    add_root(compilation, root, ast)?;
+    let source = root_source(sources, root)?;
+    load_behind(
+        alloc,
+        config,
+        expander,
+        sources,
+        compilation,
+        &mut numerator,
+        source,
+    )
+}
+
+/// The file at the key `root` and all files that can be reached from it, each read anew for each module
+/// that takes it, and their modules, which keep nothing yet. Numbers begin after those of the constants.
+///
+/// Refused as `MissingRoot` where the sources have no such key or it is no clean path, as the parser
+/// refuses a text, as `MissingImport`, `MissingModule` and `AmbiguousModule` where no file or more than
+/// one is meant, as `CircularImport` where a file is reached from itself, and where memory is.
+pub fn load_root<'src, E: Expander>(
+    alloc: Global,
+    config: &Config,
+    expander: &E,
+    sources: &'src BTreeMap<String, String>,
+    root: &'src str,
+) -> Result<Compilation<'src>, Error<'src>> {
+    let mut compilation = Compilation::new(alloc);
+    let outcome = load_text(alloc, config, expander, sources, &mut compilation, root);
+    compilation.unless_refused(outcome)
+}
+
+/// The same for a root file that has been read. Numbers go on after its own.
+pub fn load_modules<'src, E: Expander>(
+    alloc: Global,
+    config: &Config,
+    expander: &E,
+    sources: &'src BTreeMap<String, String>,
+    root: &'src str,
+    parsed: Parsed<'src>,
+) -> Result<Compilation<'src>, Error<'src>> {
+    let mut compilation = Compilation::new(alloc);
+    let outcome = load_parsed(
+        alloc,
+        config,
+        expander,
+        sources,
+        &mut compilation,
+        root,
+        parsed,
+    );
+    compilation.unless_refused(outcome)
+}

@@ -1,0 +1,12 @@
+pub mod Words
+pub mod Operators
+pub mod Literals
+pub mod Origins
+pub mod Grammar
+pub mod Alone
+pub mod Reading
+pub mod Rows
+pub mod Strings
+pub mod Seen
+pub mod Laws
+pub mod LineEnds

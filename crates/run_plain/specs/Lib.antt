@@ -1,0 +1,16 @@
+pub mod Recipes
+pub mod Order
+pub mod Names
+pub mod Plan
+pub mod Setup
+pub mod Goes
+pub mod Ran
+pub mod Todo
+pub mod Inputs
+pub mod Rules
+pub mod Faulted
+pub mod Drives
+pub mod Stages
+pub mod Rooted
+pub mod Checks
+pub mod Invocations

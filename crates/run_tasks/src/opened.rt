@@ -1,0 +1,244 @@
+//! All modules opened, and what is done in them.
+ghost use Rattle.just_host.specs.Asking.{Asks};
+
+use crate::command::run_command;
+use crate::fault::TaskFault;
+use crate::task::{Performed, Task, TaskContext};
+use analyze_runs::{Call, Opened, Opening, Planned, Runner, Tally, open_modules, run_calls};
+use evaluate_context::{ExecutionContext, ModuleView};
+use just_host::{Config, Recorded, RunHost};
+use just_text::{Number, Text};
+use just_value::Scope;
+use justfile_analyzer::{EvaluationTarget, variables_text};
+use std::alloc::{AllocError, Global};
+use std::collections::BTreeMap;
+
+/// The place of each module among those that are open.
+fn positions(alloc: Global, opened: &[Opened], count: usize) -> Result<Vec<usize>, AllocError> {
+    let mut positions = vec![in alloc; opened.len(); count]?;
+    for place in 0..opened.len() {
+        let module = opened[place].module;
+        if module < positions.len() {
+            positions[module] = place;
+        }
+    }
+    Ok(positions)
+}
+
+/// What each module's recipes rest on, by the modules' places.
+fn contexts<'x, 'src>(
+    alloc: Global,
+    modules: &'x [ModuleView<'x, 'src>],
+    opened: &'x [Opened<'x, 'src>],
+    config: &'x Config,
+    overrides: &'x BTreeMap<Number, String>,
+    root: &'x str,
+) -> Result<Vec<ExecutionContext<'x, 'src>>, AllocError> {
+    let positions = positions(alloc, opened, modules.len())?;
+    let mut contexts = Vec::new(alloc);
+    for module in 0..modules.len().min(positions.len()) {
+        let position = positions[module];
+        if position < opened.len() {
+            contexts.push(ExecutionContext {
+                config,
+                dotenv: &opened[position].dotenv,
+                module: &modules[module],
+                overrides,
+                scope: &opened[position].scope,
+                root,
+            })?;
+        }
+    }
+    Ok(contexts)
+}
+
+/// Runs the calls.
+fn run<'a, 'src, H: RunHost + Drop>(
+    alloc: Global,
+    host: &mut Recorded<H>,
+    recipes: &'a [Planned<'a, 'src>],
+    contexts: &'a [ExecutionContext<'a, 'src>],
+    calls: Vec<Call>,
+    tally: &mut Tally,
+) -> Result<Performed, TaskFault<'src>>
+    ensures asks { Asks H.goes host.old host.new }
+{
+    let runner = Runner { recipes, contexts };
+    run_calls(alloc, host, &runner, calls, tally)?;
+    Ok(Performed::Ran)
+}
+
+/// The text of the module's variables.
+fn module_text(
+    alloc: Global,
+    contexts: &[ExecutionContext],
+    module: usize,
+) -> Result<String, AllocError> {
+    if module >= contexts.len() {
+        return Ok(String::new(alloc));
+    }
+    let context = &contexts[module];
+    variables_text(alloc, context.module.assignments, context.scope)
+}
+
+/// The text of the value of the module's variable.
+fn value_text(
+    alloc: Global,
+    contexts: &[ExecutionContext],
+    module: usize,
+    number: Number,
+) -> Result<String, AllocError> {
+    if module >= contexts.len() {
+        return Ok(String::new(alloc));
+    }
+    match contexts[module].scope.value(number) {
+        Some(value) => value.join(alloc),
+        None => Ok(String::new(alloc)),
+    }
+}
+
+/// The text of what is evaluated.
+fn evaluated(
+    alloc: Global,
+    contexts: &[ExecutionContext],
+    target: EvaluationTarget,
+) -> Result<String, AllocError> {
+    match target {
+        EvaluationTarget::Module(module) => module_text(alloc, contexts, module),
+        EvaluationTarget::Variable { module, number } => {
+            value_text(alloc, contexts, module, number)
+        }
+    }
+}
+
+fn evaluate<'src>(
+    alloc: Global,
+    contexts: &[ExecutionContext<'_, 'src>],
+    target: EvaluationTarget,
+) -> Result<Performed, TaskFault<'src>> {
+    Ok(Performed::Evaluated(evaluated(alloc, contexts, target)?))
+}
+
+/// Hands the words over as one command in the root module.
+fn command<'src, H: RunHost + Drop>(
+    alloc: Global,
+    host: &mut Recorded<H>,
+    contexts: &[ExecutionContext<'_, 'src>],
+    words: &[Text],
+) -> Result<Performed, TaskFault<'src>>
+    ensures asks { Asks H.goes host.old host.new }
+{
+    if contexts.is_empty() {
+        return Ok(Performed::Ran);
+    }
+    run_command(alloc, host, &contexts[0], words)
+}
+
+/// Does the task in the modules' contexts.
+fn perform_in<'a, 'src, H: RunHost + Drop>(
+    alloc: Global,
+    host: &mut Recorded<H>,
+    recipes: &'a [Planned<'a, 'src>],
+    contexts: &'a [ExecutionContext<'a, 'src>],
+    task: Task,
+    tally: &mut Tally,
+) -> Result<Performed, TaskFault<'src>>
+    ensures asks { Asks H.goes host.old host.new }
+{
+    match task {
+        Task::Run(calls) => run(alloc, host, recipes, contexts, calls, tally),
+        Task::Evaluate(target) => evaluate(alloc, contexts, target),
+        Task::Command(words) => command(alloc, host, contexts, words),
+    }
+}
+
+/// Does the task in the modules that are open.
+fn perform_opened<'a, 'src, H: RunHost + Drop>(
+    alloc: Global,
+    host: &mut Recorded<H>,
+    context: &TaskContext<'a>,
+    modules: &'a [ModuleView<'a, 'src>],
+    opened: &'a [Opened<'a, 'src>],
+    recipes: &'a [Planned<'a, 'src>],
+    task: Task,
+    tally: &mut Tally,
+) -> Result<Performed, TaskFault<'src>>
+    ensures asks { Asks H.goes host.old host.new }
+{
+    let contexts = contexts(
+        alloc,
+        modules,
+        opened,
+        context.config,
+        context.overrides,
+        context.root,
+    )?;
+    perform_in(alloc, host, recipes, contexts.as_slice(), task, tally)
+}
+
+/// What all modules open with.
+fn opening_of<'a, 'src>(
+    context: &TaskContext<'a>,
+    constants: &'a Scope<'a, 'src>,
+) -> Opening<'a, 'src> {
+    Opening {
+        config: context.config,
+        overrides: context.overrides,
+        constants,
+        root: context.root,
+        wanted: context.wanted,
+    }
+}
+
+/// Opens all modules inside the constants' frame, and does the task.
+fn perform_inside<'src, H: RunHost + Drop>(
+    alloc: Global,
+    host: &mut Recorded<H>,
+    context: &TaskContext<'_>,
+    modules: &[ModuleView<'_, 'src>],
+    recipes: &[Planned<'_, 'src>],
+    constants: &Scope<'_, 'src>,
+    task: Task,
+    tally: &mut Tally,
+) -> Result<Performed, TaskFault<'src>>
+    ensures asks { Asks H.goes host.old host.new }
+{
+    let opening = opening_of(&*context, &*constants);
+    let opened = open_modules(alloc, host, &opening, modules, context.opening_order)?;
+    perform_opened(
+        alloc,
+        host,
+        context,
+        modules,
+        opened.as_slice(),
+        recipes,
+        task,
+        tally,
+    )
+}
+
+/// Opens these modules, of which the root is the first, in the context's order, and does the task
+/// over the recipes, each of which stands after those that it depends on. The first fault ends it,
+/// and nothing else is asked after it. The tally counts the calls that a run meets and enters.
+///
+/// # Errors
+///
+/// `Run` where a module can't open, a recipe fails, or memory runs out; `Command` where the command
+/// that the words are fails.
+pub fn perform<'src, H: RunHost + Drop>(
+    alloc: Global,
+    host: &mut Recorded<H>,
+    context: &TaskContext<'_>,
+    modules: &[ModuleView<'_, 'src>],
+    recipes: &[Planned<'_, 'src>],
+    task: Task,
+    tally: &mut Tally,
+) -> Result<Performed, TaskFault<'src>>
+    // The record has grown by just what was asked, and the host went along by it.
+    ensures asks { Asks H.goes host.old host.new }
+{
+    let constants = Scope::root(alloc)?;
+    perform_inside(
+        alloc, host, context, modules, recipes, &constants, task, tally,
+    )
+}

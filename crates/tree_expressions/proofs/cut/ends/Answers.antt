@@ -1,0 +1,6 @@
+-- The test answers by the bytes.
+use Rattle.std.proofs.lemmas.Str.Pattern.{ends_text}
+use Rattle.tree_expressions.proofs.cut.ends.Goals as goal
+
+pub returns : goal.returns
+returns c = ends_text c.ends_with.result c.args.back.now c.args.text.now c.ends_with.ensures.cases

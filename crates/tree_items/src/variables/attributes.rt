@@ -1,0 +1,26 @@
+//! Numbers for the variables of attributes.
+ghost use Rattle.std.specs.Prelude.{◌≡◌, map};
+ghost use Rattle.tree_attribute_sets.specs.Sets.{items_of, written_item};
+
+use crate::variables::context::ExpressionContext;
+use crate::variables::resolving::Scope;
+use tree_attribute_sets::AttributeSet;
+
+/// Gives each variable in the expressions of these attributes the context's number for its name, or
+/// the environment's in an `env`, else the bindings' number, else none. Nothing else changes. Takes no
+/// memory.
+pub fn resolve_attributes<'a, 'src>(
+    attributes: &mut AttributeSet,
+    context: &'a ExpressionContext<'src>,
+    environment: &'a ExpressionContext<'src>,
+    bindings: &'a ExpressionContext<'src>,
+)
+    ensures { map written_item (items_of attributes.new) ≡ map written_item (items_of attributes.old) }
+{
+    let inside = Scope { context, bindings };
+    let outside = Scope {
+        context: environment,
+        bindings,
+    };
+    attributes.number_variables(&inside, &outside);
+}

@@ -1,0 +1,2 @@
+wrong:
+    @echo wrong

@@ -1,0 +1,2 @@
+import 'third.just'
+mod m

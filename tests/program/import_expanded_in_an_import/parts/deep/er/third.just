@@ -1,0 +1,2 @@
+third:
+    @echo third

@@ -1,0 +1,1 @@
+import x'${NO_SUCH_NAME:-deep/er}/second.just'

@@ -1,0 +1,2 @@
+import? 'missing.just'
+import 'third.just'

@@ -1,0 +1,1 @@
+import '../others/deep/second.just'

@@ -1,0 +1,2 @@
+inner:
+    @echo inner

@@ -1,0 +1,2 @@
+more:
+    @echo more
