@@ -43,12 +43,12 @@ fn name(alloc: Global) -> Result<Name<'static>> {
 }
 
 /// A frame with an empty value at each number.
-fn frame<'outer>(
+fn frame<'outer, 'src>(
     alloc: Global,
-    outer: &'outer Scope<'outer, 'static>,
-    name: Name<'static>,
+    outer: &'outer Scope<'_, 'src>,
+    name: Name<'src>,
     numbers: &[Number],
-) -> Result<Scope<'outer, 'static>, AllocError> {
+) -> Result<Scope<'outer, 'src>, AllocError> {
     let mut scope = outer.child(alloc)?;
     for number in numbers {
         scope.bind_value(name, *number, false, Value::new(alloc))?;
@@ -56,21 +56,32 @@ fn frame<'outer>(
     Ok(scope)
 }
 
-/// Makes so many frames of so many bindings, and counts the bindings.
-pub(crate) fn bind_all(alloc: Global, bindings: u32, frames: u32) -> Result<u64> {
-    let name = name(alloc)?;
-    let numbers = numbers(alloc, bindings)?;
-    let root = Scope::root(alloc)?;
+/// Makes so many frames with a binding at each number, and counts the bindings.
+fn bind_each<'src>(
+    alloc: Global,
+    root: &Scope<'_, 'src>,
+    name: Name<'src>,
+    numbers: &[Number],
+    frames: u32,
+) -> Result<u64, AllocError> {
     let mut scopes = Vec::new(alloc);
     let mut sum: u64 = 0;
     for _ in 0..frames {
-        let scope = frame(alloc, &root, name, &numbers)?;
+        let scope = frame(alloc, root, name, numbers)?;
         for _ in scope.bindings() {
             sum = sum.wrapping_add(1);
         }
         scopes.push(scope)?;
     }
     Ok(sum)
+}
+
+/// Makes so many frames of so many bindings, and counts the bindings.
+pub(crate) fn bind_all(alloc: Global, bindings: u32, frames: u32) -> Result<u64> {
+    let name = name(alloc)?;
+    let numbers = numbers(alloc, bindings)?;
+    let root = Scope::root(alloc)?;
+    Ok(bind_each(alloc, &root, name, &numbers, frames)?)
 }
 
 /// A table with a number at each key.
