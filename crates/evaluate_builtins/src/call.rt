@@ -1,5 +1,16 @@
 //! Calls of built-in functions.
+ghost use Rattle.std.specs.Prelude.{◌≡◌, List, ℕ, map};
+ghost use Rattle.evaluate_builtins.specs.Builtins.{environment_dialogue};
+ghost use Rattle.evaluate_builtins.specs.Named as spec;
+ghost use Rattle.evaluate_builtins.specs.Requests as requests;
+ghost use Rattle.evaluate_builtins.specs.Requests.{LeadsAny, asked_of, requested};
+ghost use Rattle.evaluate_builtins.specs.Sites.{called, standing_of};
+ghost use Rattle.evaluate_context.specs.Environment as surrounding;
+ghost use Rattle.evaluate_context.specs.Refusals.{seen};
+ghost use Rattle.evaluate_context.specs.Surroundings.{surroundings_of};
 ghost use Rattle.just_host.specs.Asking.{Asks};
+ghost use Rattle.just_text.specs.Tokens.{lexeme};
+ghost use Rattle.meaning_dialogues.specs.Dialogue.{Evaluates, Reading};
 
 use crate::files;
 use crate::machine::{fact_answer, fact_of, folder_answer, folder_of};
@@ -25,6 +36,7 @@ pub fn call_builtin<'src, H: Host + Drop>(
     arguments: &[Value],
 ) -> Result<Value, Error<'src>>
     ensures asks { Asks H.goes host.old host.new }
+    ensures evaluates { (reading : Reading) → Evaluates reading (called site.now function arguments.now) host.old.entries host.new.entries (seen result) }
 {
     let lists = site.context.module.settings.lists;
     if let Some(answer) = pure_answer(alloc, lists, function, arguments) {
@@ -48,10 +60,9 @@ fn unanswered<'src>(alloc: Global) -> Error<'src> {
 }
 
 /// The answer, with the function's name beside its refusal.
-fn named<'src>(
-    name: Name<'src>,
-    answer: Result<Value, FunctionFault>,
-) -> Result<Value, Error<'src>> {
+fn named<'src>(name: Name<'src>, answer: Result<Value, FunctionFault>) -> Result<Value, Error<'src>>
+    ensures { seen result ≡ spec.named (lexeme name.entry.token) answer }
+{
     match answer {
         Ok(value) => Ok(value),
         Err(FunctionFault::Message(message)) => Err(Error::FunctionCall { name, message }),
@@ -72,7 +83,9 @@ enum Request {
 }
 
 /// What the function asks the host, beside facts of the machine; none where it asks nothing else.
-fn request_of(function: Function) -> Option<Request> {
+fn request_of(function: Function) -> Option<Request>
+    ensures { result ≡ requests.request_of function }
+{
     match function {
         Function::Canonicalize => Some(Request::CanonicalPath),
         Function::Env | Function::EnvVar | Function::EnvVarOrDefault => Some(Request::Variable),
@@ -147,6 +160,7 @@ fn asked_answer<H: Host + Drop>(
     arguments: &[Value],
 ) -> Option<Result<Value, FunctionFault>>
     ensures asks { Asks H.goes host.old host.new }
+    ensures leads { (name : List ℕ) (reading : Reading) → LeadsAny name reading (asked_of (surroundings_of site.now.context.now) (standing_of site.now) name function arguments.now) host.old.entries host.new.entries result }
 {
     if let Some((folder, words)) = folder_of(function) {
         return Some(folder_answer(alloc, host, folder, words));
@@ -169,6 +183,7 @@ fn answered<H: Host + Drop>(
     arguments: &[Value],
 ) -> Result<Value, FunctionFault>
     ensures asks { Asks H.goes host.old host.new }
+    ensures evaluates { (name : List ℕ) (reading : Reading) → Evaluates reading (requested (surroundings_of site.now.context.now) (standing_of site.now) name request arguments.now) host.old.entries host.new.entries (spec.named name result) }
 {
     let context = site.context;
     let text = text_at(arguments, 0);
@@ -191,10 +206,12 @@ fn environment<H: Host + Drop>(
     arguments: &[Value],
 ) -> Result<Value, FunctionFault>
     ensures asks { Asks H.goes host.old host.new }
+    ensures evaluates { (name : List ℕ) (reading : Reading) → Evaluates reading (environment_dialogue name (map surrounding.variable site.now.context.now.dotenv.now.entries) arguments.now) host.old.entries host.new.entries (spec.named name result) }
 {
     let dotenv = site.context.dotenv;
-    match arguments.split_first() {
-        Some((names, others)) => variable(alloc, host, dotenv, names, others.first()),
-        None => Ok(Value::new(alloc)),
+    match arguments {
+        [] => Ok(Value::new(alloc)),
+        [names] => variable(alloc, host, dotenv, names, None),
+        [names, default, ..] => variable(alloc, host, dotenv, names, Some(default)),
     }
 }

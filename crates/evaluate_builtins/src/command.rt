@@ -1,9 +1,14 @@
 //! Commands that a shell runs.
-ghost use Rattle.std.specs.Prelude.{◌≡◌, ◌∷◌, IfOk, map, option_map};
+ghost use Rattle.std.specs.Prelude.{◌≡◌, ◌∷◌, ◌⊎◌, Err, IfOk, None, false, map, option_map};
 ghost use Rattle.std.specs.String.{string_bytes};
+ghost use Rattle.evaluate_builtins.specs.Commands.{command_question, printed_in, trimmed};
 ghost use Rattle.evaluate_context.specs.Environments.{IsEnvironmentIn};
 ghost use Rattle.evaluate_context.specs.Shells.{shell_words};
+ghost use Rattle.evaluate_context.specs.Surroundings.{job_of, standing_in, surroundings_of};
 ghost use Rattle.just_host.specs.Asking.{Asks};
+ghost use Rattle.just_host.specs.declared.host.HostFault.TheVariants.{Memory};
+ghost use Rattle.meaning_dialogues.specs.Answers as answers;
+ghost use Rattle.meaning_dialogues.specs.Answers.{IsAnswered};
 
 use crate::asked::ask_text;
 use evaluate_context::{ExecutionContext, JobEnvironment};
@@ -67,7 +72,9 @@ fn expression_job(
     scope: &Scope,
     command: &str,
     positional: &[String],
-) -> Result<CommandJob, AllocError> {
+) -> Result<CommandJob, AllocError>
+    ensures { IfOk result (λ job. job ≡ job_of (surroundings_of context.now) (standing_in context.now env.now scope.now false None) command.now (map string_bytes positional.now)) }
+{
     let folder = context.working_directory(alloc)?;
     let folder = Some(folder.as_str());
     let template = job_template(alloc, context, env, scope, folder, positional)?;
@@ -75,10 +82,12 @@ fn expression_job(
 }
 
 /// The text without one line end at its end.
-fn without_line_end(text: &str) -> &str {
-    match text.strip_suffix('\n') {
-        Some(line) => line.strip_suffix('\r').unwrap_or(line),
-        None => text,
+fn without_line_end(text: &str) -> &str
+    ensures { result.now ≡ answers.without_line_end text.now }
+{
+    match text.strip_suffix("\r\n") {
+        Some(line) => line,
+        None => text.strip_suffix("\n").unwrap_or(text),
     }
 }
 
@@ -86,7 +95,9 @@ fn without_line_end(text: &str) -> &str {
 fn printed(
     alloc: Global,
     answer: Result<Text, HostFault>,
-) -> Result<Result<Text, HostFault>, AllocError> {
+) -> Result<Result<Text, HostFault>, AllocError>
+    ensures { IfOk result (λ text. text ≡ trimmed answer) }
+{
     match answer {
         Ok(text) => Ok(Ok(Text::from_text(alloc, without_line_end(text.as_str()))?)),
         Err(fault) => Ok(Err(fault)),
@@ -105,6 +116,7 @@ pub fn command_output<H: Host + Drop>(
     positional: &[String],
 ) -> Result<Result<Text, HostFault>, AllocError>
     ensures asks { Asks H.goes host.old host.new }
+    ensures answered { IfOk result (IsAnswered (command_question context.now env.now scope.now command.now (map string_bytes positional.now)) printed_in host.old.entries host.new.entries) }
 {
     let job = expression_job(alloc, context, env, scope, command, positional)?;
     let answer = ask_text(alloc, host, &Question::Command(job))?;
@@ -123,6 +135,7 @@ pub fn run_command<H: Host + Drop>(
     positional: &[String],
 ) -> Result<Text, HostFault>
     ensures asks { Asks H.goes host.old host.new }
+    ensures answered { (result ≡ Err Memory) ⊎ IsAnswered (command_question context.now env.now scope.now command.now (map string_bytes positional.now)) printed_in host.old.entries host.new.entries result }
 {
     match command_output(alloc, host, context, env, scope, command, positional) {
         Ok(told) => told,

@@ -1,11 +1,17 @@
 //! Facts of the machine.
-ghost use Rattle.std.specs.Prelude.{◌≡◌, option_map};
+ghost use Rattle.std.specs.Prelude.{◌≡◌, ◌++◌, Err, List, codes, option_map, ℕ};
+ghost use Rattle.evaluate_builtins.specs.Builtins.{machine_fact, machine_folder, optional_told};
 ghost use Rattle.evaluate_builtins.specs.Facts as spec;
+ghost use Rattle.evaluate_builtins.specs.Named.{IsNamed, named};
+ghost use Rattle.evaluate_functions.specs.Functions.{Answers};
 ghost use Rattle.just_host.specs.Asking.{Asks};
+ghost use Rattle.meaning_dialogues.specs.Dialogue.{Evaluates, Reading};
+ghost use Rattle.meaning_dialogues.specs.Faults.{function_failed};
 
-use crate::asked::{ask_optional, ask_text, fault_behind, says, text_value};
+use crate::asked::{ask_optional, ask_text, fault_behind, says, text_answer, text_value};
 use evaluate_functions::{Function, FunctionFault};
-use just_host::{Host, MachineFact, Question, Recorded};
+use just_host::{Host, HostFault, MachineFact, Question, Recorded};
+use just_text::Text;
 use just_value::Value;
 use std::alloc::Global;
 
@@ -46,10 +52,30 @@ pub(crate) fn folder_answer<H: Host + Drop>(
     words: &str,
 ) -> Result<Value, FunctionFault>
     ensures asks { Asks H.goes host.old host.new }
+    ensures evaluates { (name : List ℕ) (reading : Reading) → Evaluates reading (machine_folder name fact words.now) host.old.entries host.new.entries (named name result) }
 {
-    match ask_optional(alloc, host, &Question::Fact(fact))? {
+    let answer = ask_optional(alloc, host, &Question::Fact(fact))?;
+    found_folder(alloc, words, answer)
+}
+
+fn missing(alloc: Global, words: &str) -> FunctionFault
+    ensures { Answers (Err (words.now ++ codes " directory not found")) (Err result) }
+{
+    says(format!(in alloc; "{words} directory not found"))
+}
+
+/// The folder that was found; refused with these words where there is none.
+#[tactic(auto, using(crate::proofs::Named::value_named, crate::proofs::Named::refusal_named))]
+fn found_folder(
+    alloc: Global,
+    words: &str,
+    answer: Result<Option<Text>, HostFault>,
+) -> Result<Value, FunctionFault>
+    ensures { (name : List ℕ) → IsNamed name result (optional_told name (Err (function_failed name (words.now ++ codes " directory not found"))) answer) }
+{
+    match answer {
         Ok(Some(folder)) => text_value(alloc, folder),
-        Ok(None) => Err(says(format!(in alloc; "{words} directory not found"))),
+        Ok(None) => Err(missing(alloc, words)),
         Err(fault) => Err(fault_behind(alloc, "", &fault)),
     }
 }
@@ -61,9 +87,8 @@ pub(crate) fn fact_answer<H: Host + Drop>(
     fact: MachineFact,
 ) -> Result<Value, FunctionFault>
     ensures asks { Asks H.goes host.old host.new }
+    ensures evaluates { (name : List ℕ) (reading : Reading) → Evaluates reading (machine_fact name fact) host.old.entries host.new.entries (named name result) }
 {
-    match ask_text(alloc, host, &Question::Fact(fact))? {
-        Ok(text) => text_value(alloc, text),
-        Err(fault) => Err(fault_behind(alloc, "", &fault)),
-    }
+    let answer = ask_text(alloc, host, &Question::Fact(fact))?;
+    text_answer(alloc, answer)
 }

@@ -1,6 +1,17 @@
 //! Where a built-in function is called, and what follows from that alone.
-ghost use Rattle.std.specs.Prelude.{◌≡◌};
+ghost use Rattle.std.specs.Prelude.{◌≡◌, ◌∷◌, [], Err, IfOk, List, None, Ok, ℕ, option_map};
+ghost use Rattle.evaluate_builtins.specs.Builtins.{number_told, recipe_told};
 ghost use Rattle.evaluate_builtins.specs.Facts as spec;
+ghost use Rattle.evaluate_builtins.specs.Places as places;
+ghost use Rattle.evaluate_builtins.specs.Places.{IsSaid, SaidAny, path_said, said_at, said_of};
+ghost use Rattle.evaluate_builtins.specs.Sites.{standing_of};
+ghost use Rattle.evaluate_context.specs.Surroundings.{surroundings_of};
+ghost use Rattle.evaluate_functions.specs.Values.{boolean as boolean_of};
+ghost use Rattle.just_text.specs.Names.{joined_names};
+ghost use Rattle.just_text.specs.Tokens.{lexeme};
+ghost use Rattle.just_value.specs.Paths.{join};
+ghost use Rattle.modules_compilation.specs.Modulepaths.{path_in};
+ghost use Rattle.semver.specs.Identifiers.{version_text};
 
 use evaluate_context::{Error, ExecutionContext, ModuleView};
 use evaluate_functions::values::boolean;
@@ -48,6 +59,7 @@ impl<'a, 'src> CallSite<'a, 'src> {
     fn file(&self, function: Function) -> Option<&'a str>
     where
         'src: 'a,
+        ensures { option_map (λ key. key.now) result ≡ places.file_of (surroundings_of self.now.context.now) self.now.name.token.path.now function }
     {
         match function {
             Function::Justfile | Function::JustfileDirectory => Some(self.context.root),
@@ -58,7 +70,9 @@ impl<'a, 'src> CallSite<'a, 'src> {
     }
 
     /// The text that the function tells; none where it is no such function.
-    fn text(&self, function: Function) -> Option<&'a str> {
+    fn text(&self, function: Function) -> Option<&'a str>
+        ensures { option_map (λ text. text.now) result ≡ places.text_of (surroundings_of self.now.context.now) function }
+    {
         let config = self.context.config;
         match function {
             Function::Arch => Some(config.arch.as_str()),
@@ -88,13 +102,15 @@ fn file_answer<'src>(
     base: &str,
     file: &str,
     is_folder: bool,
-) -> Result<Value, Error<'src>> {
+) -> Result<Value, Error<'src>>
+    ensures { IsSaid (path_said is_folder (join base.now file.now)) result }
+{
     let path = path::join(alloc, base, file)?;
     if !is_folder {
-        return Ok(Value::from_string(alloc, path)?);
+        return unless_memory(Value::from_string(alloc, path));
     }
     match paths::parent(path.as_str()) {
-        Some(folder) => Ok(Value::from_text(alloc, folder)?),
+        Some(folder) => unless_memory(Value::from_text(alloc, folder)),
         None => Err(Error::NoParent(Text::from_string(path))),
     }
 }
@@ -104,7 +120,9 @@ fn told<'src>(
     alloc: Global,
     site: &CallSite<'_, 'src>,
     function: Function,
-) -> Option<Result<Value, Error<'src>>> {
+) -> Option<Result<Value, Error<'src>>>
+    ensures { SaidAny (said_of (surroundings_of site.now.context.now) (standing_of site.now) (lexeme site.now.name.token) function) result }
+{
     match function {
         Function::IsDependency => Some(truth(alloc, site)),
         Function::JustVersion => Some(version(alloc, site.context.config)),
@@ -115,41 +133,53 @@ fn told<'src>(
     }
 }
 
-fn truth<'src>(alloc: Global, site: &CallSite<'_, 'src>) -> Result<Value, Error<'src>> {
+fn truth<'src>(alloc: Global, site: &CallSite<'_, 'src>) -> Result<Value, Error<'src>>
+    ensures { IsSaid (Ok (boolean_of site.now.context.now.module.now.settings.now.lists site.now.is_dependency)) result }
+{
     let lists = site.context.module.settings.lists;
-    Ok(boolean(alloc, lists, site.is_dependency)?)
+    unless_memory(boolean(alloc, lists, site.is_dependency))
 }
 
-fn version<'src>(alloc: Global, config: &Config) -> Result<Value, Error<'src>> {
+fn version<'src>(alloc: Global, config: &Config) -> Result<Value, Error<'src>>
+    ensures { IsSaid (Ok (version_text config.now.version ∷ [])) result }
+{
     let version = &config.version;
     let text = format!(in alloc; "{version}")?;
-    Ok(Value::from_string(alloc, text)?)
+    unless_memory(Value::from_string(alloc, text))
 }
 
 /// The names of the modules from the root to this one with `::` between two.
-fn module_path<'src>(alloc: Global, module: &ModuleView<'_, 'src>) -> Result<Value, Error<'src>> {
+fn module_path<'src>(alloc: Global, module: &ModuleView<'_, 'src>) -> Result<Value, Error<'src>>
+    ensures { IsSaid (Ok (joined_names (path_in «module».now.modules.now «module».now.place) ∷ [])) result }
+{
     let path = Modulepath::of_module(alloc, module.modules, module.place)?;
     let text = format!(in alloc; "{path}")?;
-    Ok(Value::from_string(alloc, text)?)
+    unless_memory(Value::from_string(alloc, text))
 }
 
 /// The number in decimal; the empty list where there is none.
-fn jobs<'src>(alloc: Global, jobs: Option<u32>) -> Result<Value, Error<'src>> {
+fn jobs<'src>(alloc: Global, jobs: Option<u32>) -> Result<Value, Error<'src>>
+    ensures { IsSaid (Ok (number_told jobs)) result }
+{
     let Some(jobs) = jobs else {
         return Ok(Value::new(alloc));
     };
     let text = format!(in alloc; "{jobs}")?;
-    Ok(Value::from_string(alloc, text)?)
+    unless_memory(Value::from_string(alloc, text))
 }
 
-fn recipe_name<'src>(alloc: Global, site: &CallSite<'_, 'src>) -> Result<Value, Error<'src>> {
+fn recipe_name<'src>(alloc: Global, site: &CallSite<'_, 'src>) -> Result<Value, Error<'src>>
+    ensures { IsSaid (recipe_told (lexeme site.now.name.token) (option_map (λ name. lexeme name.token) site.now.recipe)) result }
+{
     match site.recipe {
-        Some(recipe) => Ok(Value::from_text(alloc, recipe.lexeme())?),
+        Some(recipe) => unless_memory(Value::from_text(alloc, recipe.lexeme())),
         None => Err(no_recipe(alloc, site.name)),
     }
 }
 
-fn no_recipe(alloc: Global, name: Name) -> Error {
+fn no_recipe(alloc: Global, name: Name) -> Error
+    ensures { IsSaid (recipe_told (lexeme name.entry.token) None) (Err result) }
+{
     match Text::from_text(alloc, "`recipe_name()` can only be used within a recipe") {
         Ok(message) => Error::FunctionCall { name, message },
         Err(_) => Error::OutOfMemory,
@@ -161,7 +191,9 @@ pub(crate) fn site_answer<'src>(
     alloc: Global,
     site: &CallSite<'_, 'src>,
     function: Function,
-) -> Option<Result<Value, Error<'src>>> {
+) -> Option<Result<Value, Error<'src>>>
+    ensures { SaidAny (said_at (surroundings_of site.now.context.now) (standing_of site.now) (lexeme site.now.name.token) site.now.name.token.path.now function) result }
+{
     if let Some(file) = site.file(function) {
         let base = site.context.config.base.as_str();
         return Some(file_answer(alloc, base, file, is_folder(function)));
@@ -172,6 +204,13 @@ pub(crate) fn site_answer<'src>(
     told(alloc, site, function)
 }
 
-fn unless_memory<'src>(answer: Result<Value, AllocError>) -> Result<Value, Error<'src>> {
-    Ok(answer?)
+/// The answer, where only memory can refuse it.
+#[tactic(auto, using(crate::proofs::Places::value_said, crate::proofs::Places::memory_said))]
+fn unless_memory<'src>(answer: Result<Value, AllocError>) -> Result<Value, Error<'src>>
+    ensures { (value : List (List ℕ)) → IfOk answer (λ v. v ≡ value) → IsSaid (Ok value) result }
+{
+    match answer {
+        Ok(value) => Ok(value),
+        Err(_) => Err(Error::OutOfMemory),
+    }
 }

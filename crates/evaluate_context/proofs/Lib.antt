@@ -1,2 +1,4 @@
+pub mod Environments
+pub mod FirstNamed
 pub mod LastValues
 pub mod FramePairs

@@ -1,9 +1,10 @@
 //! What an evaluation in a module rests on.
-ghost use Rattle.std.specs.Prelude.{◌≡◌, All, Contains, IfNone, IfOk, IfSome, if◌then◌else◌, map};
+ghost use Rattle.std.specs.Prelude.{◌≡◌, All, Contains, IfNone, IfOk, IfSome, if◌then◌else◌, map, option_map};
 ghost use Rattle.std.specs.String.{string_bytes};
 ghost use Rattle.just_text.specs.Tokens.{lexeme};
 ghost use Rattle.evaluate_context.specs.Environments.{IsEnvironmentIn};
 ghost use Rattle.evaluate_context.specs.Folders.{folder_below};
+ghost use Rattle.evaluate_context.specs.Functions.{first_named};
 
 use crate::environment::JobEnvironment;
 use crate::settings::Settings;
@@ -72,6 +73,7 @@ pub fn find_function<'a, 'src>(
 ) -> Option<&'a FunctionDefinition<'src>>
     ensures among { IfSome result (λ f. Contains (map (λ f. f.definition.now) functions.now) f.now) }
     ensures named { IfSome result (λ f. lexeme f.now.name.token ≡ name.now) }
+    ensures first { option_map (λ f. f.now) result ≡ first_named name.now functions.now }
     ensures none { IfNone result (All (λ f. ¬ (lexeme f.definition.now.name.token ≡ name.now)) functions.now) }
 {
     for function in functions {
@@ -101,8 +103,8 @@ impl<'run, 'src> ExecutionContext<'run, 'src> {
 
     /// The environment of commands: what the files of variables gave for the module, then the
     /// exported bindings of the frames around the scope's innermost one, outermost first, without
-    /// the names that are not exported, then these pairs; the last value of a name counts. Refused
-    /// only where memory is.
+    /// the names that are not exported, then these pairs; the last value of a name counts, and names
+    /// stand in byte order.
     pub fn job_environment(
         &self,
         alloc: Global,

@@ -64,6 +64,11 @@ impl<'src, T: Drop> From<AllocFailed<T>> for Error<'src> {
 }
 
 impl<'src> From<ValueFault<'src>> for Error<'src> {
+    ghost use Rattle.std.specs.Prelude.{◌≡◌};
+    ghost use Rattle.evaluate_context.specs.Refusals.{error_of};
+
+    ghost from_gives = { λ fault e. e ≡ error_of fault };
+
     fn from(fault: ValueFault<'src>) -> Error<'src> {
         match fault {
             ValueFault::OutOfMemory => Error::OutOfMemory,

@@ -8,7 +8,7 @@ use Rattle.just_host.specs.declared.job.CommandJob.{CommandJob}
 use Rattle.tree_items.specs.Lines.{no_sigils}
 use Rattle.just_value.specs.Values.{joined, value_text}
 use Rattle.meaning_dialogues.specs.Evaluation.{Value}
-use Rattle.meaning_stages.specs.Surroundings.{by_name, given, removed}
+use Rattle.evaluate_context.specs.Surroundings.{by_name, given, removed}
 use Rattle.meaning_runs.specs.Failures.{Failure, next_by}
 use Rattle.meaning_calls.specs.Named.{VariableName, VariableRow, ModuleRow, Modules, no_module, a_module, Definitions, paths_of}
 use Rattle.modules_compilation.specs.Modulepaths.{pieces}

@@ -11,7 +11,7 @@ use Rattle.meaning_dialogues.specs.Dialogue.{Dialogue, Lookup, Variable, around}
 use Rattle.meaning_dialogues.specs.Evaluation.{Value}
 use Rattle.meaning_dialogues.specs.Meaning.{Meaning, variable_meaning}
 use Rattle.meaning_stages.specs.Parameters.{Bound}
-use Rattle.meaning_stages.specs.Surroundings.{by_name}
+use Rattle.evaluate_context.specs.Surroundings.{by_name}
 use Rattle.meaning_runs.specs.Failures.{Failure}
 use Rattle.meaning_calls.specs.Named.{RecipeName, VariableName, Call, ModuleRow, Definitions, same_call}
 use Rattle.meaning_calls.specs.Scopes.{Configuration}

@@ -11,7 +11,7 @@ use Rattle.meaning_dialogues.specs.Faults.{Fault}
 use Rattle.meaning_dialogues.specs.Dialogue.{Dialogue, Ends, DialogueGoes, Variable, Reading}
 use Rattle.meaning_dialogues.specs.Terms.{Term}
 use Rattle.meaning_dialogues.specs.Evaluation.{Value, dialogue}
-use Rattle.meaning_stages.specs.Surroundings.{Standing}
+use Rattle.evaluate_context.specs.Surroundings.{Standing}
 use Rattle.meaning_stages.specs.Stages.{run_stage, calls_allowed}
 use Rattle.meaning_dialogues.specs.Calls.{unreadable}
 use Rattle.meaning_calls.specs.Named.{RecipeName, VariableName, RecipeRow, VariableRow, ModuleRow, Definitions}

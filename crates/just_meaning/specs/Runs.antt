@@ -6,7 +6,7 @@ use Rattle.just_host.specs.declared.entry.Entry.{Entry}
 use Rattle.just_host.specs.declared.job.Pair.{Pair}
 use Rattle.meaning_dialogues.specs.Dialogue.{Reading}
 use Rattle.meaning_stages.specs.Parameters.{Bound}
-use Rattle.meaning_stages.specs.Surroundings.{by_name}
+use Rattle.evaluate_context.specs.Surroundings.{by_name}
 use Rattle.meaning_runs.specs.Failures.{Failure}
 use Rattle.meaning_calls.specs.Named.{RecipeName, Call, Definitions, paths_of}
 use Rattle.just_meaning.specs.Menus.{menu_of}

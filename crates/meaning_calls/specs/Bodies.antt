@@ -14,7 +14,7 @@ use Rattle.meaning_dialogues.specs.Dialogue.{Dialogue, Ends, ◌>>=◌}
 use Rattle.meaning_dialogues.specs.Evaluation.{interpreter_dialogue}
 use Rattle.meaning_stages.specs.Lines.{line_dialogue}
 use Rattle.meaning_stages.specs.Parameters.{Bound, under}
-use Rattle.meaning_stages.specs.Surroundings.{by_name, given, removed, job_in}
+use Rattle.evaluate_context.specs.Surroundings.{by_name, given, removed, job_in}
 use Rattle.meaning_calls.specs.Named.{RecipeRow}
 use Rattle.meaning_calls.specs.Scopes.{piece_in, Configuration, Scene, parameter_names, around, body_standing, body_stage, frame_of, formals, positional_of, valued}
 use Rattle.meaning_dialogues.specs.Written.{numbered}

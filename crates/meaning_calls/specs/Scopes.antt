@@ -16,7 +16,7 @@ use Rattle.meaning_dialogues.specs.Dialogue.{Dialogue, ◌>>=◌}
 use Rattle.meaning_dialogues.specs.Evaluation.{Value, Stage, dialogue}
 use Rattle.meaning_dialogues.specs.Terms.{Term}
 use Rattle.meaning_stages.specs.Lines.{TermPiece as TermPiece, text, interpolation}
-use Rattle.meaning_stages.specs.Surroundings.{Surroundings, Standing}
+use Rattle.evaluate_context.specs.Surroundings.{Surroundings, Standing, sorted_names}
 use Rattle.meaning_dialogues.specs.Calls.{DefinedFunction, Frame, empty, with_parameters}
 use Rattle.meaning_stages.specs.Stages.{run_stage, calls_allowed}
 use Rattle.meaning_stages.specs.Parameters.{Formal, Bound, is_star, under, bound_value, positional_words, bound_dialogue}
@@ -78,7 +78,7 @@ surroundings_in c scene = record {
   root = c.root;
   source = scene.row.source;
   shell = shell_words c.shell c.shell_args scene.row.shell;
-  unexports = scene.row.unexports;
+  unexports = sorted_names scene.row.unexports;
   version = c.version;
 }
 

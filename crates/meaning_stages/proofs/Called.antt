@@ -8,7 +8,7 @@ use Rattle.meaning_dialogues.specs.Dialogue.{Dialogue, Ends, Asks, Reads, Dialog
 use Rattle.meaning_dialogues.specs.Evaluation.{Value, row, dialogue}
 use Rattle.meaning_dialogues.specs.Calls.{Frame, DefinedFunction, HasValues, empty, with_parameters, in_frame, inside, or_read, value_found, reading_in_frames, call_defined}
 use Rattle.meaning_stages.specs.Stages.{calls_left, run_stage}
-use Rattle.meaning_stages.specs.Surroundings.{Surroundings, Standing}
+use Rattle.evaluate_context.specs.Surroundings.{Surroundings, Standing}
 use Rattle.meaning_dialogues.proofs.Dialogues.{then_goes, then_stops, weaker}
 
 abbrev from_own : Option Value → Result Value Fault → Result Value Fault

@@ -8,7 +8,7 @@ use Rattle.meaning_dialogues.specs.Dialogue.{Dialogue, Lookup, around, in_module
 use Rattle.meaning_dialogues.specs.Evaluation.{Value, dialogue, row}
 use Rattle.meaning_dialogues.specs.Calls.{DefinedFunction, Frame, call_defined, function_named, empty, bound, with_parameters, in_frame}
 use Rattle.meaning_stages.specs.Stages.{call_named, run_stage, calls_left}
-use Rattle.meaning_stages.specs.Surroundings.{Surroundings, Standing}
+use Rattle.evaluate_context.specs.Surroundings.{Surroundings, Standing}
 use Rattle.meaning_dialogues.proofs.Soundness.{Sound, Any, AllSound, then_sound, row_sound, Each, sound, inside_sound}
 use Rattle.meaning_stages.proofs.Tables.{command_sound, call_builtin_sound}
 

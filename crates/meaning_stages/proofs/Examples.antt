@@ -11,7 +11,7 @@ use Rattle.meaning_dialogues.specs.Terms.{Term, command, literal, call, end, mor
 use Rattle.meaning_dialogues.specs.Evaluation.{Stage, dialogue}
 use Rattle.meaning_dialogues.specs.Calls.{DefinedFunction}
 use Rattle.meaning_dialogues.specs.Meaning.{meaning}
-use Rattle.meaning_stages.specs.Surroundings.{Surroundings, Standing}
+use Rattle.evaluate_context.specs.Surroundings.{Surroundings, Standing}
 use Rattle.meaning_stages.specs.Stages.{run_stage, calls_allowed}
 use Rattle.meaning_stages.specs.Parameters.{Formal, bound_dialogue}
 

@@ -1,5 +1,4 @@
 pub mod Called
 pub mod Tables
 pub mod Depth
-pub mod Environments
 pub mod Examples

@@ -13,9 +13,9 @@ use Rattle.meaning_dialogues.specs.Evaluation.{Value}
 use Rattle.meaning_dialogues.specs.Answers.{optional_in}
 use Rattle.evaluate_functions.specs.Functions.{pure, text_at}
 use Rattle.meaning_dialogues.specs.Calls.{arguments}
-use Rattle.meaning_stages.specs.Builtins.{builtin, determined, told_folder, told_by, sited, exists_dialogue, shell_dialogue, environment_dialogue, first_variable, looked_up, in_files}
+use Rattle.evaluate_builtins.specs.Builtins.{builtin, determined, told_folder, told_by, sited, exists_dialogue, shell_dialogue, environment_dialogue, first_variable, looked_up, in_files}
 use Rattle.meaning_stages.specs.Stages.{call_builtin, command_dialogue}
-use Rattle.meaning_stages.specs.Surroundings.{Surroundings, Standing}
+use Rattle.evaluate_context.specs.Surroundings.{Surroundings, Standing}
 use Rattle.meaning_dialogues.proofs.Soundness.{Sound, Any, AllSound, then_sound, arguments_sound, ends_sound}
 
 module _ (P : Lookup → Variable → Type 0) where

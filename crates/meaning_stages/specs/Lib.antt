@@ -1,6 +1,3 @@
-pub mod Refusals
-pub mod Surroundings
-pub mod Builtins
 pub mod Stages
 pub mod Lines
 pub mod Parameters

@@ -13,7 +13,7 @@ use Rattle.meaning_dialogues.specs.Faults.{Fault, env_key, empty_argument, value
 use Rattle.meaning_dialogues.specs.Dialogue.{Dialogue, Ends, Asks, Reads, ◌>>=◌, around, in_module, Variable}
 use Rattle.meaning_dialogues.specs.Terms.{Term, term_of}
 use Rattle.meaning_dialogues.specs.Evaluation.{Value, Stage, dialogue, text_dialogue}
-use Rattle.meaning_stages.specs.Surroundings.{by_name}
+use Rattle.evaluate_context.specs.Surroundings.{by_name}
 use Rattle.meaning_dialogues.specs.Calls.{Frame, empty, bound, in_frame}
 
 -- a parameter of a recipe

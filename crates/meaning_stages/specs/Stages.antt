@@ -11,10 +11,10 @@ use Rattle.meaning_dialogues.specs.Faults.{internal}
 use Rattle.meaning_dialogues.specs.Dialogue.{Dialogue, Ends, Asks, ◌>>=◌}
 use Rattle.meaning_dialogues.specs.Terms.{term_of}
 use Rattle.meaning_dialogues.specs.Evaluation.{Value, Stage, dialogue, ticked}
-use Rattle.meaning_stages.specs.Surroundings.{Surroundings, Standing, job_of}
+use Rattle.evaluate_context.specs.Surroundings.{Surroundings, Standing, job_of}
 use Rattle.meaning_dialogues.specs.Answers.{text_in, output}
 use Rattle.meaning_dialogues.specs.Calls.{arguments, DefinedFunction, function_named, empty, with_parameters, inside, Calls, call_defined}
-use Rattle.meaning_stages.specs.Builtins.{builtin}
+use Rattle.evaluate_builtins.specs.Builtins.{builtin}
 
 abbrev pub defined_of : FunctionDefinition → DefinedFunction
 defined_of f = record { name = lexeme f.name.token; parameters = map (λ p. p.1) f.parameters.items; body = term_of f.body }

@@ -1,9 +1,17 @@
 -- Refusals of evaluation, seen without places.
 use Rattle.std.specs.Prelude.{Result, Ok, Err}
 use Rattle.just_text.specs.Tokens.{lexeme}
+use Rattle.just_value.specs.declared.fault.ValueFault.{ValueFault}
+use Rattle.just_value.specs.declared.fault.ValueFault.TheVariants.{OutOfMemory as MemoryOf, Const as ConstOf, Path as PathOf}
 use Rattle.evaluate_context.specs.declared.error.Error.{Error}
 use Rattle.evaluate_context.specs.declared.error.Error.TheVariants.{OutOfMemory, Const, Backtick, FunctionCall, RecursionLimit, EmptyListArgument, ValueCount, NoParent, Internal}
 use Rattle.meaning_dialogues.specs.Faults.{Fault, memory, const_fault, command_failed, function_failed, too_deep, empty_argument, value_count, no_parent, internal}
+
+-- the refusal for what a value is refused for
+abbrev pub error_of : ValueFault → Error
+error_of MemoryOf = OutOfMemory
+error_of (ConstOf error) = Const error
+error_of (PathOf text) = Internal text
 
 abbrev pub fault_of : Error → Fault
 fault_of OutOfMemory = memory

@@ -15,8 +15,11 @@ use Rattle.std.specs.Str.{bytes_eq}
 use Rattle.std.proofs.lemmas.Cmp.{eq_by_cmp_equiv, nat_list_cmp_total}
 use Rattle.std.proofs.lemmas.Map.Text.{is_eq-slice_cmp}
 use Rattle.just_host.specs.declared.job.Pair.{Pair}
-use Rattle.evaluate_context.specs.Environment.{IsEnvironment, last_of, pair_at}
-use Rattle.meaning_stages.specs.Surroundings.{entry_of, entries_by_name, by_name}
+use Rattle.just_value.specs.Frames.{Frames}
+use Rattle.evaluate_context.specs.Environment.{IsEnvironment, last_of, given_pairs, texts, pair_at}
+use Rattle.evaluate_context.specs.Environments.{IsEnvironmentIn}
+use Rattle.evaluate_context.specs.declared.context.ExecutionContext.{ExecutionContext}
+use Rattle.evaluate_context.specs.Surroundings.{entry_of, entries_by_name, by_name}
 
 abbrev order : List ℕ → List ℕ → Ordering
 order = slice_cmp nat_cmp
@@ -113,3 +116,8 @@ environment_by_name given pairs unexports removed h =
     = same_entries order nat_list_cmp_total (λ x y e. slice_cmp-IsAntisymmetric nat_cmp-IsAntisymmetric x y e) (map entry_of pairs) (entries_by_name [] given) (sorted_entries pairs h.sorted) (sorted_behind [] given tt)
     (λ q. sym (last_only q pairs h.sorted) ∙ (h.values q ∙ sym (found_behind q [] given ∙ or_none (last_of q given)))) in
     sym (back pairs) ∙ ap (map pair_at) same
+
+pub environment_in_context : (context : ExecutionContext) (env : List Pair) (frames : Frames) (pairs : List Pair) (removed : List (List ℕ))
+    → IsEnvironment (given_pairs context.dotenv.now.entries context.module.now.settings.now.export (texts context.module.now.unexports.now) env frames.outer) (texts context.module.now.unexports.now) pairs removed
+    → IsEnvironmentIn context env frames pairs removed
+environment_in_context context env frames pairs removed h = record { pairs_are = environment_by_name _ pairs _ removed h; removed_are = h.lacking }

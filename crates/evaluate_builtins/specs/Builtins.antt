@@ -17,9 +17,9 @@ use Rattle.evaluate_functions.specs.declared.function.Function.{Function}
 use Rattle.evaluate_functions.specs.declared.function.Function.TheVariants.{Arch, Canonicalize, InvocationDirectory, InvocationDirectoryNative, IsDependency, JustVersion, Justfile, JustfileDirectory, ModuleDirectory, ModuleFile, ModulePath, NumJobs, Os, OsFamily, PathExists, Read, RecipeName, Require, Shell, SourceDirectory, SourceFile, Which}
 use Rattle.evaluate_builtins.specs.Facts.{os_name, folder_of, fact_of}
 use Rattle.meaning_dialogues.specs.Faults.{Fault, function_failed, no_parent}
-use Rattle.meaning_dialogues.specs.Dialogue.{Dialogue, Ends, Asks, ◌>>=◌}
+use Rattle.meaning_dialogues.specs.Dialogue.{Dialogue, Ends, Asks}
 use Rattle.meaning_dialogues.specs.Evaluation.{Value, ticked}
-use Rattle.meaning_stages.specs.Surroundings.{Surroundings, Standing, job_of}
+use Rattle.evaluate_context.specs.Surroundings.{Surroundings, Standing, job_of}
 use Rattle.meaning_dialogues.specs.Answers.{text_in, optional_in, truth_in, without_line_end, faulted}
 use Rattle.evaluate_functions.specs.Functions.{first_text, text_at, pure}
 

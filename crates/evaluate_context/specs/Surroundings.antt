@@ -11,7 +11,9 @@ use Rattle.just_text.specs.declared.os.Os.{Os}
 use Rattle.modules_compilation.specs.Modulepaths.{path_in}
 use Rattle.just_host.specs.declared.job.Pair.{Pair}
 use Rattle.just_host.specs.declared.job.CommandJob.{CommandJob}
-use Rattle.just_value.specs.Frames.{BoundRow}
+use Rattle.just_text.specs.Tokens.{lexeme}
+use Rattle.just_text.specs.declared.name.Name.{Name}
+use Rattle.just_value.specs.Frames.{BoundRow, Frames}
 use Rattle.evaluate_context.specs.Environment.{last_of, without, frames_pairs, pair_at, variable, texts}
 use Rattle.evaluate_context.specs.Folders.{folder_below}
 use Rattle.evaluate_context.specs.Shells.{shell_words}
@@ -39,6 +41,7 @@ pub record Surroundings : Type 0 where
   pub source : List ℕ
   -- the words that commands stand after
   pub shell : List (List ℕ)
+  -- the names that are not exported, each once, in byte order
   pub unexports : List (List ℕ)
   pub version : List ℕ
 
@@ -75,6 +78,15 @@ surroundings_of context = record {
 abbrev pub exported_in : Bool → List (List BoundRow) → List Pair
 exported_in export frames = frames_pairs export frames
 
+-- in a module's frames, with these pairs of attributes: what the frames around the innermost one export is seen
+abbrev pub standing_in : ExecutionContext → List Pair → Frames → Bool → Option Name → Standing
+standing_in context env frames is_dependency recipe = record {
+  exported = exported_in context.module.now.settings.now.export frames.outer;
+  env = env;
+  is_dependency = is_dependency;
+  recipe = option_map (λ name. lexeme name.token) recipe;
+}
+
 abbrev pub entry_of : Pair → List ℕ × List ℕ
 entry_of pair = (pair.name, pair.value)
 
@@ -94,9 +106,9 @@ sorted_names names = map (λ entry. entry.0) (entries_by_name [] (map (λ name. 
 abbrev pub given : Surroundings → Standing → List Pair
 given around standing = without around.unexports (around.dotenv ++ standing.exported) ++ standing.env
 
--- the names that are not exported and have no pair, each once, in byte order
+-- the names that are not exported and have no pair
 abbrev pub removed : Surroundings → Standing → List (List ℕ)
-removed around standing = filter (λ name. not (is_some (last_of name (given around standing)))) (sorted_names around.unexports)
+removed around standing = filter (λ name. not (is_some (last_of name (given around standing)))) around.unexports
 
 -- the job of a command in a folder
 abbrev pub job_in : Surroundings → Standing → Option (List ℕ) → List ℕ → List (List ℕ) → CommandJob

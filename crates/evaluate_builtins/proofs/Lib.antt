@@ -1,0 +1,9 @@
+pub mod Calls
+pub mod Dotenv
+pub mod Environments
+pub mod Lines
+pub mod Named
+pub mod Places
+pub mod Shells
+pub mod Variables
+pub mod Words
