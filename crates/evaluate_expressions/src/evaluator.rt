@@ -1,5 +1,26 @@
 //! Values of expressions.
+ghost use Rattle.std.specs.Prelude.{◌≡◌, ◌≢◌, ◌-◌, [], false, Err, None};
+ghost use Rattle.std.specs.BTreeSet.{contains};
+ghost use Rattle.std.specs.Option.{option_map};
+ghost use Rattle.std.specs.Ordering.{nat_cmp};
+ghost use Rattle.std.specs.String.{string_bytes};
+ghost use Rattle.just_text.specs.Tokens.{lexeme};
+ghost use Rattle.tree_expressions.specs.Shape.{written};
+ghost use Rattle.evaluate_functions.specs.Arguments.{takes_text};
+ghost use Rattle.evaluate_functions.specs.Names.{function_of};
+ghost use Rattle.evaluate_context.specs.Refusals.{seen, seen_as};
+ghost use Rattle.evaluate_expressions.specs.Failures.{seen_above, seen_above_as};
+ghost use Rattle.evaluate_expressions.specs.Situations.{stage_at, reading_at, running_stage, is_non_const, defined_at, builtin_at, called_builtin, calls_in};
 ghost use Rattle.just_host.specs.Asking.{Asks};
+ghost use Rattle.meaning_dialogues.specs.Calls as calls;
+ghost use Rattle.meaning_dialogues.specs.Calls.{const_stage, function_named, read_in, reading_in_frames};
+ghost use Rattle.meaning_dialogues.specs.Dialogue.{Evaluates};
+ghost use Rattle.meaning_dialogues.specs.Evaluation as spec;
+ghost use Rattle.meaning_dialogues.specs.Evaluation.{dialogue, text_dialogue};
+ghost use Rattle.meaning_dialogues.specs.Faults.{memory, text_place};
+ghost use Rattle.meaning_dialogues.specs.Terms as terms;
+ghost use Rattle.meaning_dialogues.specs.Terms.{term_of, terms_of, holes_of};
+ghost use Rattle.meaning_stages.specs.Stages.{defined_of};
 
 use crate::failure::{Failure, boxed, unboxed};
 use crate::functions::parameter_scope;
@@ -63,7 +84,9 @@ struct Memory {
 const LEVELS: u32 = 4_096;
 
 /// How many calls of the justfile's functions may lie in each other.
-fn calls_allowed(config: &Config) -> u64 {
+fn calls_allowed(config: &Config) -> u64
+    ensures { result ≡ config.now.recursion_limit - 1 }
+{
     config.recursion_limit - 1
 }
 
@@ -76,7 +99,10 @@ impl<'run, 'src> Evaluator<'run, 'src> {
         is_dependency: bool,
         recipe: Option<Name<'src>>,
         scope: &'run Scope<'run, 'src>,
-    ) -> Evaluator<'run, 'src> {
+    ) -> Evaluator<'run, 'src>
+        ensures stage { stage_at result ≡ running_stage context.entry.now env.entry.now scope.entry.now context.entry.now.scope.now is_dependency recipe.entry }
+        ensures reading { reading_at result ≡ reading_in_frames (λ _. false) scope.entry.now context.entry.now.scope.now }
+    {
         Evaluator {
             stage: Stage::Run(context),
             calls_left: calls_allowed(context.config),
@@ -93,7 +119,10 @@ impl<'run, 'src> Evaluator<'run, 'src> {
     pub fn opening(
         context: &'run ExecutionContext<'run, 'src>,
         scope: &'run Scope<'run, 'src>,
-    ) -> Evaluator<'run, 'src> {
+    ) -> Evaluator<'run, 'src>
+        ensures stage { stage_at result ≡ running_stage context.entry.now [] scope.entry.now scope.entry.now false None }
+        ensures reading { reading_at result ≡ reading_in_frames (λ _. false) scope.entry.now scope.entry.now }
+    {
         Evaluator {
             stage: Stage::Run(context),
             calls_left: calls_allowed(context.config),
@@ -111,7 +140,10 @@ impl<'run, 'src> Evaluator<'run, 'src> {
         lists: bool,
         non_const: &'run BTreeSet<Number>,
         scope: &'run Scope<'run, 'src>,
-    ) -> Evaluator<'run, 'src> {
+    ) -> Evaluator<'run, 'src>
+        ensures stage { stage_at result ≡ const_stage lists }
+        ensures reading { reading_at result ≡ reading_in_frames (contains nat_cmp non_const.entry.now) scope.entry.now scope.entry.now }
+    {
         Evaluator {
             stage: Stage::Const { lists, non_const },
             calls_left: 0,
@@ -123,14 +155,18 @@ impl<'run, 'src> Evaluator<'run, 'src> {
         }
     }
 
-    fn lists(&self) -> bool {
+    fn lists(&self) -> bool
+        ensures { result ≡ (stage_at self.now).lists }
+    {
         match &self.stage {
             Stage::Const { lists, .. } => *lists,
             Stage::Run(context) => context.module.settings.lists,
         }
     }
 
-    fn is_non_const(&self, number: Number) -> bool {
+    fn is_non_const(&self, number: Number) -> bool
+        ensures { result ≡ is_non_const self.now.stage number }
+    {
         match &self.stage {
             Stage::Const { non_const, .. } => non_const.contains(&number),
             Stage::Run(_) => false,
@@ -138,7 +174,9 @@ impl<'run, 'src> Evaluator<'run, 'src> {
     }
 
     /// The justfile's function of this name, if it can be called.
-    fn defined_function(&self, name: &str) -> Option<&'run FunctionDefinition<'src>> {
+    fn defined_function(&self, name: &str) -> Option<&'run FunctionDefinition<'src>>
+        ensures { option_map (λ f. defined_of f.now) result ≡ function_named name.now (defined_at self.now.stage) }
+    {
         match self.stage {
             Stage::Const { .. } => None,
             Stage::Run(context) => find_function(context.module.functions, name),
@@ -152,7 +190,9 @@ impl<'run, 'src> Evaluator<'run, 'src> {
         alloc: Global,
         name: &Name<'src>,
         number: Option<Number>,
-    ) -> Result<Value, Failure<'src>> {
+    ) -> Result<Value, Failure<'src>>
+        ensures { seen_above result ≢ Err memory → seen_above result ≡ read_in (is_non_const self.now.stage) self.now.scope.now (lexeme name.now.token) number }
+    {
         let Some(number) = number else {
             return Err(unreadable(alloc, "unresolved", *name));
         };
@@ -175,6 +215,7 @@ impl<'run, 'src> Evaluator<'run, 'src> {
         token: &Token<'src>,
     ) -> Result<Value, Failure<'src>>
         ensures asks { Asks H.goes host.old host.new }
+        ensures evaluates { Evaluates (reading_at self.now) (dialogue (stage_at self.now) (terms.command contents.now (lexeme token.now))) host.old.entries host.new.entries (seen_above result) }
     {
         let Stage::Run(context) = self.stage else {
             return Err(not_const(alloc, ConstError::Backtick(*token)));
@@ -206,6 +247,7 @@ impl<'run, 'src> Evaluator<'run, 'src> {
         values: &[Value],
     ) -> Result<Value, Failure<'src>>
         ensures asks { Asks H.goes host.old host.new }
+        ensures evaluates { Evaluates (reading_at self.now) (builtin_at self.now.stage self.now (lexeme name.now.token) name.now.token.path.now function values.now) host.old.entries host.new.entries (seen_above result) }
     {
         let Stage::Run(context) = self.stage else {
             return Err(call_in_constant(alloc, name));
@@ -232,6 +274,7 @@ impl<'run, 'src> Evaluator<'run, 'src> {
         expression: &Expression<'src>,
     ) -> Result<Value, Error<'src>>
         ensures asks { Asks H.goes host.old host.new }
+        ensures evaluates { Evaluates (reading_at self.now) (dialogue (stage_at self.now) (term_of expression.now)) host.old.entries host.new.entries (seen result) }
     {
         let memory = Memory {
             alloc,
@@ -252,6 +295,7 @@ impl<'run, 'src> Evaluator<'run, 'src> {
         expression: &Expression<'src>,
     ) -> Result<Value, Failure<'src>>
         ensures asks { Asks H.goes host.old host.new }
+        ensures evaluates { Evaluates (reading_at self.now) (dialogue (stage_at self.now) (term_of expression.now)) host.old.entries host.new.entries (seen_above result) }
     {
         if memory.levels == 0 {
             return Err(Failure::OutOfMemory);
@@ -319,6 +363,7 @@ impl<'run, 'src> Evaluator<'run, 'src> {
     /// The right side's value after a left side with an element, else the empty list.
     #[cycle(evaluate)]
     #[inline(never)]
+    #[tactic(auto, using(meaning_dialogues::proofs::Dialogues::then_goes, meaning_dialogues::proofs::Dialogues::then_stops, meaning_dialogues::proofs::Dialogues::ends))]
     fn evaluate_and<H: Host + Drop>(
         &self,
         memory: Memory,
@@ -327,6 +372,7 @@ impl<'run, 'src> Evaluator<'run, 'src> {
         rhs: &Expression<'src>,
     ) -> Result<Value, Failure<'src>>
         ensures asks { Asks H.goes host.old host.new }
+        ensures evaluates { Evaluates (reading_at self.now) (dialogue (stage_at self.now) (terms.both (term_of lhs.now) (term_of rhs.now))) host.old.entries host.new.entries (seen_above result) }
     {
         let value = self.evaluate(memory, host, lhs)?;
         if value.is_truthy() {
@@ -339,6 +385,7 @@ impl<'run, 'src> Evaluator<'run, 'src> {
     /// The left side's value where it has an element, else the right side's.
     #[cycle(evaluate)]
     #[inline(never)]
+    #[tactic(auto, using(meaning_dialogues::proofs::Dialogues::then_goes, meaning_dialogues::proofs::Dialogues::then_stops, meaning_dialogues::proofs::Dialogues::ends))]
     fn evaluate_or<H: Host + Drop>(
         &self,
         memory: Memory,
@@ -347,6 +394,7 @@ impl<'run, 'src> Evaluator<'run, 'src> {
         rhs: &Expression<'src>,
     ) -> Result<Value, Failure<'src>>
         ensures asks { Asks H.goes host.old host.new }
+        ensures evaluates { Evaluates (reading_at self.now) (dialogue (stage_at self.now) (terms.either (term_of lhs.now) (term_of rhs.now))) host.old.entries host.new.entries (seen_above result) }
     {
         let value = self.evaluate(memory, host, lhs)?;
         if value.is_truthy() {
@@ -359,6 +407,7 @@ impl<'run, 'src> Evaluator<'run, 'src> {
     /// `true` where the operand has no element, else the empty list.
     #[cycle(evaluate)]
     #[inline(never)]
+    #[tactic(auto, using(meaning_dialogues::proofs::Dialogues::then_goes, meaning_dialogues::proofs::Dialogues::then_stops, meaning_dialogues::proofs::Dialogues::ends))]
     fn evaluate_not<H: Host + Drop>(
         &self,
         memory: Memory,
@@ -366,6 +415,7 @@ impl<'run, 'src> Evaluator<'run, 'src> {
         operand: &Expression<'src>,
     ) -> Result<Value, Failure<'src>>
         ensures asks { Asks H.goes host.old host.new }
+        ensures evaluates { Evaluates (reading_at self.now) (dialogue (stage_at self.now) (terms.negation (term_of operand.now))) host.old.entries host.new.entries (seen_above result) }
     {
         let value = self.evaluate(memory, host, operand)?;
         truth_value(memory.alloc, value.is_empty())
@@ -374,6 +424,7 @@ impl<'run, 'src> Evaluator<'run, 'src> {
     /// What an assertion without a message gives.
     #[cycle(evaluate)]
     #[inline(never)]
+    #[tactic(auto, using(meaning_dialogues::proofs::Dialogues::then_goes, meaning_dialogues::proofs::Dialogues::then_stops, meaning_dialogues::proofs::Dialogues::ends))]
     fn evaluate_assertion<H: Host + Drop>(
         &self,
         memory: Memory,
@@ -382,6 +433,7 @@ impl<'run, 'src> Evaluator<'run, 'src> {
         name: &Name<'src>,
     ) -> Result<Value, Failure<'src>>
         ensures asks { Asks H.goes host.old host.new }
+        ensures evaluates { Evaluates (reading_at self.now) (dialogue (stage_at self.now) (terms.assertion_alone (term_of condition.now))) host.old.entries host.new.entries (seen_above result) }
     {
         let value = self.evaluate(memory, host, condition)?;
         if value.is_truthy() {
@@ -393,6 +445,7 @@ impl<'run, 'src> Evaluator<'run, 'src> {
     /// What an assertion with a message gives.
     #[cycle(evaluate)]
     #[inline(never)]
+    #[tactic(auto, using(meaning_dialogues::proofs::Dialogues::then_goes, meaning_dialogues::proofs::Dialogues::then_stops, meaning_dialogues::proofs::Dialogues::ends))]
     fn evaluate_told_assertion<H: Host + Drop>(
         &self,
         memory: Memory,
@@ -402,6 +455,7 @@ impl<'run, 'src> Evaluator<'run, 'src> {
         name: &Name<'src>,
     ) -> Result<Value, Failure<'src>>
         ensures asks { Asks H.goes host.old host.new }
+        ensures evaluates { Evaluates (reading_at self.now) (dialogue (stage_at self.now) (terms.assertion (term_of condition.now) (term_of message.now))) host.old.entries host.new.entries (seen_above result) }
     {
         let value = self.evaluate(memory, host, condition)?;
         if value.is_truthy() {
@@ -413,6 +467,7 @@ impl<'run, 'src> Evaluator<'run, 'src> {
     /// The refusal of an assertion with this message.
     #[cycle(evaluate)]
     #[inline(never)]
+    #[tactic(auto, using(meaning_dialogues::proofs::Dialogues::then_goes, meaning_dialogues::proofs::Dialogues::then_stops, meaning_dialogues::proofs::Dialogues::ends))]
     fn evaluate_failure<H: Host + Drop>(
         &self,
         memory: Memory,
@@ -421,6 +476,7 @@ impl<'run, 'src> Evaluator<'run, 'src> {
         name: &Name<'src>,
     ) -> Result<Value, Failure<'src>>
         ensures asks { Asks H.goes host.old host.new }
+        ensures evaluates { Evaluates (reading_at self.now) (spec.failing (dialogue (stage_at self.now) (term_of message.now))) host.old.entries host.new.entries (seen_above result) }
     {
         let message = self.evaluate(memory, host, message)?;
         Err(message_failed(memory.alloc, &message, name))
@@ -429,6 +485,7 @@ impl<'run, 'src> Evaluator<'run, 'src> {
     /// The value of the branch that the condition chooses.
     #[cycle(evaluate)]
     #[inline(never)]
+    #[tactic(auto, using(meaning_dialogues::proofs::Dialogues::then_goes, meaning_dialogues::proofs::Dialogues::then_stops, meaning_dialogues::proofs::Dialogues::ends))]
     fn evaluate_choice<H: Host + Drop>(
         &self,
         memory: Memory,
@@ -438,6 +495,7 @@ impl<'run, 'src> Evaluator<'run, 'src> {
         otherwise: &Expression<'src>,
     ) -> Result<Value, Failure<'src>>
         ensures asks { Asks H.goes host.old host.new }
+        ensures evaluates { Evaluates (reading_at self.now) (dialogue (stage_at self.now) (terms.choice (term_of condition.now) (term_of then.now) (term_of otherwise.now))) host.old.entries host.new.entries (seen_above result) }
     {
         if self.evaluate_condition(memory, host, condition)? {
             self.evaluate(memory, host, then)
@@ -449,6 +507,7 @@ impl<'run, 'src> Evaluator<'run, 'src> {
     /// The value of the one branch where the condition holds, else the empty list.
     #[cycle(evaluate)]
     #[inline(never)]
+    #[tactic(auto, using(meaning_dialogues::proofs::Dialogues::then_goes, meaning_dialogues::proofs::Dialogues::then_stops, meaning_dialogues::proofs::Dialogues::ends))]
     fn evaluate_option<H: Host + Drop>(
         &self,
         memory: Memory,
@@ -457,6 +516,7 @@ impl<'run, 'src> Evaluator<'run, 'src> {
         then: &Expression<'src>,
     ) -> Result<Value, Failure<'src>>
         ensures asks { Asks H.goes host.old host.new }
+        ensures evaluates { Evaluates (reading_at self.now) (dialogue (stage_at self.now) (terms.choice_alone (term_of condition.now) (term_of then.now))) host.old.entries host.new.entries (seen_above result) }
     {
         if self.evaluate_condition(memory, host, condition)? {
             self.evaluate(memory, host, then)
@@ -468,6 +528,7 @@ impl<'run, 'src> Evaluator<'run, 'src> {
     /// Whether the condition holds: for a comparison what it says, else whether there is an element.
     #[cycle(evaluate)]
     #[inline(never)]
+    #[tactic(auto, using(meaning_dialogues::proofs::Dialogues::then_goes, meaning_dialogues::proofs::Dialogues::then_stops, meaning_dialogues::proofs::Dialogues::ends))]
     fn evaluate_condition<H: Host + Drop>(
         &self,
         memory: Memory,
@@ -475,6 +536,7 @@ impl<'run, 'src> Evaluator<'run, 'src> {
         condition: &Expression<'src>,
     ) -> Result<bool, Failure<'src>>
         ensures asks { Asks H.goes host.old host.new }
+        ensures evaluates { Evaluates (reading_at self.now) (spec.holding (dialogue (stage_at self.now) (term_of condition.now))) host.old.entries host.new.entries (seen_above result) }
     {
         let Expression::Comparison {
             lhs,
@@ -492,6 +554,7 @@ impl<'run, 'src> Evaluator<'run, 'src> {
     /// A comparison's value: `true` or the empty list.
     #[cycle(evaluate)]
     #[inline(never)]
+    #[tactic(auto, using(meaning_dialogues::proofs::Dialogues::then_goes, meaning_dialogues::proofs::Dialogues::then_stops, meaning_dialogues::proofs::Dialogues::ends))]
     fn evaluate_truth<H: Host + Drop>(
         &self,
         memory: Memory,
@@ -502,6 +565,7 @@ impl<'run, 'src> Evaluator<'run, 'src> {
         token: &Token<'src>,
     ) -> Result<Value, Failure<'src>>
         ensures asks { Asks H.goes host.old host.new }
+        ensures evaluates { Evaluates (reading_at self.now) (dialogue (stage_at self.now) (terms.comparison operator (term_of lhs.now) (term_of rhs.now))) host.old.entries host.new.entries (seen_above result) }
     {
         let truth = self.evaluate_comparison(memory, host, lhs, operator, rhs, token)?;
         truth_value(memory.alloc, truth)
@@ -510,6 +574,7 @@ impl<'run, 'src> Evaluator<'run, 'src> {
     /// What the comparison says. Patterns are refused once both sides are evaluated.
     #[cycle(evaluate)]
     #[inline(never)]
+    #[tactic(auto, using(meaning_dialogues::proofs::Dialogues::then_goes, meaning_dialogues::proofs::Dialogues::then_stops, meaning_dialogues::proofs::Dialogues::ends))]
     fn evaluate_comparison<H: Host + Drop>(
         &self,
         memory: Memory,
@@ -520,6 +585,7 @@ impl<'run, 'src> Evaluator<'run, 'src> {
         token: &Token<'src>,
     ) -> Result<bool, Failure<'src>>
         ensures asks { Asks H.goes host.old host.new }
+        ensures evaluates { Evaluates (reading_at self.now) (spec.comparing operator (dialogue (stage_at self.now) (term_of lhs.now)) (dialogue (stage_at self.now) (term_of rhs.now))) host.old.entries host.new.entries (seen_above result) }
     {
         let sides = self.evaluate_sides(memory, host, lhs, rhs)?;
         compared(memory.alloc, &sides, operator, token)
@@ -528,6 +594,7 @@ impl<'run, 'src> Evaluator<'run, 'src> {
     /// What the operator gives of each text with one or more others.
     #[cycle(evaluate)]
     #[inline(never)]
+    #[tactic(auto, using(meaning_dialogues::proofs::Dialogues::then_goes, meaning_dialogues::proofs::Dialogues::then_stops, meaning_dialogues::proofs::Dialogues::ends))]
     fn evaluate_pairing<H: Host + Drop>(
         &self,
         memory: Memory,
@@ -538,6 +605,7 @@ impl<'run, 'src> Evaluator<'run, 'src> {
         token: &Token<'src>,
     ) -> Result<Value, Failure<'src>>
         ensures asks { Asks H.goes host.old host.new }
+        ensures evaluates { Evaluates (reading_at self.now) (dialogue (stage_at self.now) (terms.paired operator (term_of lhs.now) (term_of rhs.now))) host.old.entries host.new.entries (seen_above result) }
     {
         let sides = self.evaluate_sides(memory, host, lhs, rhs)?;
         applied(memory.alloc, &sides, operator, token)
@@ -546,6 +614,7 @@ impl<'run, 'src> Evaluator<'run, 'src> {
     /// What `/` gives without a left side.
     #[cycle(evaluate)]
     #[inline(never)]
+    #[tactic(auto, using(meaning_dialogues::proofs::Dialogues::then_goes, meaning_dialogues::proofs::Dialogues::then_stops, meaning_dialogues::proofs::Dialogues::ends))]
     fn evaluate_root_join<H: Host + Drop>(
         &self,
         memory: Memory,
@@ -554,6 +623,7 @@ impl<'run, 'src> Evaluator<'run, 'src> {
         token: &Token<'src>,
     ) -> Result<Value, Failure<'src>>
         ensures asks { Asks H.goes host.old host.new }
+        ensures evaluates { Evaluates (reading_at self.now) (dialogue (stage_at self.now) (terms.rooted (term_of rhs.now))) host.old.entries host.new.entries (seen_above result) }
     {
         let right = self.evaluate(memory, host, rhs)?;
         joined_to_nothing(memory.alloc, right, token)
@@ -562,6 +632,7 @@ impl<'run, 'src> Evaluator<'run, 'src> {
     /// The elements of the left side's value, then those of the right side's.
     #[cycle(evaluate)]
     #[inline(never)]
+    #[tactic(auto, using(meaning_dialogues::proofs::Dialogues::then_goes, meaning_dialogues::proofs::Dialogues::then_stops, meaning_dialogues::proofs::Dialogues::ends))]
     fn evaluate_appended<H: Host + Drop>(
         &self,
         memory: Memory,
@@ -570,6 +641,7 @@ impl<'run, 'src> Evaluator<'run, 'src> {
         rhs: &Expression<'src>,
     ) -> Result<Value, Failure<'src>>
         ensures asks { Asks H.goes host.old host.new }
+        ensures evaluates { Evaluates (reading_at self.now) (dialogue (stage_at self.now) (terms.appended (term_of lhs.now) (term_of rhs.now))) host.old.entries host.new.entries (seen_above result) }
     {
         let Sides { mut left, right } = self.evaluate_sides(memory, host, lhs, rhs)?;
         left.append(right)?;
@@ -579,6 +651,7 @@ impl<'run, 'src> Evaluator<'run, 'src> {
     /// The values of the two sides, from the left.
     #[cycle(evaluate)]
     #[inline(never)]
+    #[tactic(auto, using(meaning_dialogues::proofs::Dialogues::then_goes, meaning_dialogues::proofs::Dialogues::then_stops, meaning_dialogues::proofs::Dialogues::ends))]
     fn evaluate_sides<H: Host + Drop>(
         &self,
         memory: Memory,
@@ -587,6 +660,7 @@ impl<'run, 'src> Evaluator<'run, 'src> {
         rhs: &Expression<'src>,
     ) -> Result<Sides, Failure<'src>>
         ensures asks { Asks H.goes host.old host.new }
+        ensures evaluates { Evaluates (reading_at self.now) (spec.sides (dialogue (stage_at self.now) (term_of lhs.now)) (dialogue (stage_at self.now) (term_of rhs.now))) host.old.entries host.new.entries (seen_above_as (λ s. (s.left, s.right)) result) }
     {
         let left = self.evaluate(memory, host, lhs)?;
         let right = self.evaluate(memory, host, rhs)?;
@@ -596,6 +670,7 @@ impl<'run, 'src> Evaluator<'run, 'src> {
     /// The elements of all values, in order.
     #[cycle(evaluate)]
     #[inline(never)]
+    #[tactic(auto, using(meaning_dialogues::proofs::Dialogues::then_goes, meaning_dialogues::proofs::Dialogues::then_stops, meaning_dialogues::proofs::Dialogues::ends))]
     fn evaluate_list<H: Host + Drop>(
         &self,
         memory: Memory,
@@ -603,6 +678,7 @@ impl<'run, 'src> Evaluator<'run, 'src> {
         elements: &[Expression<'src>],
     ) -> Result<Value, Failure<'src>>
         ensures asks { Asks H.goes host.old host.new }
+        ensures evaluates { Evaluates (reading_at self.now) (dialogue (stage_at self.now) (terms.listing (terms_of elements.now))) host.old.entries host.new.entries (seen_above result) }
     {
         let mut list = Value::new(memory.alloc);
         for element in elements {
@@ -616,6 +692,7 @@ impl<'run, 'src> Evaluator<'run, 'src> {
     /// it has three marks.
     #[cycle(evaluate)]
     #[inline(never)]
+    #[tactic(auto, using(meaning_dialogues::proofs::Dialogues::then_goes, meaning_dialogues::proofs::Dialogues::then_stops, meaning_dialogues::proofs::Dialogues::ends))]
     fn evaluate_format<H: Host + Drop>(
         &self,
         memory: Memory,
@@ -624,6 +701,7 @@ impl<'run, 'src> Evaluator<'run, 'src> {
         expressions: &[(Expression<'src>, StringLiteral<'src>)],
     ) -> Result<Value, Failure<'src>>
         ensures asks { Asks H.goes host.old host.new }
+        ensures evaluates { Evaluates (reading_at self.now) (dialogue (stage_at self.now) (terms.format start.now.cooked (written start.now) start.now.kind.tripled (holes_of expressions.now))) host.old.entries host.new.entries (seen_above result) }
     {
         let mut text = String::from_str(memory.alloc, start.cooked.as_str())?;
         for (expression, part) in expressions {
@@ -636,6 +714,7 @@ impl<'run, 'src> Evaluator<'run, 'src> {
     /// What the function of this name answers. A function of the justfile hides a built-in one.
     #[cycle(evaluate)]
     #[inline(never)]
+    #[tactic(auto, using(meaning_dialogues::proofs::Dialogues::then_goes, meaning_dialogues::proofs::Dialogues::then_stops, meaning_dialogues::proofs::Dialogues::ends))]
     fn call<H: Host + Drop>(
         &self,
         memory: Memory,
@@ -644,12 +723,13 @@ impl<'run, 'src> Evaluator<'run, 'src> {
         arguments: &[Expression<'src>],
     ) -> Result<Value, Failure<'src>>
         ensures asks { Asks H.goes host.old host.new }
+        ensures evaluates { Evaluates (reading_at self.now) (dialogue (stage_at self.now) (terms.call (lexeme name.now.token) name.now.token.path.now (terms_of arguments.now))) host.old.entries host.new.entries (seen_above result) }
     {
-        if let Stage::Const { .. } = self.stage {
+        let Stage::Run(context) = self.stage else {
             return Err(call_in_constant(memory.alloc, name));
-        }
+        };
         match self.defined_function(name.lexeme()) {
-            Some(function) => self.call_defined(memory, host, function, arguments),
+            Some(function) => self.call_defined(memory, host, context, function, arguments),
             None => self.call_builtin(memory, host, name, arguments),
         }
     }
@@ -658,14 +738,18 @@ impl<'run, 'src> Evaluator<'run, 'src> {
     /// counted before any argument is evaluated.
     #[cycle(evaluate)]
     #[inline(never)]
+    #[tactic(auto, using(meaning_dialogues::proofs::Dialogues::then_goes, meaning_dialogues::proofs::Dialogues::then_stops, meaning_dialogues::proofs::Dialogues::ends))]
     fn call_defined<H: Host + Drop>(
         &self,
         memory: Memory,
         host: &mut Recorded<H>,
+        context: &'run ExecutionContext<'run, 'src>,
         function: &FunctionDefinition<'src>,
         arguments: &[Expression<'src>],
     ) -> Result<Value, Failure<'src>>
+        requires runs { self.now.stage ≡ Stage.Run context }
         ensures asks { Asks H.goes host.old host.new }
+        ensures evaluates { Evaluates (reading_at self.now) (calls.call_defined (calls_in context.now self.now.module_scope.now self.now.is_dependency self.now.recipe self.now.calls_left) (defined_of function.now) (spec.dialogues (stage_at self.now) (terms_of arguments.now))) host.old.entries host.new.entries (seen_above result) }
     {
         if self.calls_left == 0 {
             return Err(too_many_calls(memory.alloc, function));
@@ -694,6 +778,7 @@ impl<'run, 'src> Evaluator<'run, 'src> {
     /// The values in order.
     #[cycle(evaluate)]
     #[inline(never)]
+    #[tactic(auto, using(meaning_dialogues::proofs::Dialogues::then_goes, meaning_dialogues::proofs::Dialogues::then_stops, meaning_dialogues::proofs::Dialogues::ends))]
     fn evaluate_row<H: Host + Drop>(
         &self,
         memory: Memory,
@@ -701,6 +786,7 @@ impl<'run, 'src> Evaluator<'run, 'src> {
         expressions: &[Expression<'src>],
     ) -> Result<Vec<Value>, Failure<'src>>
         ensures asks { Asks H.goes host.old host.new }
+        ensures evaluates { Evaluates (reading_at self.now) (spec.row (spec.dialogues (stage_at self.now) (terms_of expressions.now))) host.old.entries host.new.entries (seen_above_as (λ v. v.items) result) }
     {
         let mut values = Vec::new(memory.alloc);
         for expression in expressions {
@@ -712,6 +798,7 @@ impl<'run, 'src> Evaluator<'run, 'src> {
     /// What the built-in function of this name answers.
     #[cycle(evaluate)]
     #[inline(never)]
+    #[tactic(auto, using(meaning_dialogues::proofs::Dialogues::then_goes, meaning_dialogues::proofs::Dialogues::then_stops, meaning_dialogues::proofs::Dialogues::ends))]
     fn call_builtin<H: Host + Drop>(
         &self,
         memory: Memory,
@@ -720,6 +807,7 @@ impl<'run, 'src> Evaluator<'run, 'src> {
         arguments: &[Expression<'src>],
     ) -> Result<Value, Failure<'src>>
         ensures asks { Asks H.goes host.old host.new }
+        ensures evaluates { Evaluates (reading_at self.now) (called_builtin self.now (function_of (lexeme name.now.token)) (lexeme name.now.token) name.now.token.path.now (spec.dialogues (stage_at self.now) (terms_of arguments.now))) host.old.entries host.new.entries (seen_above result) }
     {
         let Some(function) = Function::get(name.lexeme()) else {
             return Err(unknown_function(memory.alloc));
@@ -732,6 +820,7 @@ impl<'run, 'src> Evaluator<'run, 'src> {
     /// before the next is evaluated.
     #[cycle(evaluate)]
     #[inline(never)]
+    #[tactic(auto, using(meaning_dialogues::proofs::Dialogues::then_goes, meaning_dialogues::proofs::Dialogues::then_stops, meaning_dialogues::proofs::Dialogues::ends))]
     fn evaluate_arguments<H: Host + Drop>(
         &self,
         memory: Memory,
@@ -741,6 +830,7 @@ impl<'run, 'src> Evaluator<'run, 'src> {
         arguments: &[Expression<'src>],
     ) -> Result<Vec<Value>, Failure<'src>>
         ensures asks { Asks H.goes host.old host.new }
+        ensures evaluates { Evaluates (reading_at self.now) (calls.arguments (takes_text function) (lexeme name.now.token) 0 (spec.dialogues (stage_at self.now) (terms_of arguments.now))) host.old.entries host.new.entries (seen_above_as (λ v. v.items) result) }
     {
         let mut values = Vec::new(memory.alloc);
         for expression in arguments {
@@ -753,6 +843,7 @@ impl<'run, 'src> Evaluator<'run, 'src> {
 
     /// The one element of the expression's value. Other numbers of elements are refused as
     /// `ListInStringContext`.
+    #[tactic(auto, using(meaning_dialogues::proofs::Dialogues::then_goes, meaning_dialogues::proofs::Dialogues::then_stops, meaning_dialogues::proofs::Dialogues::ends))]
     pub fn evaluate_string<H: Host + Drop>(
         &self,
         alloc: Global,
@@ -761,6 +852,7 @@ impl<'run, 'src> Evaluator<'run, 'src> {
         context: StringContext<'src>,
     ) -> Result<String, Error<'src>>
         ensures asks { Asks H.goes host.old host.new }
+        ensures evaluates { Evaluates (reading_at self.now) (text_dialogue (text_place context.entry) (dialogue (stage_at self.now) (term_of expression.now))) host.old.entries host.new.entries (seen_as string_bytes result) }
     {
         let value = self.evaluate_value(alloc, host, expression)?;
         only_text(alloc, value, context)

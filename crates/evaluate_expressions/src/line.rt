@@ -1,52 +1,48 @@
 //! Lines of bodies.
+ghost use Rattle.std.specs.Prelude.{◌≡◌, [], IfOk, map};
+ghost use Rattle.std.specs.String.{string_bytes};
+ghost use Rattle.evaluate_context.specs.Refusals.{seen_as};
+ghost use Rattle.evaluate_expressions.specs.Situations.{stage_at, reading_at};
 ghost use Rattle.just_host.specs.Asking.{Asks};
+ghost use Rattle.meaning_dialogues.specs.Dialogue.{Evaluates};
+ghost use Rattle.meaning_stages.specs.Lines.{line_dialogue, piece_dialogue, piece_of, piece_text};
 
 use crate::evaluator::Evaluator;
 use evaluate_context::Error;
 use just_host::{Host, Recorded};
 use std::alloc::{AllocError, Global};
+use tree_expressions::halve;
 use tree_items::{Fragment, Line};
 
-/// Four braces, which stand for two in a body's text.
-const FOUR_BRACES: &str = "{{{{";
-
-/// Puts the text of a body after the line: four braces stand for two, and a text that is trimmed
-/// loses its leading white space.
-fn push_text(
-    alloc: Global,
-    line: &mut String,
-    lexeme: &str,
-    is_trimmed: bool,
-) -> Result<(), AllocError> {
-    let text = if is_trimmed {
-        lexeme.trim_start()
-    } else {
-        lexeme
-    };
-    if !text.contains(FOUR_BRACES) {
-        return line.push_str(text);
+/// A text of a body: four braces are replaced by two, and one that is trimmed loses its leading white
+/// space.
+fn body_text(alloc: Global, lexeme: &str, is_trimmed: bool) -> Result<String, AllocError>
+    ensures { IfOk result (λ text. string_bytes text ≡ piece_text is_trimmed lexeme.now) }
+{
+    if is_trimmed {
+        return halve(alloc, lexeme.trim_start());
     }
-    line.push_str(text.replace(alloc, FOUR_BRACES, "{{")?.as_str())
+    halve(alloc, lexeme)
 }
 
 impl<'run, 'src> Evaluator<'run, 'src> {
-    /// Puts the fragment's text, or its joined value, after the line.
-    fn push_fragment<H: Host + Drop>(
+    /// The fragment's text, or its value, joined.
+    #[tactic(auto, using(meaning_dialogues::proofs::Dialogues::then_goes, meaning_dialogues::proofs::Dialogues::then_stops, meaning_dialogues::proofs::Dialogues::ends))]
+    fn fragment_text<H: Host + Drop>(
         &self,
         alloc: Global,
         host: &mut Recorded<H>,
-        line: &mut String,
         fragment: &Fragment<'src>,
         is_trimmed: bool,
-    ) -> Result<(), Error<'src>>
+    ) -> Result<String, Error<'src>>
         ensures asks { Asks H.goes host.old host.new }
+        ensures evaluates { Evaluates (reading_at self.now) (piece_dialogue (stage_at self.now) is_trimmed (piece_of fragment.now)) host.old.entries host.new.entries (seen_as string_bytes result) }
     {
         match fragment {
-            Fragment::Text { token } => Ok(push_text(alloc, line, token.lexeme(), is_trimmed)?),
+            Fragment::Text { token } => Ok(body_text(alloc, token.lexeme(), is_trimmed)?),
             Fragment::Interpolation { expression } => {
                 let value = self.evaluate_value(alloc, host, expression)?;
-                let text = value.join(alloc)?;
-                Ok(line.push_str(text.as_str())?)
+                Ok(value.join(alloc)?)
             }
         }
     }
@@ -61,11 +57,13 @@ impl<'run, 'src> Evaluator<'run, 'src> {
         continued: bool,
     ) -> Result<String, Error<'src>>
         ensures asks { Asks H.goes host.old host.new }
+        ensures evaluates { Evaluates (reading_at self.now) (line_dialogue (stage_at self.now) continued [] (map piece_of line.now.fragments.items)) host.old.entries host.new.entries (seen_as string_bytes result) }
     {
         let mut text = String::new(alloc);
         let mut is_trimmed = continued;
         for fragment in &line.fragments {
-            self.push_fragment(alloc, host, &mut text, fragment, is_trimmed)?;
+            let piece = self.fragment_text(alloc, host, fragment, is_trimmed)?;
+            text.push_str(piece.as_str())?;
             is_trimmed = false;
         }
         Ok(text)

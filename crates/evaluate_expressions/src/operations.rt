@@ -1,7 +1,13 @@
 //! What operators and contexts make of values.
-ghost use Rattle.std.specs.Prelude.{◌≡◌, ◌∷◌, ◌++◌, [], IfOk, codes, if◌then◌else◌};
+ghost use Rattle.std.specs.Prelude.{◌≡◌, ◌≢◌, ◌∷◌, ◌++◌, [], Err, Ok, OnOk};
 ghost use Rattle.std.specs.String.{string_bytes};
+ghost use Rattle.just_text.specs.Tokens.{lexeme};
 ghost use Rattle.just_value.specs.Values.{joined};
+ghost use Rattle.evaluate_context.specs.Refusals.{seen_as};
+ghost use Rattle.evaluate_expressions.specs.Failures.{printed_value, seen_above};
+ghost use Rattle.meaning_dialogues.specs.Calls.{as_argument};
+ghost use Rattle.meaning_dialogues.specs.Evaluation as spec;
+ghost use Rattle.meaning_dialogues.specs.Faults.{memory, text_place};
 
 use crate::failure::{Failure, refused};
 use crate::refusals::{list_as_argument, pattern_left_out};
@@ -21,7 +27,7 @@ pub(crate) struct Sides {
 
 /// `true` alone, or the empty list.
 pub(crate) fn truth_value<'src>(alloc: Global, truth: bool) -> Result<Value, Failure<'src>>
-    ensures { IfOk result (λ v. v ≡ (if truth then codes "true" ∷ [] else [])) }
+    ensures { seen_above result ≢ Err memory → seen_above result ≡ Ok (spec.truth truth) }
 {
     Ok(Value::from_bool(alloc, truth)?)
 }
@@ -31,7 +37,9 @@ pub(crate) fn truth_value<'src>(alloc: Global, truth: bool) -> Result<Value, Fai
 pub(crate) fn literal_value<'src>(
     alloc: Global,
     literal: &StringLiteral<'src>,
-) -> Result<Value, Failure<'src>> {
+) -> Result<Value, Failure<'src>>
+    ensures { seen_above result ≢ Err memory → seen_above result ≡ Ok (literal.now.cooked ∷ []) }
+{
     Ok(Value::from_text(alloc, literal.cooked.as_str())?)
 }
 
@@ -40,7 +48,9 @@ pub(crate) fn output_value<'src>(
     alloc: Global,
     output: Result<Text, HostFault>,
     token: &Token<'src>,
-) -> Result<Value, Failure<'src>> {
+) -> Result<Value, Failure<'src>>
+    ensures { seen_above result ≢ Err memory → seen_above result ≡ printed_value (lexeme token.now) output }
+{
     match output {
         Ok(text) => Ok(Value::from_string(alloc, text.into_string())?),
         Err(fault) => Err(refused(
@@ -59,7 +69,7 @@ pub(crate) fn asserted<'src>(
     lists: bool,
     condition: Value,
 ) -> Result<Value, Failure<'src>>
-    ensures { IfOk result (λ v. v ≡ (if lists then condition else [] ∷ [])) }
+    ensures { seen_above result ≢ Err memory → seen_above result ≡ Ok (spec.asserted lists condition) }
 {
     if lists {
         Ok(condition)
@@ -74,7 +84,9 @@ pub(crate) fn applied<'src>(
     sides: &Sides,
     operator: ListOperator,
     token: &Token<'src>,
-) -> Result<Value, Failure<'src>> {
+) -> Result<Value, Failure<'src>>
+    ensures { seen_above result ≢ Err memory → seen_above result ≡ spec.operated operator sides.now.left sides.now.right }
+{
     match sides.left.apply(alloc, &sides.right, operator, *token) {
         Ok(value) => Ok(value),
         Err(fault) => Err(refused(alloc, Error::from(fault))),
@@ -86,7 +98,9 @@ pub(crate) fn joined_to_nothing<'src>(
     alloc: Global,
     right: Value,
     token: &Token<'src>,
-) -> Result<Value, Failure<'src>> {
+) -> Result<Value, Failure<'src>>
+    ensures { seen_above result ≢ Err memory → seen_above result ≡ spec.operated ListOperator.Join ([] ∷ []) right }
+{
     let left = Value::from_text(alloc, "")?;
     applied(alloc, &Sides { left, right }, ListOperator::Join, token)
 }
@@ -97,7 +111,9 @@ pub(crate) fn compared<'src>(
     sides: &Sides,
     operator: ConditionalOperator,
     token: &Token<'src>,
-) -> Result<bool, Failure<'src>> {
+) -> Result<bool, Failure<'src>>
+    ensures { seen_above result ≢ Err memory → seen_above result ≡ spec.compared operator sides.now.left sides.now.right }
+{
     match operator {
         ConditionalOperator::Equality => Ok(sides.left == sides.right),
         ConditionalOperator::Inequality => Ok(sides.left != sides.right),
@@ -113,7 +129,9 @@ pub(crate) fn push_joined(
     text: &mut String,
     value: &Value,
     part: &str,
-) -> Result<(), AllocError> {
+) -> Result<(), AllocError>
+    ensures { OnOk result (string_bytes text.new ≡ string_bytes text.old ++ (joined value.now ++ part.now)) }
+{
     let joined = value.join(alloc)?;
     text.push_str(joined.as_str())?;
     text.push_str(part)
@@ -124,7 +142,9 @@ pub(crate) fn laid_out<'src>(
     alloc: Global,
     tripled: bool,
     text: String,
-) -> Result<Value, Failure<'src>> {
+) -> Result<Value, Failure<'src>>
+    ensures { seen_above result ≢ Err memory → seen_above result ≡ Ok (spec.laid_out tripled (string_bytes text) ∷ []) }
+{
     if tripled {
         let text = unindent(alloc, text.as_str())?;
         Ok(Value::from_string(alloc, text.into_string())?)
@@ -139,7 +159,9 @@ pub(crate) fn argument<'src>(
     value: Value,
     is_text: bool,
     name: &Name<'src>,
-) -> Result<Value, Failure<'src>> {
+) -> Result<Value, Failure<'src>>
+    ensures { seen_above result ≢ Err memory → seen_above result ≡ as_argument is_text (lexeme name.now.token) value }
+{
     if is_text && value.len() != 1 {
         return Err(list_as_argument(alloc, value, name));
     }
@@ -151,7 +173,9 @@ pub(crate) fn only_text<'src>(
     alloc: Global,
     value: Value,
     context: StringContext<'src>,
-) -> Result<String, Error<'src>> {
+) -> Result<String, Error<'src>>
+    ensures { seen_as string_bytes result ≢ Err memory → seen_as string_bytes result ≡ spec.one_text (text_place context.entry) value }
+{
     if value.len() == 1 {
         Ok(value.join(alloc)?)
     } else {

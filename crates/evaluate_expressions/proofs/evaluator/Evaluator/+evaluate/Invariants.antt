@@ -1,6 +1,14 @@
 -- What falls: the levels that are left, each counted five times, so that up to four calls may stay in one.
-use Rattle.std.proofs.Common.{◌+◌, ◌*◌}
+use Rattle.std.proofs.Common.{◌+◌, ◌*◌, drop, length}
 use Rattle.just_host.specs.Asking.{Asks}
+use Rattle.just_text.specs.Tokens.{lexeme}
+use Rattle.evaluate_functions.specs.Arguments.{takes_text}
+use Rattle.meaning_dialogues.specs.Calls.{arguments}
+use Rattle.meaning_dialogues.specs.Evaluation.{dialogues, row, filled}
+use Rattle.meaning_dialogues.specs.Terms.{terms_of, holes_of}
+use Rattle.meaning_dialogues.proofs.Rows.{Leads, Fills, Lists}
+use Rattle.evaluate_expressions.specs.Situations.{stage_at, reading_at}
+use Rattle.std.specs.String.{string_bytes}
 use Rattle.evaluate_expressions.proofs.evaluator.Evaluator.+evaluate.Given as goal
 
 abbrev pub decreases-evaluate : goal.decreases-evaluate
@@ -74,13 +82,34 @@ decreases-evaluate_arguments g l = 5 * l.memory.levels + 1
 
 -- what was asked so far
 abbrev pub invariant-evaluate_arguments-loop-expression : goal.invariant-evaluate_arguments-loop-expression
-invariant-evaluate_arguments-loop-expression g l = Asks g.H.Host.goes l.initial.host l.host
+invariant-evaluate_arguments-loop-expression g l =
+    let ds = dialogues (stage_at l.self) in
+    let given = arguments (takes_text l.function) (lexeme l.name.token) in
+    record {
+      asks : Asks g.H.Host.goes l.initial.host l.host;
+      leads : Leads (reading_at l.self) (given 0 (ds (terms_of l.arguments))) (given (length l.values.items) (ds (terms_of (drop l.expression-index l.arguments)))) l.initial.host.entries l.host.entries l.values.items;
+    }
 
 abbrev pub invariant-evaluate_format-loop-expression : goal.invariant-evaluate_format-loop-expression
-invariant-evaluate_format-loop-expression g l = Asks g.H.Host.goes l.initial.host l.host
+invariant-evaluate_format-loop-expression g l =
+    let fill = filled (stage_at l.self) in
+    record {
+      asks : Asks g.H.Host.goes l.initial.host l.host;
+      fills : Fills (reading_at l.self) (fill l.start.cooked (holes_of l.expressions)) (fill (string_bytes l.text) (holes_of (drop l.expression-index l.expressions))) l.initial.host.entries l.host.entries;
+    }
 
 abbrev pub invariant-evaluate_list-loop-element : goal.invariant-evaluate_list-loop-element
-invariant-evaluate_list-loop-element g l = Asks g.H.Host.goes l.initial.host l.host
+invariant-evaluate_list-loop-element g l =
+    let ds = dialogues (stage_at l.self) in
+    record {
+      asks : Asks g.H.Host.goes l.initial.host l.host;
+      lists : Lists (reading_at l.self) (row (ds (terms_of l.elements))) (row (ds (terms_of (drop l.element-index l.elements)))) l.initial.host.entries l.host.entries l.list;
+    }
 
 abbrev pub invariant-evaluate_row-loop-expression : goal.invariant-evaluate_row-loop-expression
-invariant-evaluate_row-loop-expression g l = Asks g.H.Host.goes l.initial.host l.host
+invariant-evaluate_row-loop-expression g l =
+    let ds = dialogues (stage_at l.self) in
+    record {
+      asks : Asks g.H.Host.goes l.initial.host l.host;
+      leads : Leads (reading_at l.self) (row (ds (terms_of l.expressions))) (row (ds (terms_of (drop l.expression-index l.expressions)))) l.initial.host.entries l.host.entries l.values.items;
+    }

@@ -1,0 +1,9 @@
+pub mod Calling
+pub mod Conditions
+pub mod Frames
+pub mod InterpreterWords
+pub mod Levels
+pub mod LineParts
+pub mod Named
+pub mod Shaped
+pub mod WantOfMemory
