@@ -1,5 +1,12 @@
 //! The variables of a module.
+ghost use Rattle.std.specs.Prelude.{◌≡◌, ◌≢◌, ◌∷◌, ◌||◌, [], Err};
 ghost use Rattle.just_host.specs.Asking.{Asks};
+ghost use Rattle.evaluate_context.specs.Refusals.{seen};
+ghost use Rattle.meaning_dialogues.specs.Dialogue.{Evaluates};
+ghost use Rattle.meaning_dialogues.specs.Faults.{memory};
+ghost use Rattle.meaning_dialogues.specs.Terms.{term_of};
+ghost use Rattle.meaning_stages.specs.Assigned.{assigned_dialogue};
+ghost use Rattle.justfile_evaluator.specs.Opened.{Opens, OpensFrame, assigned, opening_reading, opening_stage, ordered, overridden, reads, refusal};
 
 use evaluate_context::{Error, ExecutionContext};
 use evaluate_expressions::Evaluator;
@@ -19,6 +26,7 @@ fn assigned_value<'src, H: Host + Drop>(
     assignment: &Assignment<'src>,
 ) -> Result<Value, Error<'src>>
     ensures asks { Asks H.goes host.old host.new }
+    ensures evaluates { Evaluates (opening_reading scope.now) (assigned_dialogue (overridden context.now.overrides.now assignment.now.number) (opening_stage context.now scope.now) (term_of assignment.now.value)) host.old.entries host.new.entries (seen result) }
 {
     if let Some(text) = context.overrides.get(&assignment.number) {
         return Ok(Value::from_text(alloc, text.as_str())?);
@@ -27,11 +35,20 @@ fn assigned_value<'src, H: Host + Drop>(
 }
 
 /// Whether the number is among those that are read, or no numbers are given.
-fn is_read(references: Option<&BTreeSet<Number>>, number: Number) -> bool {
+fn is_read(references: Option<&BTreeSet<Number>>, number: Number) -> bool
+    ensures { result ≡ reads references.entry number }
+{
     match references {
         Some(references) => references.contains(&number),
         None => true,
     }
+}
+
+/// Whether the variable is exported, by its own word or by the module's setting.
+fn is_exported(context: &ExecutionContext, assignment: &Assignment) -> bool
+    ensures { result ≡ assignment.now.export || context.now.module.now.settings.now.export }
+{
+    assignment.export || context.module.settings.export
 }
 
 /// Evaluates the variable into the scope's innermost frame, if it is among those that are read and is
@@ -45,14 +62,41 @@ fn open_assignment<'src, H: Host + Drop>(
     assignment: &Assignment<'src>,
 ) -> Result<(), Error<'src>>
     ensures asks { Asks H.goes host.old host.new }
+    ensures around { scope.new.outer ≡ scope.old.outer }
+    ensures opens { seen result ≢ Err memory → Opens context.now scope.old.outer (reads references.entry) (assigned assignment.entry ∷ []) scope.old.own host.old.entries scope.new.own host.new.entries (refusal result) }
 {
     let number = assignment.number;
-    if is_read(references, number) && scope.binding(number).is_none() {
-        let value = assigned_value(alloc, host, context, &*scope, assignment)?;
-        let export = assignment.export || context.module.settings.export;
-        scope.bind_value(assignment.name, number, export, value)?;
+    if !is_read(references, number) {
+        return Ok(());
     }
+    if scope.binding(number).is_some() {
+        return Ok(());
+    }
+    let value = assigned_value(alloc, host, context, &*scope, assignment)?;
+    let export = is_exported(context, assignment);
+    scope.bind_value(assignment.name, number, export, value)?;
     Ok(())
+}
+
+/// Evaluates the variable at the place so, if there is one there.
+fn open_place<'src, H: Host + Drop>(
+    alloc: Global,
+    host: &mut Recorded<H>,
+    context: &ExecutionContext<'_, 'src>,
+    scope: &mut Scope<'_, 'src>,
+    references: Option<&BTreeSet<Number>>,
+    place: usize,
+) -> Result<(), Error<'src>>
+    ensures asks { Asks H.goes host.old host.new }
+    ensures around { scope.new.outer ≡ scope.old.outer }
+    ensures opens { seen result ≢ Err memory → Opens context.now scope.old.outer (reads references.entry) (ordered context.now.module.now.assignments.now (place ∷ [])) scope.old.own host.old.entries scope.new.own host.new.entries (refusal result) }
+{
+    match context.module.assignments.get(place) {
+        Some(variable) => {
+            open_assignment(alloc, host, context, scope, references, variable.assignment)
+        }
+        None => Ok(()),
+    }
 }
 
 /// Evaluates the module's variables in their order into the scope's innermost frame: those of these
@@ -66,13 +110,11 @@ pub fn open_assignments<'src, H: Host + Drop>(
     references: Option<&BTreeSet<Number>>,
 ) -> Result<(), Error<'src>>
     ensures asks { Asks H.goes host.old host.new }
+    ensures around { scope.new.outer ≡ scope.old.outer }
+    ensures opens { seen result ≢ Err memory → Opens context.now scope.old.outer (reads references.entry) (ordered context.now.module.now.assignments.now context.now.module.now.evaluation_order.now) scope.old.own host.old.entries scope.new.own host.new.entries (refusal result) }
 {
-    let assignments = context.module.assignments;
     for place in context.module.evaluation_order {
-        if *place < assignments.len() {
-            let assignment = assignments[*place].assignment;
-            open_assignment(alloc, host, context, scope, references, assignment)?;
-        }
+        open_place(alloc, host, context, scope, references, *place)?;
     }
     Ok(())
 }
@@ -86,6 +128,7 @@ pub fn evaluate_assignments<'a, 'src, H: Host + Drop>(
     references: Option<&BTreeSet<Number>>,
 ) -> Result<Scope<'a, 'src>, Error<'src>>
     ensures asks { Asks H.goes host.old host.new }
+    ensures opens { OpensFrame context.now (reads references.entry) host.old.entries host.new.entries result }
 {
     let mut scope = context.scope.child(alloc)?;
     match open_assignments(alloc, host, context, &mut scope, references) {

@@ -1,4 +1,21 @@
 //! Variables that are constants.
+ghost use Rattle.std.specs.Prelude.{◌≡◌, ◌≢◌, ◌∷◌, [], Err, MatchResult, Some};
+ghost use Rattle.std.specs.BTreeSet.{contains};
+ghost use Rattle.std.specs.Ordering.{nat_cmp};
+ghost use Rattle.std.specs.String.{string_bytes};
+ghost use Rattle.just_text.specs.Tokens.{lexeme};
+ghost use Rattle.evaluate_context.specs.Refusals.{fault_of, seen, seen_as};
+ghost use Rattle.evaluate_expressions.specs.Situations.{reading_at, stage_at};
+ghost use Rattle.meaning_dialogues.specs.Calls.{const_stage};
+ghost use Rattle.meaning_dialogues.specs.Constants.{constant, settled};
+ghost use Rattle.meaning_dialogues.specs.Evaluation.{dialogue, dialogues, interpreter_dialogue, text_dialogue};
+ghost use Rattle.meaning_dialogues.specs.Faults.{memory, text_place};
+ghost use Rattle.meaning_dialogues.specs.Terms.{term_of, terms_of};
+ghost use Rattle.meaning_stages.specs.Assigned.{assigned_dialogue};
+ghost use Rattle.justfile_evaluator.specs.Opened.{assigned, ordered, overridden, refusal};
+ghost use Rattle.justfile_evaluator.specs.Settled.{FindsConstants, Keeps, SettlesTo, reading_in, seen_constant, seen_words};
+ghost use Rattle.justfile_evaluator.specs.Settled as spec;
+
 use evaluate_context::{AssignmentRef, Error};
 use evaluate_expressions::Evaluator;
 use just_host::{Answer, Host, Question, Recorded};
@@ -35,7 +52,10 @@ pub struct ConstEvaluator<'a, 'src> {
 }
 
 impl<'a, 'src> ConstEvaluator<'a, 'src> {
-    fn evaluator(&self) -> Evaluator<'_, 'src> {
+    fn evaluator(&self) -> Evaluator<'_, 'src>
+        ensures stage { stage_at result ≡ const_stage self.now.lists }
+        ensures reading { reading_at result ≡ reading_in self.now }
+    {
         Evaluator::constant(self.lists, &self.non_const, &self.scope)
     }
 
@@ -44,7 +64,9 @@ impl<'a, 'src> ConstEvaluator<'a, 'src> {
         &self,
         alloc: Global,
         expression: &Expression<'src>,
-    ) -> Result<Value, Error<'src>> {
+    ) -> Result<Value, Error<'src>>
+        ensures { seen result ≢ Err memory → settled (reading_in self.now) (dialogue (const_stage self.now.lists) (term_of expression.now)) ≡ Some (seen result) }
+    {
         let mut nobody = Recorded::new(alloc, Nobody);
         self.evaluator()
             .evaluate_value(alloc, &mut nobody, expression)
@@ -57,7 +79,9 @@ impl<'a, 'src> ConstEvaluator<'a, 'src> {
         alloc: Global,
         expression: &Expression<'src>,
         context: StringContext<'src>,
-    ) -> Result<String, Error<'src>> {
+    ) -> Result<String, Error<'src>>
+        ensures { seen_as string_bytes result ≢ Err memory → settled (reading_in self.now) (text_dialogue (text_place context.entry) (dialogue (const_stage self.now.lists) (term_of expression.now))) ≡ Some (seen_as string_bytes result) }
+    {
         let mut nobody = Recorded::new(alloc, Nobody);
         self.evaluator()
             .evaluate_string(alloc, &mut nobody, expression, context)
@@ -70,7 +94,9 @@ impl<'a, 'src> ConstEvaluator<'a, 'src> {
         alloc: Global,
         interpreter: &Interpreter<Expression<'src>>,
         setting: Name<'src>,
-    ) -> Result<Interpreter<Text>, Error<'src>> {
+    ) -> Result<Interpreter<Text>, Error<'src>>
+        ensures { seen_words result ≢ Err memory → settled (reading_in self.now) (interpreter_dialogue (lexeme setting.entry.token) (dialogues (const_stage self.now.lists) (terms_of (interpreter.now.command ∷ interpreter.now.arguments.items)))) ≡ Some (seen_words result) }
+    {
         let mut nobody = Recorded::new(alloc, Nobody);
         self.evaluator()
             .evaluate_interpreter(alloc, &mut nobody, interpreter, setting)
@@ -81,23 +107,30 @@ impl<'a, 'src> ConstEvaluator<'a, 'src> {
         &mut self,
         assignment: &Assignment<'src>,
         value: Option<Value>,
-    ) -> Result<(), Error<'src>> {
+    ) -> Result<(), Error<'src>>
+        ensures lists { self.new.lists ≡ self.old.lists }
+        ensures around { self.new.scope.outer ≡ self.old.scope.outer }
+        ensures keeps { MatchResult result (λ _. Keeps self.old assignment.now.number value self.new) (λ error. fault_of error ≡ memory) }
+    {
         let number = assignment.number;
         match value {
             Some(value) => {
                 self.scope
                     .bind_value(assignment.name, number, assignment.export, value)?;
+                Ok(())
             }
             None => {
                 let _ = self.non_const.insert(number)?;
+                Ok(())
             }
         }
-        Ok(())
     }
 }
 
 /// Whether the error only says that there is no constant.
-fn is_no_constant(error: &Error) -> bool {
+fn is_no_constant(error: &Error) -> bool
+    ensures { result ≡ spec.is_no_constant (fault_of error.now) }
+{
     match error {
         Error::Const(ConstEvalError::Const(_)) => true,
         _ => false,
@@ -107,7 +140,9 @@ fn is_no_constant(error: &Error) -> bool {
 /// The value, or none where it is refused only as no constant.
 fn constant_or_none<'src>(
     evaluated: Result<Value, Error<'src>>,
-) -> Result<Option<Value>, Error<'src>> {
+) -> Result<Option<Value>, Error<'src>>
+    ensures { seen_constant result ≡ constant (Some (seen evaluated.entry)) }
+{
     match evaluated {
         Ok(value) => Ok(Some(value)),
         Err(error) => {
@@ -120,29 +155,59 @@ fn constant_or_none<'src>(
     }
 }
 
-/// What the variable stands for, if it is a constant: the text that overrides it, else its
-/// expression's value.
+/// The variable's value, if it is a constant: the text that overrides it, else its expression's value.
 fn constant_value<'src>(
     alloc: Global,
     overrides: &BTreeMap<Number, String>,
     constants: &ConstEvaluator<'_, 'src>,
     assignment: &Assignment<'src>,
-) -> Result<Option<Value>, Error<'src>> {
-    match overrides.get(&assignment.number) {
-        Some(text) => Ok(Some(Value::from_text(alloc, text.as_str())?)),
-        None => constant_or_none(constants.evaluate_value_const(alloc, &assignment.value)),
+) -> Result<Option<Value>, Error<'src>>
+    ensures { seen_constant result ≢ Some (Err memory) → seen_constant result ≡ constant (settled (reading_in constants.now) (assigned_dialogue (overridden overrides.now assignment.now.number) (const_stage constants.now.lists) (term_of assignment.now.value))) }
+{
+    if let Some(text) = overrides.get(&assignment.number) {
+        return Ok(Some(Value::from_text(alloc, text.as_str())?));
     }
+    constant_or_none(constants.evaluate_value_const(alloc, &assignment.value))
 }
 
-/// Evaluates the variable into the frame, if it is a constant.
+/// Evaluates the variable into the frame, if it has one of these numbers and is a constant.
 fn evaluate_constant<'src>(
     alloc: Global,
     overrides: &BTreeMap<Number, String>,
+    references: &BTreeSet<Number>,
     constants: &mut ConstEvaluator<'_, 'src>,
     assignment: &Assignment<'src>,
-) -> Result<(), Error<'src>> {
+) -> Result<(), Error<'src>>
+    ensures lists { constants.new.lists ≡ constants.old.lists }
+    ensures around { constants.new.scope.outer ≡ constants.old.scope.outer }
+    ensures settles { seen result ≢ Err memory → SettlesTo overrides.now (contains nat_cmp references.now) (assigned assignment.entry ∷ []) constants.old constants.new (refusal result) }
+{
+    if !references.contains(&assignment.number) {
+        return Ok(());
+    }
     let value = constant_value(alloc, overrides, &*constants, assignment)?;
     constants.keep(assignment, value)
+}
+
+/// Evaluates the variable at the place so, if there is one there.
+fn evaluate_place<'src>(
+    alloc: Global,
+    assignments: &[AssignmentRef<'_, 'src>],
+    overrides: &BTreeMap<Number, String>,
+    references: &BTreeSet<Number>,
+    constants: &mut ConstEvaluator<'_, 'src>,
+    place: usize,
+) -> Result<(), Error<'src>>
+    ensures lists { constants.new.lists ≡ constants.old.lists }
+    ensures around { constants.new.scope.outer ≡ constants.old.scope.outer }
+    ensures settles { seen result ≢ Err memory → SettlesTo overrides.now (contains nat_cmp references.now) (ordered assignments.now (place ∷ [])) constants.old constants.new (refusal result) }
+{
+    match assignments.get(place) {
+        Some(variable) => {
+            evaluate_constant(alloc, overrides, references, constants, variable.assignment)
+        }
+        None => Ok(()),
+    }
 }
 
 /// Evaluates the variables of these numbers, in the order of these places.
@@ -153,14 +218,13 @@ fn evaluate_constants<'src>(
     overrides: &BTreeMap<Number, String>,
     references: &BTreeSet<Number>,
     constants: &mut ConstEvaluator<'_, 'src>,
-) -> Result<(), Error<'src>> {
+) -> Result<(), Error<'src>>
+    ensures lists { constants.new.lists ≡ constants.old.lists }
+    ensures around { constants.new.scope.outer ≡ constants.old.scope.outer }
+    ensures settles { seen result ≢ Err memory → SettlesTo overrides.now (contains nat_cmp references.now) (ordered assignments.now evaluation_order.now) constants.old constants.new (refusal result) }
+{
     for place in evaluation_order {
-        if *place < assignments.len() {
-            let assignment = assignments[*place].assignment;
-            if references.contains(&assignment.number) {
-                evaluate_constant(alloc, overrides, constants, assignment)?;
-            }
-        }
+        evaluate_place(alloc, assignments, overrides, references, constants, *place)?;
     }
     Ok(())
 }
@@ -177,7 +241,9 @@ pub fn evaluate_const_assignments<'a, 'src>(
     scope: &'a Scope<'_, 'src>,
     references: &BTreeSet<Number>,
     lists: bool,
-) -> Result<ConstEvaluator<'a, 'src>, Error<'src>> {
+) -> Result<ConstEvaluator<'a, 'src>, Error<'src>>
+    ensures { FindsConstants lists scope.now overrides.now (contains nat_cmp references.now) (ordered assignments.now evaluation_order.now) result }
+{
     let mut constants = ConstEvaluator {
         scope: scope.child(alloc)?,
         non_const: BTreeSet::new(alloc),

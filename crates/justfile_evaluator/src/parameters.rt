@@ -1,5 +1,16 @@
 //! What a recipe's parameters stand for.
+ghost use Rattle.std.specs.Prelude.{◌≡◌, ◌++◌, ◌∷◌, ◌||◌, [], IfErr, IfOk, OnOk, Some, if◌then◌else◌, map};
+ghost use Rattle.std.specs.String.{string_bytes};
+ghost use Rattle.just_text.specs.Tokens.{lexeme};
 ghost use Rattle.just_host.specs.Asking.{Asks};
+ghost use Rattle.just_value.specs.Values.{joined};
+ghost use Rattle.evaluate_context.specs.Refusals.{fault_of, seen};
+ghost use Rattle.evaluate_expressions.specs.Situations.{reading_at, stage_at};
+ghost use Rattle.meaning_dialogues.specs.Dialogue.{Evaluates};
+ghost use Rattle.meaning_dialogues.specs.Faults as faults;
+ghost use Rattle.meaning_stages.specs.Parameters.{default_dialogue, formal_of, given_dialogue, is_star, parameter_dialogue};
+ghost use Rattle.meaning_stages.specs.Parameters as meaning;
+ghost use Rattle.justfile_evaluator.specs.Given.{reading_for, stage_for, times_over};
 
 use evaluate_context::{Error, ExecutionContext, Settings};
 use evaluate_expressions::{Evaluator, internal};
@@ -38,7 +49,10 @@ struct Site<'a, 'src> {
 
 impl<'a, 'src> Site<'a, 'src> {
     /// Evaluates in the frame so far.
-    fn evaluator(&self, env: &'a [Pair], scope: &'a Scope<'a, 'src>) -> Evaluator<'a, 'src> {
+    fn evaluator(&self, env: &'a [Pair], scope: &'a Scope<'a, 'src>) -> Evaluator<'a, 'src>
+        ensures stage { stage_at result ≡ stage_for self.now env.entry.now scope.entry.now }
+        ensures reading { reading_at result ≡ reading_for self.now scope.entry.now }
+    {
         Evaluator::new(
             self.context,
             env,
@@ -111,7 +125,10 @@ fn attribute_pairs<'src, H: Host + Drop, D>(
 }
 
 /// The value so often, one after the other.
-fn repeated(alloc: Global, value: &Value, times: usize) -> Result<Value, AllocError> {
+#[tactic(auto, using(crate::proofs::Given::times_more))]
+fn repeated(alloc: Global, value: &Value, times: usize) -> Result<Value, AllocError>
+    ensures { IfOk result (λ v. v ≡ times_over times value.now) }
+{
     let mut list = Value::new(alloc);
     for _ in 0..times {
         let copy = value.clone()?;
@@ -120,21 +137,33 @@ fn repeated(alloc: Global, value: &Value, times: usize) -> Result<Value, AllocEr
     Ok(list)
 }
 
+/// Whether the parameter may stand for no element.
+fn takes_none(parameter: &Parameter) -> bool
+    ensures { result ≡ (is_star parameter.now.kind || parameter.now.flag) }
+{
+    match parameter.kind {
+        ParameterKind::Star => true,
+        ParameterKind::Plus | ParameterKind::Singular => parameter.flag,
+    }
+}
+
 /// The value of a parameter that is given no element: its default, or the empty list where it takes
 /// any number.
 fn default_value<'src, H: Host + Drop>(
     alloc: Global,
     host: &mut Recorded<H>,
     evaluator: &Evaluator<'_, 'src>,
+    is_dependency: bool,
     parameter: &Parameter<'src>,
     recipe: Name<'src>,
 ) -> Result<Value, Error<'src>>
     ensures asks { Asks H.goes host.old host.new }
+    ensures evaluates { Evaluates (reading_at evaluator.now) (default_dialogue (stage_at evaluator.now) is_dependency (lexeme recipe.entry.token) (formal_of parameter.now) (formal_of parameter.now).default) host.old.entries host.new.entries (seen result) }
 {
     if let Some(default) = &parameter.default {
         return evaluator.evaluate_value(alloc, host, default);
     }
-    if parameter.kind == ParameterKind::Star || parameter.flag {
+    if takes_none(parameter) {
         return Ok(Value::new(alloc));
     }
     Err(Error::EmptyListArgument {
@@ -143,8 +172,31 @@ fn default_value<'src, H: Host + Drop>(
     })
 }
 
-/// What the parameter stands for, by its group of elements: the default where there is none; outside
-/// a dependency what the option stands for, once for each element; else the group.
+/// The value of a parameter that is given elements: outside a dependency the value of its option,
+/// once for each element, where it has one; else the elements.
+fn given_value<'src, H: Host + Drop>(
+    alloc: Global,
+    host: &mut Recorded<H>,
+    evaluator: &Evaluator<'_, 'src>,
+    is_dependency: bool,
+    parameter: &Parameter<'src>,
+    group: &Value,
+) -> Result<Value, Error<'src>>
+    ensures asks { Asks H.goes host.old host.new }
+    ensures evaluates { Evaluates (reading_at evaluator.now) (given_dialogue (stage_at evaluator.now) is_dependency [] group.now (formal_of parameter.now).value is_dependency) host.old.entries host.new.entries (seen result) }
+{
+    if is_dependency {
+        return Ok(group.clone()?);
+    }
+    let Some(value) = &parameter.value else {
+        return Ok(group.clone()?);
+    };
+    let value = evaluator.evaluate_value(alloc, host, value)?;
+    Ok(repeated(alloc, &value, group.len())?)
+}
+
+/// The parameter's value, by its group of elements: the default where there is none; outside a
+/// dependency the value of its option, once for each element; else the group.
 fn parameter_value<'src, H: Host + Drop>(
     alloc: Global,
     host: &mut Recorded<H>,
@@ -155,18 +207,21 @@ fn parameter_value<'src, H: Host + Drop>(
     group: &Value,
 ) -> Result<Value, Error<'src>>
     ensures asks { Asks H.goes host.old host.new }
+    ensures evaluates { Evaluates (reading_for site.now scope.now) (parameter_dialogue (stage_for site.now env.now scope.now) site.now.is_dependency (lexeme site.now.recipe.token) (formal_of parameter.now) group.now) host.old.entries host.new.entries (seen result) }
 {
     let evaluator = site.evaluator(env, scope);
+    let is_dependency = site.is_dependency;
     if group.is_empty() {
-        return default_value(alloc, host, &evaluator, parameter, site.recipe);
+        return default_value(
+            alloc,
+            host,
+            &evaluator,
+            is_dependency,
+            parameter,
+            site.recipe,
+        );
     }
-    match &parameter.value {
-        Some(value) if !site.is_dependency => {
-            let value = evaluator.evaluate_value(alloc, host, value)?;
-            Ok(repeated(alloc, &value, group.len())?)
-        }
-        _ => Ok(group.clone()?),
-    }
+    given_value(alloc, host, &evaluator, is_dependency, parameter, group)
 }
 
 /// Puts the value's elements, or its join, after the words.
@@ -175,24 +230,27 @@ fn push_positional(
     positional: &mut Vec<String>,
     value: &Value,
     each: bool,
-) -> Result<(), AllocError> {
-    if each {
-        for element in value.elements() {
-            positional.push(element.clone()?)?;
-        }
-        Ok(())
-    } else {
-        Ok(positional.push(value.join(alloc)?)?)
+) -> Result<(), AllocError>
+    ensures { OnOk result (map string_bytes positional.new.items ≡ map string_bytes positional.old.items ++ (if each then value.now else joined value.now ∷ [])) }
+{
+    if !each {
+        positional.push(value.join(alloc)?)?;
+        return Ok(());
     }
+    for element in value.elements() {
+        positional.push(element.clone()?)?;
+    }
+    Ok(())
 }
 
 /// What the name is bound to: the value under `lists`, else its join, which of one element is that.
-fn bound_value(alloc: Global, lists: bool, value: Value) -> Result<Value, AllocError> {
+fn bound_value(alloc: Global, lists: bool, value: Value) -> Result<Value, AllocError>
+    ensures { IfOk result (λ v. v ≡ meaning.bound_value lists value) }
+{
     if lists || value.len() == 1 {
-        Ok(value)
-    } else {
-        Value::from_string(alloc, value.join(alloc)?)
+        return Ok(value);
     }
+    Value::from_string(alloc, value.join(alloc)?)
 }
 
 /// Refuses a value whose number of elements the check refuses.
@@ -203,6 +261,7 @@ fn check_count<'src, F: Fn(&Parameter, usize) -> bool>(
     check: &F,
 ) -> Result<(), Error<'src>>
     requires { F.IsAlwaysCallable check.now }
+    ensures refused { IfErr result (λ error. fault_of error ≡ faults.value_count (lexeme recipe.entry.token) (lexeme parameter.now.name.token) found) }
 {
     if check(parameter, found) {
         return Ok(());

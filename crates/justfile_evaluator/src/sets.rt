@@ -1,94 +1,86 @@
 //! Settings, which are constants.
+ghost use Rattle.std.specs.Prelude.{◌≡◌};
+ghost use Rattle.just_text.specs.Tokens.{lexeme};
+ghost use Rattle.justfile_evaluator.specs.SettingValues.{SetsTo, TextSets, ValueSets, WordsSet, with_truth};
+ghost use Rattle.justfile_evaluator.specs.Settled.{reading_in};
+
 use crate::const_evaluator::ConstEvaluator;
 use evaluate_context::{Error, Settings};
 use just_text::{Name, Text};
-use just_value::StringContext;
+use just_value::{StringContext, Value};
 use std::alloc::Global;
 use tree_attribute_sets::Indentation;
-use tree_attributes::Setting;
+use tree_attributes::{Interpreter, Setting};
 use tree_expressions::Expression;
 use tree_items::Set;
 
 impl<'a, 'src> ConstEvaluator<'a, 'src> {
-    /// The one element of a setting's value.
-    fn evaluate_folder(
+    /// Sets the value of a setting.
+    fn set_value(
         &self,
         alloc: Global,
+        value: &mut Value,
+        expression: &Expression<'src>,
+    ) -> Result<(), Error<'src>>
+        ensures { ValueSets (reading_in self.now) self.now.lists expression.now value.old value.new result }
+    {
+        *value = self.evaluate_value_const(alloc, expression)?;
+        Ok(())
+    }
+
+    /// Sets the one element of a setting's value.
+    fn set_text(
+        &self,
+        alloc: Global,
+        text: &mut Option<Text>,
         expression: &Expression<'src>,
         setting: Name<'src>,
-    ) -> Result<Option<Text>, Error<'src>> {
+    ) -> Result<(), Error<'src>>
+        ensures { TextSets (reading_in self.now) self.now.lists (lexeme setting.entry.token) expression.now text.old text.new result }
+    {
         let context = StringContext::Setting(setting);
-        let folder = self.evaluate_string_const(alloc, expression, context)?;
-        Ok(Some(Text::from_string(folder)))
-    }
-
-    /// Sets what the item says of files of variables.
-    fn evaluate_dotenv(
-        &self,
-        alloc: Global,
-        settings: &mut Settings,
-        value: &Setting<'src>,
-    ) -> Result<(), Error<'src>> {
-        match value {
-            Setting::DotenvCommand(e) => {
-                settings.dotenv_command = self.evaluate_value_const(alloc, e)?;
-            }
-            Setting::DotenvFilename(e) => {
-                settings.dotenv_filename = self.evaluate_value_const(alloc, e)?;
-            }
-            Setting::DotenvPath(e) => {
-                settings.dotenv_path = self.evaluate_value_const(alloc, e)?;
-            }
-            _ => {}
-        }
+        let element = self.evaluate_string_const(alloc, expression, context)?;
+        *text = Some(Text::from_string(element));
         Ok(())
     }
 
-    /// Sets what the item says of shells and interpreters.
-    fn evaluate_shell(
+    /// Sets the words of a shell or an interpreter.
+    fn set_words(
         &self,
         alloc: Global,
-        settings: &mut Settings,
-        name: Name<'src>,
-        value: &Setting<'src>,
-    ) -> Result<(), Error<'src>> {
-        match value {
-            Setting::ScriptInterpreter(i) => {
-                settings.script_interpreter = Some(self.evaluate_interpreter(alloc, i, name)?);
-            }
-            Setting::Shell(i) => {
-                settings.shell = Some(self.evaluate_interpreter(alloc, i, name)?);
-            }
-            Setting::WindowsShell(i) => {
-                settings.windows_shell = Some(self.evaluate_interpreter(alloc, i, name)?);
-            }
-            _ => {}
-        }
+        words: &mut Option<Interpreter<Text>>,
+        interpreter: &Interpreter<Expression<'src>>,
+        setting: Name<'src>,
+    ) -> Result<(), Error<'src>>
+        ensures { WordsSet (reading_in self.now) self.now.lists (lexeme setting.entry.token) interpreter.now words.old words.new result }
+    {
+        *words = Some(self.evaluate_interpreter(alloc, interpreter, setting)?);
         Ok(())
     }
 
-    /// Sets what the item says, in place of what an earlier item of the name said. Refused where its
-    /// value isn't constant or is refused, and where memory is.
+    /// Sets what the item says, in place of what an earlier item of the name said. A refused one, for
+    /// what its value is refused for or for want of memory, changes nothing.
     pub fn evaluate_set(
         &self,
         alloc: Global,
         settings: &mut Settings,
         set: &Set<'src>,
-    ) -> Result<(), Error<'src>> {
+    ) -> Result<(), Error<'src>>
+        ensures { SetsTo (reading_in self.now) self.now.lists (lexeme set.now.name.token) set.now.value settings.old settings.new result }
+    {
+        let name = set.name;
         match &set.value {
-            Setting::DotenvCommand(_) | Setting::DotenvFilename(_) | Setting::DotenvPath(_) => {
-                self.evaluate_dotenv(alloc, settings, &set.value)
+            Setting::DotenvCommand(e) => self.set_value(alloc, &mut settings.dotenv_command, e),
+            Setting::DotenvFilename(e) => self.set_value(alloc, &mut settings.dotenv_filename, e),
+            Setting::DotenvPath(e) => self.set_value(alloc, &mut settings.dotenv_path, e),
+            Setting::ScriptInterpreter(i) => {
+                self.set_words(alloc, &mut settings.script_interpreter, i, name)
             }
-            Setting::ScriptInterpreter(_) | Setting::Shell(_) | Setting::WindowsShell(_) => {
-                self.evaluate_shell(alloc, settings, set.name, &set.value)
-            }
-            Setting::Tempdir(e) => {
-                settings.tempdir = self.evaluate_folder(alloc, e, set.name)?;
-                Ok(())
-            }
+            Setting::Shell(i) => self.set_words(alloc, &mut settings.shell, i, name),
+            Setting::WindowsShell(i) => self.set_words(alloc, &mut settings.windows_shell, i, name),
+            Setting::Tempdir(e) => self.set_text(alloc, &mut settings.tempdir, e, name),
             Setting::WorkingDirectory(e) => {
-                settings.working_directory = self.evaluate_folder(alloc, e, set.name)?;
-                Ok(())
+                self.set_text(alloc, &mut settings.working_directory, e, name)
             }
             Setting::Indentation(text) => {
                 settings.indentation = Indentation::from_text(text.cooked.as_str());
@@ -102,8 +94,10 @@ impl<'a, 'src> ConstEvaluator<'a, 'src> {
     }
 }
 
-/// Sets what is true or false.
-fn set_truth(settings: &mut Settings, setting: &Setting) {
+/// Sets what is true or false; any other setting changes nothing.
+fn set_truth(settings: &mut Settings, setting: &Setting)
+    ensures { settings.new ≡ with_truth setting.now settings.old }
+{
     match setting {
         Setting::AllowDuplicateRecipes(b) => settings.allow_duplicate_recipes = *b,
         Setting::AllowDuplicateVariables(b) => settings.allow_duplicate_variables = *b,
@@ -125,6 +119,15 @@ fn set_truth(settings: &mut Settings, setting: &Setting) {
         Setting::ShareSubsequents(b) => settings.share_subsequents = *b,
         Setting::Unstable(b) => settings.unstable = *b,
         Setting::WindowsPowershell(b) => settings.windows_powershell = *b,
-        _ => {}
+        Setting::DotenvCommand(_)
+        | Setting::DotenvFilename(_)
+        | Setting::DotenvPath(_)
+        | Setting::Indentation(_)
+        | Setting::MinimumVersion(_)
+        | Setting::ScriptInterpreter(_)
+        | Setting::Shell(_)
+        | Setting::Tempdir(_)
+        | Setting::WindowsShell(_)
+        | Setting::WorkingDirectory(_) => {}
     }
 }
