@@ -1,16 +1,24 @@
 //! What a recipe's parameters stand for.
-ghost use Rattle.std.specs.Prelude.{◌≡◌, ◌++◌, ◌∷◌, ◌||◌, [], IfErr, IfOk, OnOk, Some, if◌then◌else◌, map};
+ghost use Rattle.std.specs.Prelude.{◌≡◌, ◌++◌, ◌∷◌, ◌||◌, [], Bool, IfErr, IfOk, OnOk, Some, false, if◌then◌else◌, map, true, ℕ};
+ghost use Rattle.std.specs.Fn.{AlwaysReturns};
+ghost use Rattle.std.specs.Option.{option_to_list};
 ghost use Rattle.std.specs.String.{string_bytes};
 ghost use Rattle.just_text.specs.Tokens.{lexeme};
+ghost use Rattle.tree_attribute_sets.specs.Sets.{items_of};
+ghost use Rattle.tree_items.specs.declared.recipe.Parameter as declared;
 ghost use Rattle.just_host.specs.Asking.{Asks};
+ghost use Rattle.just_value.specs.Frames.{Rebinds, value_binding};
 ghost use Rattle.just_value.specs.Values.{joined};
-ghost use Rattle.evaluate_context.specs.Refusals.{fault_of, seen};
+ghost use Rattle.evaluate_context.specs.Refusals.{fault_of, seen, seen_as};
 ghost use Rattle.evaluate_expressions.specs.Situations.{reading_at, stage_at};
+ghost use Rattle.meaning_dialogues.specs.Calls.{HasValues, empty};
 ghost use Rattle.meaning_dialogues.specs.Dialogue.{Evaluates};
 ghost use Rattle.meaning_dialogues.specs.Faults as faults;
-ghost use Rattle.meaning_stages.specs.Parameters.{default_dialogue, formal_of, given_dialogue, is_star, parameter_dialogue};
+ghost use Rattle.meaning_dialogues.specs.Terms.{term_of};
+ghost use Rattle.meaning_parameters.specs.Bindings.{attribute_dialogue, env_term, env_terms, pair_dialogue};
+ghost use Rattle.meaning_stages.specs.Parameters.{Formal, default_dialogue, env_dialogue, formal_of, given_dialogue, is_star, parameter_dialogue, positional_words};
 ghost use Rattle.meaning_stages.specs.Parameters as meaning;
-ghost use Rattle.justfile_evaluator.specs.Given.{reading_for, stage_for, times_over};
+ghost use Rattle.justfile_evaluator.specs.Given.{AreCounted, BoundRecipe, GivenParameters, lists_of, passes_in, reading_for, stage_for, times_over};
 
 use evaluate_context::{Error, ExecutionContext, Settings};
 use evaluate_expressions::{Evaluator, internal};
@@ -33,7 +41,9 @@ pub struct BoundParameters {
 }
 
 /// Whether the commands of a recipe with these attributes get the parameters' values as words.
-pub fn passes_words(settings: &Settings, attributes: &AttributeSet) -> bool {
+pub fn passes_words(settings: &Settings, attributes: &AttributeSet) -> bool
+    ensures { result ≡ passes_in settings.now attributes.now }
+{
     settings.positional_arguments || attributes.contains(AttributeKind::PositionalArguments)
 }
 
@@ -64,6 +74,7 @@ impl<'a, 'src> Site<'a, 'src> {
 }
 
 /// The pair that an `env` attribute gives; none where its value is empty.
+#[tactic(auto, using(meaning_dialogues::proofs::Dialogues::then_goes, meaning_dialogues::proofs::Dialogues::then_stops, meaning_dialogues::proofs::Dialogues::ends))]
 fn env_pair<'src, H: Host + Drop>(
     alloc: Global,
     host: &mut Recorded<H>,
@@ -73,6 +84,7 @@ fn env_pair<'src, H: Host + Drop>(
     name: Name<'src>,
 ) -> Result<Option<Pair>, Error<'src>>
     ensures asks { Asks H.goes host.old host.new }
+    ensures evaluates { Evaluates (reading_at evaluator.now) (pair_dialogue (stage_at evaluator.now) (term_of key.now) (term_of value.now)) host.old.entries host.new.entries (seen_as option_to_list result) }
 {
     let context = StringContext::EnvKey(name.token);
     let key = evaluator.evaluate_string(alloc, host, key, context)?;
@@ -88,6 +100,7 @@ fn env_pair<'src, H: Host + Drop>(
 }
 
 /// The pair that the attribute gives, if it is `env` and its value is not empty.
+#[tactic(auto, using(meaning_parameters::proofs::Pairs::attribute_env, meaning_parameters::proofs::Pairs::attribute_other))]
 fn attribute_pair<'src, H: Host + Drop>(
     alloc: Global,
     host: &mut Recorded<H>,
@@ -97,6 +110,7 @@ fn attribute_pair<'src, H: Host + Drop>(
     item: &AttributeItem<'src>,
 ) -> Result<Option<Pair>, Error<'src>>
     ensures asks { Asks H.goes host.old host.new }
+    ensures evaluates { Evaluates (reading_for site.now scope.now) (attribute_dialogue (stage_for site.now env.now scope.now) (env_term item.now.attribute)) host.old.entries host.new.entries (seen_as option_to_list result) }
 {
     let Attribute::Env { key, value } = &item.attribute else {
         return Ok(None);
@@ -106,6 +120,7 @@ fn attribute_pair<'src, H: Host + Drop>(
 }
 
 /// The pairs of all `env` attributes in order. Each is evaluated with the pairs before it.
+#[tactic(auto, using(meaning_parameters::proofs::Pairs::pairs_first, meaning_parameters::proofs::Pairs::pairs_more, meaning_parameters::proofs::Pairs::pairs_passed, meaning_parameters::proofs::Pairs::pairs_stop, meaning_parameters::proofs::Pairs::pairs_end))]
 fn attribute_pairs<'src, H: Host + Drop, D>(
     alloc: Global,
     host: &mut Recorded<H>,
@@ -114,6 +129,7 @@ fn attribute_pairs<'src, H: Host + Drop, D>(
     recipe: &Recipe<'src, D>,
 ) -> Result<Vec<Pair>, Error<'src>>
     ensures asks { Asks H.goes host.old host.new }
+    ensures evaluates { Evaluates (reading_for site.now scope.now) (env_dialogue (λ pairs. stage_for site.now pairs scope.now) [] (env_terms (items_of recipe.now.attributes))) host.old.entries host.new.entries (seen_as (λ env. env.items) result) }
 {
     let mut env = Vec::new(alloc);
     for item in recipe.attributes.iter() {
@@ -261,7 +277,9 @@ fn check_count<'src, F: Fn(&Parameter, usize) -> bool>(
     check: &F,
 ) -> Result<(), Error<'src>>
     requires { F.IsAlwaysCallable check.now }
-    ensures refused { IfErr result (λ error. fault_of error ≡ faults.value_count (lexeme recipe.entry.token) (lexeme parameter.now.name.token) found) }
+    ensures passed { IfOk result (λ _. (may : declared.Parameter → ℕ → Bool) → AlwaysReturns F.Fn (λ a r. r ≡ may a.0.now a.1.0) check.now → may parameter.now found ≡ true) }
+    ensures refused { IfErr result (λ _. (may : declared.Parameter → ℕ → Bool) → AlwaysReturns F.Fn (λ a r. r ≡ may a.0.now a.1.0) check.now → may parameter.now found ≡ false) }
+    ensures fault { IfErr result (λ error. fault_of error ≡ faults.value_count (lexeme recipe.entry.token) (lexeme parameter.now.name.token) found) }
 {
     if check(parameter, found) {
         return Ok(());
@@ -273,6 +291,23 @@ fn check_count<'src, F: Fn(&Parameter, usize) -> bool>(
     })
 }
 
+/// Puts the words that the parameter gives after the others, where commands get words.
+fn push_words(
+    alloc: Global,
+    positional: &mut Vec<String>,
+    passes_words: bool,
+    parameter: &Parameter,
+    value: &Value,
+) -> Result<(), AllocError>
+    ensures { OnOk result (map string_bytes positional.new.items ≡ map string_bytes positional.old.items ++ (if passes_words then positional_words (formal_of parameter.now) value.now else [])) }
+{
+    if !passes_words {
+        return Ok(());
+    }
+    let each = parameter.kind.is_variadic() || parameter.multiple;
+    push_positional(alloc, positional, value, each)
+}
+
 /// Binds the value in the frame, and puts it after the words, if there are any.
 fn bind_parameter<'src>(
     alloc: Global,
@@ -281,11 +316,12 @@ fn bind_parameter<'src>(
     parameter: &Parameter<'src>,
     site: &Site<'_, 'src>,
     value: Value,
-) -> Result<(), AllocError> {
-    if site.passes_words {
-        let each = parameter.kind.is_variadic() || parameter.multiple;
-        push_positional(alloc, positional, &value, each)?;
-    }
+) -> Result<(), AllocError>
+    ensures around { scope.new.outer ≡ scope.old.outer }
+    ensures words { OnOk result (map string_bytes positional.new.items ≡ map string_bytes positional.old.items ++ (if site.now.passes_words then positional_words (formal_of parameter.now) value else [])) }
+    ensures bound { OnOk result (Rebinds scope.old.own (value_binding parameter.now.name parameter.now.number parameter.now.export (meaning.bound_value (lists_of site.now) value)) scope.new.own) }
+{
+    push_words(alloc, positional, site.passes_words, parameter, &value)?;
     let lists = site.context.module.settings.lists;
     let value = bound_value(alloc, lists, value)?;
     scope.bind_value(parameter.name, parameter.number, parameter.export, value)
@@ -304,6 +340,8 @@ fn bind_parameters<'src, H: Host + Drop, F: Fn(&Parameter, usize) -> bool>(
 ) -> Result<Vec<String>, Error<'src>>
     requires { F.IsAlwaysCallable check.now }
     ensures asks { Asks H.goes host.old host.new }
+    ensures around { scope.new.outer ≡ scope.old.outer }
+    ensures evaluates { (may : declared.Parameter → ℕ → Bool) (counts : Formal → ℕ → Bool) → AlwaysReturns F.Fn (λ a r. r ≡ may a.0.now a.1.0) check.now → AreCounted may counts parameters.now → HasValues scope.old.own empty → GivenParameters site.now env.now counts parameters.now groups.now scope.old host.old.entries host.new.entries scope.new result }
 {
     let mut positional = Vec::new(alloc);
     for (parameter, group) in parameters.iter().zip(groups) {
@@ -333,6 +371,8 @@ pub fn evaluate_parameters<'src, H: Host + Drop, D, F: Fn(&Parameter, usize) -> 
 ) -> Result<BoundParameters, Error<'src>>
     requires { F.IsAlwaysCallable check.now }
     ensures asks { Asks H.goes host.old host.new }
+    ensures around { scope.new.outer ≡ scope.old.outer }
+    ensures evaluates { (may : declared.Parameter → ℕ → Bool) (counts : Formal → ℕ → Bool) → AlwaysReturns F.Fn (λ a r. r ≡ may a.0.now a.1.0) check.now → AreCounted may counts recipe.now.parameters.items → HasValues scope.old.own empty → BoundRecipe context.now is_dependency recipe.now counts groups.now scope.old host.old.entries host.new.entries scope.new result }
 {
     let site = Site {
         context,
