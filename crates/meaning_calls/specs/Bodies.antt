@@ -13,10 +13,11 @@ use Rattle.evaluate_context.specs.Shells.{script_words as default_words}
 use Rattle.meaning_dialogues.specs.Dialogue.{Dialogue, Ends, ◌>>=◌}
 use Rattle.meaning_dialogues.specs.Evaluation.{interpreter_dialogue}
 use Rattle.meaning_stages.specs.Lines.{line_dialogue}
+use Rattle.meaning_parameters.specs.Bindings.{words_for}
 use Rattle.meaning_stages.specs.Parameters.{Bound, under}
 use Rattle.evaluate_context.specs.Surroundings.{by_name, given, removed, job_in}
 use Rattle.meaning_calls.specs.Named.{RecipeRow}
-use Rattle.meaning_calls.specs.Scopes.{piece_in, Configuration, Scene, parameter_names, around, body_standing, body_stage, frame_of, formals, positional_of, valued}
+use Rattle.meaning_calls.specs.Scopes.{piece_in, Configuration, Scene, parameter_names, around, body_standing, body_stage, frame_of, formals, valued}
 use Rattle.meaning_dialogues.specs.Written.{numbered}
 use Rattle.meaning_calls.specs.Groups.{each}
 
@@ -84,7 +85,7 @@ module _ (c : Configuration) (scene : Scene) (name : List ℕ) (recipe : RecipeR
   folder_of = cond (recipe.no_cd || (scene.row.no_cd && not (is_some recipe.folder))) None (Some (folder_below scene.row.folder recipe.folder))
 
   abbrev pub positional : List (List ℕ)
-  positional = positional_of c scene name recipe flag (formals c scene name recipe flag) bound.values
+  positional = words_for (formals c scene name recipe flag) bound.values
 
   -- the recipe's name and its parameters' values, where they are passed; after a script's path these alone
   abbrev pub line_words : List (List ℕ)

@@ -19,7 +19,7 @@ use Rattle.meaning_stages.specs.Lines.{TermPiece as TermPiece, text, interpolati
 use Rattle.evaluate_context.specs.Surroundings.{Surroundings, Standing, sorted_names}
 use Rattle.meaning_dialogues.specs.Calls.{DefinedFunction, Frame, empty, with_parameters}
 use Rattle.meaning_stages.specs.Stages.{run_stage, calls_allowed}
-use Rattle.meaning_stages.specs.Parameters.{Formal, Bound, is_star, under, bound_value, positional_words, bound_dialogue}
+use Rattle.meaning_stages.specs.Parameters.{Formal, Bound, is_star, under, bound_value, bound_dialogue}
 use Rattle.meaning_calls.specs.Named.{ParameterRow, FunctionRow, RecipeRow, ModuleRow}
 use Rattle.meaning_dialogues.specs.Written.{term_in, numbered, unnumbered, numbers_from}
 
@@ -151,11 +151,6 @@ module _ (c : Configuration) (scene : Scene) (name : List ℕ) (recipe : RecipeR
 
   abbrev pub frame_of : Bound → Frame
   frame_of bound = with_parameters empty (numbers_from 0 recipe.parameters) (map (bound_value scene.row.lists) bound.values)
-
-  abbrev pub positional_of : List Formal → List Value → List (List ℕ)
-  positional_of [] values = []
-  positional_of (formal ∷ more) [] = []
-  positional_of (formal ∷ more) (value ∷ values) = positional_words formal value ++ positional_of more values
 
   abbrev pub own_pairs : Bound → List Pair
   own_pairs bound = exported_by scene.row.export recipe.parameters bound.values
