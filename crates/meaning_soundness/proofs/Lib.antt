@@ -1,0 +1,13 @@
+pub mod Endings
+pub mod Results
+pub mod Tables
+pub mod Terms
+pub mod Calls
+pub mod Frames
+pub mod Lines
+pub mod Parameters
+pub mod Bodies
+pub mod Constants
+pub mod Opening
+pub mod Functions
+pub mod Examples
