@@ -1,0 +1,5 @@
+pub mod FileWords
+pub mod Fitting
+pub mod Written
+pub mod ItemsLexed
+pub mod Files

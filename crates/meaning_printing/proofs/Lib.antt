@@ -1,0 +1,15 @@
+pub mod Quiet
+pub mod Spelled
+pub mod Texts
+pub mod Items
+pub mod Heads
+pub mod Headers
+pub mod Lexed
+pub mod Normal
+pub mod Recipes
+pub mod Held
+pub mod Tokens
+pub mod Attributes
+pub mod LinesLexed
+pub mod MoreItems
+pub mod Formats
