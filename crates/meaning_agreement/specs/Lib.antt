@@ -1,0 +1,6 @@
+pub mod Given
+pub mod Kinds
+pub mod Readable
+pub mod Fitting
+pub mod Unasked
+pub mod Opened
