@@ -1,0 +1,14 @@
+pub mod Orders
+pub mod Performing
+pub mod Commands
+pub mod Jobs
+pub mod Scripts
+pub mod Read
+pub mod Marks
+pub mod Texts
+pub mod Cutting
+pub mod Slashes
+pub mod Body
+pub mod Popped
+pub mod Put
+pub mod Shebangs

@@ -1,0 +1,3 @@
+pub mod Performing
+pub mod Left
+pub mod Marked
