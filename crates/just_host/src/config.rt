@@ -1,10 +1,10 @@
-//! What a run is told apart from the justfile.
+//! What a run is given beside the justfile.
 ghost use Rattle.std.specs.Prelude.{◌≤◌};
 
 use just_text::Os;
 use semver::Version;
 
-/// What a run is told apart from the justfile and the words.
+/// What a run is given beside the justfile and the words.
 #[derive(Drop)]
 pub struct Config {
     /// The operating system that the run is for.

@@ -18,7 +18,7 @@ use std::fmt;
 /// ```
 ///
 /// Lines count from 1, and so do columns, in bytes. The line is shown without its end and
-/// without a byte order mark, with four spaces for each tab. A caret stands for each column that
+/// without a byte order mark, with four spaces for each tab. There is a caret for each column that
 /// the token's text on this line takes, at least one. No newline ends the last line.
 #[derive(Clone, Copy)]
 pub struct Excerpt<'a, 'src>(pub &'a Token<'src>);

@@ -74,7 +74,7 @@ IsReason expansion current tokens token OutOfMemory = Unit {0}
 IsReason expansion current tokens token NumbersUsed = Unit {0}
 IsReason expansion current tokens token kind = HaltsBy tokens (file_at word_of expansion current (shown tokens)) token kind
 
--- What a tree holds beside its shape: the texts that its strings stand for, what attributes make of items, and its features.
+-- What a tree holds beside its shape: the texts of its strings, what attributes make of items, and its features.
 pub record IsWhole (origin : Origin) (ast : Ast) : Type 0 where
   pub cooked : All (IsItemCooked origin) ast.items.items
   pub own : All (IsOwnItem origin.expansion) ast.items.items

@@ -16,7 +16,7 @@ abbrev pub items_read : {T : Type 0} → Result (List Entry) (Halt T) → Result
 items_read (Ok es) = Ok (items_in es)
 items_read (Err halt) = Err halt
 
--- A refusal of a token with that kind. No rule is broken for want of numbers; such a refusal would be told as want of memory.
+-- A refusal of a token with that kind. No rule is broken for want of numbers; such a refusal would be given as want of memory.
 abbrev pub IsRefused : Token → CompileErrorKind → CompileError → Type 0
 IsRefused token kinds.NumbersUsed e = e.kind ≡ kinds.OutOfMemory
 IsRefused token kind e = (e.token ≡ token) × (e.kind ≡ kind)

@@ -119,7 +119,7 @@ impl Parser {
         // A refusal holds of the text, which says nothing then.
         ensures refused { IfErr result (λ e. IsRefusal (E.expansion expander.now) version.now (AreUsed numerator.new) src.now e.kind) }
         // It stands at the lexer's fault, or at the token where reading halts; at which token attributes and
-        // parameters break a rule together is not told.
+        // parameters break a rule together is not said.
         ensures place { IfErr result (λ e. Stands (E.expansion expander.now) version.now path.now src.now e.token e.kind) }
         ensures numbers { IfOk result (λ ast. AreInOrder numerator.old numerator.new ast.items.items) }
         // No more numbers of a kind are used than the text has tokens that are not white space.

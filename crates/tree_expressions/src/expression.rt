@@ -11,7 +11,8 @@ use just_text::{Name, Number, Text, Token};
 pub use numbering::VariableNumbers;
 use std::fmt;
 
-/// An expression as it is written.
+/// An expression as it is written. Its order and equality are by all that it holds, places in the file included.
+#[derive(PartialEq, Eq, PartialOrd, Ord)]
 pub enum Expression<'src> {
     /// `lhs && rhs`
     And {
@@ -24,7 +25,7 @@ pub enum Expression<'src> {
         message: Option<Box<Expression<'src>>>,
         name: Name<'src>,
     },
-    /// A command between backticks, and what it stands for.
+    /// A command between backticks, and its text.
     Backtick {
         contents: Text,
         token: Token<'src>,
@@ -91,7 +92,7 @@ pub enum Expression<'src> {
     StringLiteral {
         string_literal: StringLiteral<'src>,
     },
-    /// A name, and the number of what it stands for, once that is known.
+    /// A name, and the number of what it names, once that is known.
     Variable {
         name: Name<'src>,
         number: Option<Number>,

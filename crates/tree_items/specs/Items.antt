@@ -26,7 +26,7 @@ pub record AliasShape : Type 0 where
 abbrev pub alias_shape : Alias (List Name) → AliasShape
 alias_shape a = record { name = lexeme a.name.token; target = path_names a.target }
 
--- an alias whose recipe is known: the recipe's own name stands for its path
+-- an alias whose recipe is known: the recipe's own name in place of its path
 abbrev pub recipe_alias_shape : Alias Name → AliasShape
 recipe_alias_shape a = record { name = lexeme a.name.token; target = lexeme a.target.token ∷ [] }
 

@@ -9,7 +9,7 @@ use std::marker::Model;
 use tree_attribute_sets::AttributeSet;
 use tree_expressions::{Expression, StringLiteral};
 
-/// Another name of a recipe; `T` is what stands for the recipe.
+/// Another name of a recipe; `T` is the type of what it names.
 #[derive(Drop)]
 pub struct Alias<'src, T> {
     pub attributes: AttributeSet<'src>,
@@ -40,7 +40,7 @@ impl<'src> fmt::Display for Alias<'src, Name<'src>> {
     }
 }
 
-/// A name and what it stands for.
+/// A name and its value.
 #[derive(Drop)]
 pub struct Binding<'src, V> {
     pub attributes: AttributeSet<'src>,

@@ -64,7 +64,7 @@ pub struct Parameter<'src> {
     pub number: Number,
     /// The name of its option after one dash.
     pub short: Option<char>,
-    /// What its option stands for, where it takes no value.
+    /// The value of its option, where that takes none.
     pub value: Option<Expression<'src>>,
 }
 
@@ -156,7 +156,7 @@ impl fmt::Display for UnresolvedDependency<'_> {
     }
 }
 
-/// A recipe; `D` is what stands for a dependency.
+/// A recipe; `D` is the type of a dependency.
 #[derive(Drop)]
 pub struct Recipe<'src, D> {
     pub attributes: AttributeSet<'src>,

@@ -8,7 +8,7 @@ use just_text::{Name, Number};
 use std::alloc::{AllocError, Global};
 use std::collections::BTreeMap;
 
-/// Names, each with the number of what it stands for.
+/// Names, each with the number of what it names.
 pub struct ExpressionContext<'src> {
     numbers: BTreeMap<&'src str, Number>,
 }
