@@ -16,3 +16,10 @@ met_and_entered t u v e h f k = record {
   entered = omega (arith, ap (λ l. l.entered) e, k);
   within = λ w. omega (arith, ap (λ l. l.entered) e, ap (λ l. l.calls) e, ap (λ l. l.entered) f, ap (λ l. l.calls) f, w);
 }
+
+pub counted_on : (t u v : Tally) → HasCounted t u → HasCounted u v → HasCounted t v
+counted_on t u v a b = record {
+  calls = omega (arith, a.calls, b.calls);
+  entered = omega (arith, a.entered, b.entered);
+  within = λ w. b.within (a.within w);
+}

@@ -3,7 +3,10 @@ use Rattle.std.proofs.Common.{◌≡◌, ◌∷◌, [], ◌<◌, ◌≤◌, leng
 use Rattle.std.specs.List.{AllByRecursion}
 use Rattle.std.proofs.lemmas.List.Elements.{recursion_from_All}
 use Rattle.std.proofs.Math.Nat.{one-le-pow, pow-le-pow_right, mul-le-mul_left, pow-succ'}
-use Rattle.analyze_runs.specs.Todo.{Todo, Calls, Body, After}
+use Rattle.std.proofs.Common.{Bool, true}
+use Rattle.std.specs.Prelude.{Option}
+use Rattle.analyze_runs.specs.Calls.{CallRow, rows, row_of}
+use Rattle.analyze_runs.specs.Todo.{Todo, EnteredRow, Calls, Body, After}
 use Rattle.analyze_runs.specs.Weight.{most, base, weight_of, weight, AreBelow}
 use Rattle.analyze_runs.specs.declared.call.Call.{Call}
 
@@ -11,20 +14,20 @@ least : 1 ≤ base
 least = omega arith
 
 -- calls below p weigh at most base ^ p each
-weight_below : (p : ℕ) (calls : List Call) → AllByRecursion (λ c. c.recipe < p) calls → weight_of calls ≤ length calls * base ^ p
+weight_below : (p : ℕ) (calls : List Call) → AllByRecursion (λ c. c.recipe < p) calls → weight_of (rows calls) ≤ length calls * base ^ p
 weight_below p [] h = omega arith
 weight_below p (c ∷ cs) h =
     let k : base ^ (c.recipe + 1) ≤ base ^ p = pow-le-pow_right least (omega (arith, h.0)) in
-    let q : weight_of cs ≤ length cs * base ^ p = weight_below p cs h.1 in
+    let q : weight_of (rows cs) ≤ length cs * base ^ p = weight_below p cs h.1 in
     omega (arith, k, q)
 
 -- as many as a list can hold weigh less than so many times base ^ p
 products : (n m x : ℕ) → 1 ≤ x → n < m → n * x + 1 ≤ m * x
 products n m x h k = let l : x * suc n ≤ x * m = mul-le-mul_left x k in omega (arith, l)
 
-pub bounded : (p : ℕ) (calls : List Call) → AreBelow p calls → weight_of calls + 1 ≤ most * base ^ p
+pub bounded : (p : ℕ) (calls : List Call) → AreBelow p calls → weight_of (rows calls) + 1 ≤ most * base ^ p
 bounded p calls h =
-    let q : weight_of calls ≤ length calls * base ^ p = weight_below p calls (recursion_from_All _ calls h.earlier) in
+    let q : weight_of (rows calls) ≤ length calls * base ^ p = weight_below p calls (recursion_from_All _ calls h.earlier) in
     let x : 1 ≤ base ^ p = one-le-pow p base least in
     let l = products (length calls) most (base ^ p) x h.few in
     omega (arith, q, l)
@@ -41,22 +44,17 @@ lighter p =
 
 -- ---- the turns
 
-pub entered : (call : Call) (priors : List Call) (old new : List Todo) → AreBelow call.recipe priors → new ≡ Calls priors ∷ Body call ∷ old
-    → weight new + 1 < weight (Calls (call ∷ []) ∷ old)
-entered call priors old new h e =
-    omega (arith, ap weight e, bounded call.recipe priors h, lighter call.recipe)
+pub entered : (call : Call) (flag above : Bool) (bound : EnteredRow) (calls : List CallRow) (priors : List Call) (old mid new : List Todo) → AreBelow call.recipe priors → mid ≡ Calls above calls ∷ old
+    → new ≡ Calls true (rows priors) ∷ Body (row_of call) flag bound ∷ mid → weight new < weight (Calls above (row_of call ∷ calls) ∷ old)
+entered call flag above bound calls priors old mid new h d e =
+    omega (arith, ap weight d, ap weight e, bounded call.recipe priors h, lighter call.recipe)
 
-pub chained : (call : Call) (calls : List Call) (old mid new : List Todo) → mid ≡ Calls calls ∷ old → weight new + 1 < weight (Calls (call ∷ []) ∷ mid)
-    → weight new < weight (Calls (call ∷ calls) ∷ old)
-chained call calls old mid new e h = omega (arith, ap weight e, h)
-
-pub passed : (call : Call) (calls : List Call) (old new : List Todo) → new ≡ Calls calls ∷ old
-    → weight new < weight (Calls (call ∷ calls) ∷ old)
-passed call calls old new e =
+pub passed : (call : CallRow) (above : Bool) (calls : List CallRow) (old new : List Todo) → new ≡ Calls above calls ∷ old → weight new < weight (Calls above (call ∷ calls) ∷ old)
+passed call above calls old new e =
     let p : 1 ≤ base ^ (call.recipe + 1) = one-le-pow (call.recipe + 1) base least in
     omega (arith, ap weight e, p)
 
-pub behind : (call : Call) (subsequents : List Call) (old new : List Todo) → AreBelow call.recipe subsequents → new ≡ Calls subsequents ∷ After call ∷ old
-    → weight new < weight (Body call ∷ old)
-behind call subsequents old new h e =
+pub behind : (call : Call) (flag : Bool) (bound : EnteredRow) (outer : Option (List CallRow)) (subsequents : List Call) (old new : List Todo) → AreBelow call.recipe subsequents
+    → new ≡ Calls true (rows subsequents) ∷ After (row_of call) outer ∷ old → weight new < weight (Body (row_of call) flag bound ∷ old)
+behind call flag bound outer subsequents old new h e =
     omega (arith, ap weight e, bounded call.recipe subsequents h)

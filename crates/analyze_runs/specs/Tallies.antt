@@ -1,5 +1,6 @@
 -- How often calls are met and entered; each number stays at its greatest value.
 use Rattle.std.specs.Prelude.{◌+◌, ◌-◌, ◌^◌, ◌≤◌, min}
+use Rattle.meaning_runs.specs.Tallies as runs
 use Rattle.analyze_runs.specs.declared.tally.Tally.{Tally}
 
 abbrev pub met_one : Tally → Tally
@@ -13,3 +14,7 @@ pub record HasCounted (old new : Tally) : Type 0 where
   pub calls : old.calls ≤ new.calls
   pub entered : old.entered ≤ new.entered
   pub within : old.entered ≤ old.calls → new.entered ≤ new.calls
+
+-- a tally, as runs see it
+abbrev pub tally_of : Tally → runs.Tally
+tally_of t = record { calls = t.calls; entered = t.entered }

@@ -1,5 +1,7 @@
 //! Calls of recipes, and which were done.
-ghost use Rattle.std.specs.Prelude.{◌≡◌, ◌∷◌, [], MatchOption};
+ghost use Rattle.std.specs.Prelude.{◌≡◌, ◌∷◌, [], MatchOption, IfErr, OnOk, OnErr};
+ghost use Rattle.analyze_runs.specs.Calls.{row_of, same_call};
+ghost use Rattle.meaning_runs.specs.Parts.{is_met, Joins};
 
 use just_value::Value;
 use std::alloc::{AllocError, Global};
@@ -13,27 +15,43 @@ pub struct Call {
     pub groups: Vec<Value>,
 }
 
-/// The calls that were done.
+/// The calls that were done. Contracts see them as a list of recipes by their places with groups.
 #[derive(Drop)]
 pub struct Done {
     calls: BTreeSet<Call>,
 }
 
+impl Model for Done {
+    ghost use Rattle.std.specs.Prelude.{List};
+    ghost use Rattle.analyze_runs.specs.Calls.{CallRow, rows};
+
+    ghost Value = { List CallRow };
+
+    ghost view = { λ d. rows d.calls.keys };
+}
+
 impl Done {
     /// Nothing. Takes no memory.
-    pub fn new(alloc: Global) -> Done {
+    pub fn new(alloc: Global) -> Done
+        ensures { result ≡ [] }
+    {
         Done {
             calls: BTreeSet::new(alloc),
         }
     }
 
-    /// Whether the call was done.
-    pub fn has(&self, call: &Call) -> bool {
+    /// Whether the call was done: one of the same recipe with equal groups.
+    pub fn has(&self, call: &Call) -> bool
+        ensures { result ≡ is_met same_call (row_of call.now) self.now }
+    {
         self.calls.contains(call)
     }
 
-    /// The call is done.
-    pub fn join(&mut self, call: Call) -> Result<(), AllocError> {
+    /// The call is done. Refused only for want of memory; nothing changes then.
+    pub fn join(&mut self, call: Call) -> Result<(), AllocError>
+        ensures joins { OnOk result (Joins same_call (row_of call) self.old self.new) }
+        ensures unchanged { OnErr result (self.new ≡ self.old) }
+    {
         let _ = self.calls.insert(call)?;
         Ok(())
     }

@@ -1,4 +1,5 @@
 //! A recipe's parameters, its confirmation, and the calls around its body.
+ghost use Rattle.std.specs.Prelude.{◌≡◌, IfOk};
 ghost use Rattle.just_host.specs.Asking.{Asks};
 
 use crate::block::block;
@@ -62,6 +63,7 @@ pub(crate) fn entered<'m, 'src, H: RunHost + Drop>(
     is_dependency: bool,
 ) -> Result<Entered<'m, 'src>, RunFault<'src>>
     ensures asks { Asks H.goes host.old host.new }
+    ensures flag { IfOk result (λ e. e.is_dependency ≡ is_dependency) }
 {
     let mut scope = placed.context.scope.child(alloc)?;
     match bind(alloc, host, placed, groups, is_dependency, &mut scope) {

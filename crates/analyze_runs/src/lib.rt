@@ -11,6 +11,7 @@ mod opening;
 mod plan;
 mod running;
 mod stack;
+mod steps;
 pub mod tally;
 
 pub use call::{Call, Done, Pending};

@@ -1,112 +1,27 @@
 //! The loop over what is still to do.
-ghost use Rattle.std.specs.Prelude.{◌≡◌, ◌<◌, ◌+◌, ◌∷◌, [], OnOk, IfOk};
-ghost use Rattle.analyze_runs.specs.Todo.{Calls, Body, After};
-ghost use Rattle.analyze_runs.specs.Tallies.{HasCounted};
-ghost use Rattle.analyze_runs.specs.Weight.{weight, AreBelow};
+ghost use Rattle.std.specs.Prelude.{◌≡◌, ◌<◌, ◌∷◌, [], true, false, cond, OnOk, Some};
+ghost use Rattle.analyze_runs.specs.Calls.{row_of, rows, same_call};
+ghost use Rattle.analyze_runs.specs.Todo.{Calls, Body, After, entered_of};
+ghost use Rattle.analyze_runs.specs.Tallies.{HasCounted, tally_of};
+ghost use Rattle.analyze_runs.specs.Ran.{IfRan, IfTurned};
+ghost use Rattle.analyze_runs.specs.Rest.{Rest, Leads, HasRun};
+ghost use Rattle.analyze_runs.specs.Rest as rest;
+ghost use Rattle.analyze_runs.specs.Steps.{parts};
+ghost use Rattle.analyze_runs.specs.Weight.{weight};
+ghost use Rattle.meaning_runs.specs.Parts.{Joins};
+ghost use Rattle.meaning_runs.specs.Tallies as runs;
 ghost use Rattle.just_host.specs.Asking.{Asks};
 
 use crate::call::{Call, Done, Pending};
-use crate::enter::{begin, end, entered};
 use crate::frame::{Entered, Frame, Subsequents};
-use crate::plan::{Placed, Runner};
+use crate::plan::Runner;
 use crate::stack::Stack;
+use crate::steps::{enter, leave};
 use crate::tally::Tally;
 use just_host::{Recorded, RunHost};
-use just_value::Value;
 use justfile_evaluator::RunFault;
 use std::alloc::{AllocError, Global};
 use std::mem;
-
-/// The calls, if all are of recipes before that place.
-fn ranked<'src>(alloc: Global, calls: Vec<Call>, place: usize) -> Result<Pending, RunFault<'src>>
-    ensures below { IfOk result (AreBelow place) }
-{
-    let _count = calls.len();
-    if calls.iter().any(|call| call.recipe >= place) {
-        return Err(RunFault::internal(alloc, "dependency behind its recipe"));
-    }
-    Ok(Pending::new(calls))
-}
-
-/// A call of no recipe, or of one whose module is none.
-fn lost_recipe<'src>(alloc: Global) -> RunFault<'src> {
-    RunFault::internal(alloc, "call without a recipe")
-}
-
-/// What the recipe is entered with.
-fn boxed<'m, 'src, H: RunHost + Drop>(
-    alloc: Global,
-    host: &mut Recorded<H>,
-    placed: &Placed<'m, 'src>,
-    groups: &[Value],
-    is_dependency: bool,
-) -> Result<Box<Entered<'m, 'src>>, RunFault<'src>>
-    ensures asks { Asks H.goes host.old host.new }
-{
-    let entered = entered(alloc, host, placed, groups, is_dependency)?;
-    Ok(Box::new(alloc, entered)?)
-}
-
-/// Confirms the recipe at the place, and gives the calls before its body.
-fn priors<'src, H: RunHost + Drop>(
-    alloc: Global,
-    host: &mut Recorded<H>,
-    runner: &Runner<'_, 'src>,
-    placed: &Placed<'_, 'src>,
-    entered: &Entered<'_, 'src>,
-    place: usize,
-) -> Result<Pending, RunFault<'src>>
-    ensures below { IfOk result (AreBelow place) }
-    ensures asks { Asks H.goes host.old host.new }
-{
-    let calls = begin(alloc, host, runner, placed, entered)?;
-    ranked(alloc, calls, place)
-}
-
-/// Enters the call's recipe, which is this one.
-fn enter_placed<'m, 'src, H: RunHost + Drop>(
-    alloc: Global,
-    host: &mut Recorded<H>,
-    runner: &Runner<'m, 'src>,
-    placed: &Placed<'m, 'src>,
-    call: &Call,
-    is_dependency: bool,
-) -> Result<(Box<Entered<'m, 'src>>, Pending), RunFault<'src>>
-    ensures below { IfOk result (λ r. AreBelow call.now.recipe r.1) }
-    ensures asks { Asks H.goes host.old host.new }
-{
-    let groups = call.groups.as_slice();
-    let entered = boxed(alloc, host, placed, groups, is_dependency)?;
-    let priors = priors(alloc, host, runner, placed, &entered, call.recipe)?;
-    Ok((entered, priors))
-}
-
-/// Enters the call's recipe: what it is entered with, and the calls before its body.
-fn enter<'m, 'src, H: RunHost + Drop>(
-    alloc: Global,
-    host: &mut Recorded<H>,
-    runner: &Runner<'m, 'src>,
-    call: &Call,
-    is_dependency: bool,
-) -> Result<(Box<Entered<'m, 'src>>, Pending), RunFault<'src>>
-    ensures below { IfOk result (λ r. AreBelow call.now.recipe r.1) }
-    ensures asks { Asks H.goes host.old host.new }
-{
-    let recipes = runner.recipes;
-    let contexts = runner.contexts;
-    let place = call.recipe;
-    if place >= recipes.len() {
-        return Err(lost_recipe(alloc));
-    }
-    let planned = &recipes[place];
-    let module = planned.module;
-    if module >= contexts.len() {
-        return Err(lost_recipe(alloc));
-    }
-    let context = &contexts[module];
-    let placed = Placed { planned, context };
-    enter_placed(alloc, host, runner, &placed, call, is_dependency)
-}
 
 /// Puts the priors on the stack, before the body.
 fn push_entered<'m, 'src>(
@@ -115,7 +30,7 @@ fn push_entered<'m, 'src>(
     entered: Box<Entered<'m, 'src>>,
     priors: Pending,
 ) -> Result<(), AllocError>
-    ensures { OnOk result (stack.new ≡ Calls priors ∷ Body call ∷ stack.old) }
+    ensures { OnOk result (stack.new ≡ Calls true (rows priors) ∷ Body (row_of call) entered.entry.value.is_dependency (entered_of entered.entry.value) ∷ stack.old) }
 {
     stack.push(Frame::Body { call, entered })?;
     stack.push(Frame::Calls {
@@ -125,7 +40,6 @@ fn push_entered<'m, 'src>(
 }
 
 /// Runs the first of the calls, unless it was done.
-#[tactic(auto, using(crate::proofs::Weights::passed, crate::proofs::Weights::chained, crate::proofs::Weights::entered, crate::proofs::Counts::met, crate::proofs::Counts::met_and_entered))]
 fn turn_calls<'m, 'src, H: RunHost + Drop>(
     alloc: Global,
     host: &mut Recorded<H>,
@@ -136,9 +50,13 @@ fn turn_calls<'m, 'src, H: RunHost + Drop>(
     mut pending: Pending,
     are_dependencies: bool,
 ) -> Result<(), RunFault<'src>>
-    ensures nearer { OnOk result (weight stack.new < weight (Calls pending ∷ stack.old)) }
+    ensures nearer { OnOk result (weight stack.new < weight (Calls are_dependencies (rows pending) ∷ stack.old)) }
     ensures counted { HasCounted tally.old tally.new }
     ensures asks { Asks H.goes host.old host.new }
+    // What the stack does from here on, it did with these calls on it; a failure ends the run.
+    ensures goes { IfTurned host.new.exhausted result
+        (Leads (parts runner.now) (Calls are_dependencies (rows pending) ∷ stack.old) done.now host.old.entries (tally_of tally.old) stack.new done.now host.new.entries (tally_of tally.new))
+        (λ failure. Rest (parts runner.now) (Calls are_dependencies (rows pending) ∷ stack.old) done.now host.old.entries (tally_of tally.old) host.new.entries (tally_of tally.new) (Some failure)) }
 {
     let Some(call) = pending.next() else {
         return Ok(());
@@ -158,7 +76,10 @@ fn turn_calls<'m, 'src, H: RunHost + Drop>(
 
 /// Sets aside what was done, so that nothing is done for subsequents; sets nothing aside where they
 /// share it.
-fn set_aside(alloc: Global, done: &mut Done, are_shared: bool) -> Option<Done> {
+fn set_aside(alloc: Global, done: &mut Done, are_shared: bool) -> Option<Done>
+    ensures aside { result ≡ rest.set_aside are_shared done.old }
+    ensures left { done.new ≡ cond are_shared done.old [] }
+{
     if are_shared {
         return None;
     }
@@ -167,7 +88,9 @@ fn set_aside(alloc: Global, done: &mut Done, are_shared: bool) -> Option<Done> {
 
 /// Takes back what was set aside, and drops what was done since; keeps that where nothing was set
 /// aside.
-fn restore(done: &mut Done, outer: Option<Done>) {
+fn restore(done: &mut Done, outer: Option<Done>)
+    ensures { done.new ≡ rest.restored outer done.old }
+{
     if let Some(outer) = outer {
         let _inner = mem::replace(done, outer);
     }
@@ -182,7 +105,8 @@ fn push_subsequents<'m, 'src>(
     call: Call,
     subsequents: Subsequents,
 ) -> Result<(), AllocError>
-    ensures { OnOk result (stack.new ≡ Calls subsequents.calls ∷ After call ∷ stack.old) }
+    ensures stack { OnOk result (stack.new ≡ Calls true (rows subsequents.calls) ∷ After (row_of call) (rest.set_aside subsequents.are_shared done.old) ∷ stack.old) }
+    ensures done { OnOk result (done.new ≡ cond subsequents.are_shared done.old []) }
 {
     let Subsequents { calls, are_shared } = subsequents;
     let outer = set_aside(alloc, done, are_shared);
@@ -193,53 +117,7 @@ fn push_subsequents<'m, 'src>(
     })
 }
 
-/// Runs the body of the recipe at the place, and gives the calls after it.
-fn subsequents<'src, H: RunHost + Drop>(
-    alloc: Global,
-    host: &mut Recorded<H>,
-    runner: &Runner<'_, 'src>,
-    placed: &Placed<'_, 'src>,
-    entered: &Entered<'_, 'src>,
-    place: usize,
-) -> Result<Subsequents, RunFault<'src>>
-    ensures below { IfOk result (λ behind. AreBelow place behind.calls) }
-    ensures asks { Asks H.goes host.old host.new }
-{
-    let calls = end(alloc, host, runner, placed, entered)?;
-    Ok(Subsequents {
-        calls: ranked(alloc, calls, place)?,
-        are_shared: placed.context.module.settings.share_subsequents,
-    })
-}
-
-/// Runs the body of the recipe at the place, if there is one, and gives the calls after it.
-fn leave<'src, H: RunHost + Drop>(
-    alloc: Global,
-    host: &mut Recorded<H>,
-    runner: &Runner<'_, 'src>,
-    place: usize,
-    entered: &Entered<'_, 'src>,
-) -> Result<Subsequents, RunFault<'src>>
-    ensures below { IfOk result (λ behind. AreBelow place behind.calls) }
-    ensures asks { Asks H.goes host.old host.new }
-{
-    let recipes = runner.recipes;
-    let contexts = runner.contexts;
-    if place >= recipes.len() {
-        return Err(lost_recipe(alloc));
-    }
-    let planned = &recipes[place];
-    let module = planned.module;
-    if module >= contexts.len() {
-        return Err(lost_recipe(alloc));
-    }
-    let context = &contexts[module];
-    let placed = Placed { planned, context };
-    subsequents(alloc, host, runner, &placed, entered, place)
-}
-
 /// Runs the call's body, and puts what follows it on the stack.
-#[tactic(auto, using(crate::proofs::Weights::behind))]
 fn turn_body<'m, 'src, H: RunHost + Drop>(
     alloc: Global,
     host: &mut Recorded<H>,
@@ -249,11 +127,23 @@ fn turn_body<'m, 'src, H: RunHost + Drop>(
     call: Call,
     entered: &Entered<'m, 'src>,
 ) -> Result<(), RunFault<'src>>
-    ensures nearer { OnOk result (weight stack.new < weight (Body call ∷ stack.old)) }
+    ensures nearer { OnOk result (weight stack.new < weight (Body (row_of call) entered.now.is_dependency (entered_of entered.now) ∷ stack.old)) }
     ensures asks { Asks H.goes host.old host.new }
+    // What the stack does from here on, it did with this body on it, for every tally; a failure ends the run.
+    ensures goes { (t : runs.Tally) → IfTurned host.new.exhausted result
+        (Leads (parts runner.now) (Body (row_of call) entered.now.is_dependency (entered_of entered.now) ∷ stack.old) done.old host.old.entries t stack.new done.new host.new.entries t)
+        (λ failure. Rest (parts runner.now) (Body (row_of call) entered.now.is_dependency (entered_of entered.now) ∷ stack.old) done.old host.old.entries t host.new.entries t (Some failure)) }
 {
-    let subsequents = leave(alloc, host, runner, call.recipe, entered)?;
+    let subsequents = leave(alloc, host, runner, &call, entered)?;
     Ok(push_subsequents(alloc, stack, done, call, subsequents)?)
+}
+
+/// Takes back what was done before subsequents, unless they shared it, and the call is done.
+fn turn_after(done: &mut Done, call: Call, outer: Option<Done>) -> Result<(), AllocError>
+    ensures { OnOk result (Joins same_call (row_of call) (rest.restored outer done.old) done.new) }
+{
+    restore(done, outer);
+    done.join(call)
 }
 
 fn run_stack<'m, 'src, H: RunHost + Drop>(
@@ -266,28 +156,30 @@ fn run_stack<'m, 'src, H: RunHost + Drop>(
 ) -> Result<(), RunFault<'src>>
     ensures counted { HasCounted tally.old tally.new }
     ensures asks { Asks H.goes host.old host.new }
+    ensures goes { IfRan host.new.exhausted result (Rest (parts runner.now) stack.old done.old host.old.entries (tally_of tally.old) host.new.entries (tally_of tally.new)) }
 {
     while let Some(frame) = stack.pop() {
         match frame {
             Frame::Calls {
                 pending,
                 are_dependencies,
-            } => turn_calls(
-                alloc,
-                host,
-                runner,
-                stack,
-                &*done,
-                tally,
-                pending,
-                are_dependencies,
-            )?,
+            } => {
+                turn_calls(
+                    alloc,
+                    host,
+                    runner,
+                    stack,
+                    &*done,
+                    tally,
+                    pending,
+                    are_dependencies,
+                )?;
+            }
             Frame::Body { call, entered } => {
                 turn_body(alloc, host, runner, stack, done, call, &entered)?;
             }
             Frame::After { call, outer } => {
-                restore(done, outer);
-                done.join(call)?;
+                turn_after(done, call, outer)?;
             }
         }
     }
@@ -308,6 +200,8 @@ pub fn run_calls<'m, 'src, H: RunHost + Drop>(
     // No number falls, and no more calls are entered than met.
     ensures counted { HasCounted tally.old tally.new }
     ensures asks { Asks H.goes host.old host.new }
+    // Where memory suffices, the record and the tally grow by a run of the calls with nothing done at first.
+    ensures goes { IfRan host.new.exhausted result (HasRun (parts runner.now) (rows calls.items) host.old.entries (tally_of tally.old) host.new.entries (tally_of tally.new)) }
 {
     let mut done = Done::new(alloc);
     let mut stack = Stack::new(alloc);

@@ -3,9 +3,10 @@ ghost use Rattle.std.specs.Prelude.{◌≡◌, ◌<◌, ◌≤◌, ◌&&◌, ℕ
 ghost use Rattle.std.specs.BTreeMap.{IsEmpty, IsUnchanged, insert_entry};
 ghost use Rattle.std.specs.Cmp.Lexicographic.{slice_cmp};
 ghost use Rattle.std.specs.List.{count_by, list_any, position};
-ghost use Rattle.std.specs.Option.{option_map};
+ghost use Rattle.std.specs.Option.{IfSome, option_and_then, option_map};
 ghost use Rattle.std.specs.Ordering.{nat_cmp};
 ghost use Rattle.analyze_words.specs.Menus as spec;
+ghost use Rattle.analyze_words.specs.Worded.{IsThere, as_word, inner_of, words_of};
 ghost use Rattle.analyze_words.specs.declared.menu.Slot.{Slot};
 
 use std::alloc::{AllocError, Global};
@@ -199,6 +200,31 @@ impl<'a> Menus<'a> {
             return None;
         }
         self.modules[place].look_up(name)
+    }
+
+    /// What words mean by the name in the module at that place: as `look_up`, and nothing where no
+    /// recipe stands at the recipe's place.
+    pub(crate) fn word_meaning(&self, place: usize, name: &str) -> Option<Meaning>
+        ensures meaning { option_map as_word result ≡ (words_of self.now).meaning place name.now }
+        ensures there { IfSome result (IsThere self.now) }
+    {
+        match self.look_up(place, name) {
+            None => None,
+            Some(Meaning::Submodule(inner)) => Some(Meaning::Submodule(inner)),
+            Some(Meaning::Recipe(recipe)) => {
+                (recipe < self.recipes.len()).then_some(Meaning::Recipe(recipe))
+            }
+        }
+    }
+
+    /// The place of the module that the name stands for in the module at that place.
+    pub(crate) fn submodule(&self, place: usize, name: &str) -> Option<usize>
+        ensures { result ≡ option_and_then inner_of ((words_of self.now).meaning place name.now) }
+    {
+        match self.look_up(place, name) {
+            Some(Meaning::Submodule(inner)) => Some(inner),
+            _ => None,
+        }
     }
 
     /// The recipe at that place.

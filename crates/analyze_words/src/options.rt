@@ -1,11 +1,19 @@
 //! The parameters of a recipe by the names of their options.
-ghost use Rattle.std.specs.Prelude.{◌≡◌, ℕ, List, IfOk, OnOk, Some, cond};
+ghost use Rattle.std.specs.Prelude.{◌≡◌, ℕ, List, IfOk, OnOk, Some, cond, false, map, codes};
 ghost use Rattle.std.specs.Borrow.{Bor};
 ghost use Rattle.std.specs.BTreeMap.{get};
 ghost use Rattle.std.specs.Cmp.Lexicographic.{slice_cmp};
 ghost use Rattle.std.specs.List.{position};
 ghost use Rattle.std.specs.Ordering.{nat_cmp};
+ghost use Rattle.std.specs.Option.{option_map};
+ghost use Rattle.std.specs.Prelude.{drop};
+ghost use Rattle.tree_expressions.specs.Cutting.{begins};
 ghost use Rattle.analyze_words.specs.Menus as spec;
+ghost use Rattle.analyze_words.specs.Takings.{ArePlaces};
+ghost use Rattle.meaning_runs.specs.Invokes.{before_equals, behind_equals};
+ghost use Rattle.meaning_runs.specs.Words.{option_named};
+ghost use Rattle.analyze_words.specs.Worded.{slot_of};
+ghost use Rattle.analyze_words.specs.declared.menu.Slot as declared;
 
 use crate::menu::Slot;
 use std::alloc::{AllocError, Global};
@@ -76,5 +84,43 @@ impl<'a> OptionPlaces<'a> {
         ensures { result ≡ spec.short_place self.now name }
     {
         self.short.get(&name).copied()
+    }
+}
+
+/// The place of the parameter with an option of one letter, `-x`.
+fn short_place(places: &OptionPlaces, name: &str) -> Option<usize>
+    ensures { (slots : List declared.Slot) → ArePlaces slots places.now → begins name.now (codes "--") ≡ false → result ≡ option_named (map slot_of slots) name.now }
+{
+    let Some(letters) = name.strip_prefix("-") else {
+        return None;
+    };
+    let mut letters = letters.chars();
+    let Some(letter) = letters.next() else {
+        return None;
+    };
+    if letters.next().is_some() {
+        return None;
+    }
+    places.short(letter)
+}
+
+/// The place of the parameter whose option has this name, with its dashes.
+pub(crate) fn option_place(places: &OptionPlaces, name: &str) -> Option<usize>
+    ensures { (slots : List declared.Slot) → ArePlaces slots places.now → result ≡ option_named (map slot_of slots) name.now }
+{
+    match name.strip_prefix("--") {
+        Some(long) => places.long(long),
+        None => short_place(places, name),
+    }
+}
+
+/// What stands up to the first `=`, and what stands after it, if there is one.
+pub(crate) fn split_at_equals(word: &str) -> (&str, Option<&str>)
+    ensures name { result.0.now ≡ before_equals word.now }
+    ensures value { option_map (λ value. value.now) result.1 ≡ behind_equals word.now }
+{
+    match word.split_once('=') {
+        Some((name, value)) => (name, Some(value)),
+        None => (word, None),
     }
 }

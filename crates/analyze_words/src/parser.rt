@@ -1,10 +1,16 @@
 //! From words to invocations.
+ghost use Rattle.std.specs.Prelude.{◌≡◌, ◌<◌, ◌∷◌, ℕ, List, [], IfErr, IfOk, OnOk, Some, false, length, map};
+ghost use Rattle.analyze_words.specs.Broken.{IsRefusedBy, PathBreaks};
+ghost use Rattle.analyze_words.specs.Reading.{ReadsAll, ReadsOne};
+ghost use Rattle.meaning_runs.specs.Invokes as spec;
+ghost use Rattle.modules_compilation.specs.Modulepaths.{pieces};
+ghost use Rattle.analyze_words.specs.Worded.{IsThere, as_word, row_of, words_of};
+
 use crate::fault::WordFault;
-use crate::menu::{Callable, Meaning, Menus};
-use crate::taking::Taking;
+use crate::menu::{Meaning, Menus};
+use crate::taking::take_words;
 use just_text::{Sequence, Text};
 use std::alloc::Global;
-use std::mem;
 
 /// A recipe by its place, and a group of values for each of its parameters.
 #[derive(Drop)]
@@ -13,16 +19,11 @@ pub struct Invocation {
     pub groups: Vec<Sequence<Text>>,
 }
 
-/// Reads the words one by one.
+/// Reads words by what menus say.
 #[derive(Drop)]
 pub struct InvocationParser<'a, 'm> {
     alloc: Global,
     menus: &'a Menus<'m>,
-    invocations: Vec<Invocation>,
-    /// The place of the module in which the next name is looked up.
-    module: usize,
-    /// The recipe that takes words.
-    taking: Option<Taking<'m>>,
 }
 
 impl<'a, 'm> InvocationParser<'a, 'm> {
@@ -41,115 +42,104 @@ impl<'a, 'm> InvocationParser<'a, 'm> {
         alloc: Global,
         menus: &'a Menus<'m>,
         words: &[Text],
-    ) -> Result<Vec<Invocation>, WordFault> {
+    ) -> Result<Vec<Invocation>, WordFault>
+        ensures found { IfOk result (λ list. spec.Invoke (words_of menus.now) words.now (map row_of list.items)) }
+        ensures refused { IfErr result (IsRefusedBy (spec.BreaksWords (words_of menus.now) words.now)) }
+    {
+        let mut invocations = Vec::new(alloc);
         if words.is_empty() && menus.default_list {
-            return Ok(Vec::new(alloc));
+            return Ok(invocations);
         }
-        let mut parser = InvocationParser {
-            alloc,
-            menus,
-            invocations: Vec::new(alloc),
-            module: 0,
-            taking: None,
-        };
-        match parser.read_all(words) {
-            Ok(()) => Ok(parser.into_invocations()),
+        let parser = InvocationParser { alloc, menus };
+        match parser.read_all(&mut invocations, words) {
+            Ok(()) => Ok(invocations),
             Err(fault) => {
-                drop(parser);
+                drop(invocations);
                 Err(fault)
             }
         }
     }
 
-    fn into_invocations(self) -> Vec<Invocation> {
-        let InvocationParser { invocations, .. } = self;
-        invocations
-    }
-
-    /// Reads all words, and ends what the last one left open.
-    fn read_all(&mut self, words: &[Text]) -> Result<(), WordFault> {
-        for word in words {
-            self.read(word.as_str())?;
-        }
-        if self.taking.is_some() {
-            return self.close();
-        }
-        self.run_default()
-    }
-
-    /// Reads a word.
-    fn read(&mut self, word: &str) -> Result<(), WordFault> {
-        if self.take(word)? {
-            return Ok(());
-        }
-        self.close()?;
-        self.start(word)
-    }
-
-    /// Whether the open recipe takes the word.
-    fn take(&mut self, word: &str) -> Result<bool, WordFault> {
-        let menus = self.menus;
-        let Some(taking) = &mut self.taking else {
-            return Ok(false);
-        };
-        match menus.recipe(taking.recipe) {
-            Some(callable) => taking.take(self.alloc, callable, word),
-            None => Ok(false),
-        }
-    }
-
-    /// Ends the open recipe's words, if there is one; the next name is looked up in the root.
-    fn close(&mut self) -> Result<(), WordFault> {
-        let Some(taking) = mem::replace(&mut self.taking, None) else {
-            return Ok(());
-        };
-        self.module = 0;
-        let recipe = taking.recipe;
-        let Some(callable) = self.menus.recipe(recipe) else {
-            return Ok(());
-        };
-        let groups = taking.finish(self.alloc, callable)?;
-        Ok(self.invocations.push(Invocation { recipe, groups })?)
-    }
-
-    /// Reads a name: of a recipe, which takes the words after it, or of a submodule.
-    fn start(&mut self, word: &str) -> Result<(), WordFault> {
-        match self.resolve(word)? {
-            Meaning::Recipe(place) => self.open(place, word),
-            Meaning::Submodule(place) => {
-                self.module = place;
-                Ok(())
+    /// Reads all words.
+    fn read_all(&self, invocations: &mut Vec<Invocation>, words: &[Text]) -> Result<(), WordFault>
+        ensures found { OnOk result (spec.IsAsked (words_of self.now.menus.now) words.now → ReadsAll (words_of self.now.menus.now) words.now invocations.old.items invocations.new.items) }
+        ensures refused { IfErr result (λ fault. spec.IsAsked (words_of self.now.menus.now) words.now → IsRefusedBy (spec.BreaksWords (words_of self.now.menus.now) words.now) fault) }
+    {
+        let mut left = words;
+        loop {
+            left = self.read_one(invocations, left)?;
+            if left.is_empty() {
+                return Ok(());
             }
         }
     }
 
-    /// The words after are the recipe's.
-    fn open(&mut self, recipe: usize, word: &str) -> Result<(), WordFault> {
+    /// Reads the words of one recipe, and gives those that are left.
+    fn read_one<'w>(
+        &self,
+        invocations: &mut Vec<Invocation>,
+        words: &'w [Text],
+    ) -> Result<&'w [Text], WordFault>
+        ensures found { IfOk result (λ left. ReadsOne (words_of self.now.menus.now) words.now invocations.old.items invocations.new.items left.now) }
+        ensures shorter { IfOk result (λ left. 0 < length left.now → length left.now < length words.now) }
+        ensures refused { IfErr result (IsRefusedBy (spec.BreaksFirst (words_of self.now.menus.now) words.now)) }
+    {
+        let (recipe, behind) = self.find(words)?;
         let Some(callable) = self.menus.recipe(recipe) else {
-            return Err(WordFault::unknown_recipe(self.alloc, word));
+            return Err(WordFault::NoRecipes);
         };
-        self.taking = Some(Taking::new(self.alloc, recipe, callable)?);
-        Ok(())
+        let (groups, left) = take_words(self.alloc, callable, behind)?;
+        invocations.push(Invocation { recipe, groups })?;
+        Ok(left)
     }
 
-    /// What the path stands for in the current module.
-    fn resolve(&self, word: &str) -> Result<Meaning, WordFault> {
-        let mut meaning = Some(Meaning::Submodule(self.module));
-        for part in word.split("::") {
-            let Some(Meaning::Submodule(module)) = meaning else {
+    /// The place of the recipe that words name, and the words after its name.
+    fn find<'w>(&self, words: &'w [Text]) -> Result<(usize, &'w [Text]), WordFault>
+        ensures found { IfOk result (λ both. spec.find (words_of self.now.menus.now) 0 words.now ≡ spec.found both.0 both.1.now) }
+        ensures there { IfOk result (λ both. both.0 < length self.now.menus.now.recipes.items) }
+        ensures shorter { IfOk result (λ both. 0 < length both.1.now → length both.1.now < length words.now) }
+        ensures refused { IfErr result (IsRefusedBy (λ rule. spec.find (words_of self.now.menus.now) 0 words.now ≡ spec.refused rule)) }
+    {
+        let mut here = 0;
+        let mut left = words;
+        while let Some((word, others)) = left.split_first() {
+            left = others;
+            match self.resolve(here, word.as_str())? {
+                Meaning::Recipe(place) => return Ok((place, left)),
+                Meaning::Submodule(place) => here = place,
+            }
+        }
+        Ok((self.default(here)?, left))
+    }
+
+    /// What the path stands for in the module.
+    fn resolve(&self, place: usize, word: &str) -> Result<Meaning, WordFault>
+        ensures found { IfOk result (λ meaning. spec.follow (words_of self.now.menus.now) place (pieces word.now) ≡ spec.means (Some (as_word meaning))) }
+        ensures there { IfOk result (IsThere self.now.menus.now) }
+        ensures refused { IfErr result (IsRefusedBy (PathBreaks (spec.follow (words_of self.now.menus.now) place (pieces word.now)))) }
+    {
+        let mut here = place;
+        let mut path = word;
+        while let Some((name, others)) = path.split_once("::") {
+            let Some(inner) = self.menus.submodule(here, name) else {
                 return Err(WordFault::unknown_module(self.alloc, word));
             };
-            meaning = self.menus.look_up(module, part);
+            here = inner;
+            path = others;
         }
-        match meaning {
+        match self.menus.word_meaning(here, path) {
             Some(meaning) => Ok(meaning),
             None => Err(WordFault::unknown_recipe(self.alloc, word)),
         }
     }
 
-    /// Runs the current module's default.
-    fn run_default(&mut self) -> Result<(), WordFault> {
-        let Some(recipe) = self.menus.default(self.module) else {
+    /// The place of the module's default, which may not need words.
+    fn default(&self, place: usize) -> Result<usize, WordFault>
+        ensures found { IfOk result (λ recipe. spec.default_of (words_of self.now.menus.now) ((words_of self.now.menus.now).default place) ≡ spec.found recipe []) }
+        ensures there { IfOk result (λ recipe. recipe < length self.now.menus.now.recipes.items) }
+        ensures refused { IfErr result (IsRefusedBy (λ rule. spec.default_of (words_of self.now.menus.now) ((words_of self.now.menus.now).default place) ≡ spec.refused rule)) }
+    {
+        let Some(recipe) = self.menus.default(place) else {
             return Err(WordFault::NoRecipes);
         };
         let Some(callable) = self.menus.recipe(recipe) else {
@@ -158,12 +148,6 @@ impl<'a, 'm> InvocationParser<'a, 'm> {
         if callable.needs_words() {
             return Err(WordFault::default_needs_arguments(self.alloc, callable.name));
         }
-        self.run_without_words(recipe, callable)
-    }
-
-    fn run_without_words(&mut self, recipe: usize, callable: &Callable) -> Result<(), WordFault> {
-        let taking = Taking::new(self.alloc, recipe, callable)?;
-        let groups = taking.finish(self.alloc, callable)?;
-        Ok(self.invocations.push(Invocation { recipe, groups })?)
+        Ok(recipe)
     }
 }

@@ -1,7 +1,7 @@
-//! Counts what the first word says: the tokens or the items of the text on standard input, or what
-//! comes of lists of texts. benches/lex, benches/parse and benches/values measure it. After `told` it
-//! writes what comes of files that are driven under a host which answers by a script:
-//! tests/scripted compares it.
+//! Counts what the first word says: the tokens or the items of the text on standard input, what comes
+//! of lists of texts, or the bytes that tokens and the parts of trees take. benches/lex, benches/parse
+//! and benches/values measure it. After `scripted` it writes what comes of files that are driven under a
+//! host which answers by a script: tests/scripted compares it.
 //!
 //! A second word after `tokens` or `items` is how often it is done (default: once).
 #![tactic(auto)]
@@ -9,8 +9,9 @@
 mod input;
 mod items;
 mod keyed;
+mod scripted;
+mod sizes;
 mod tokens;
-mod told;
 mod values;
 
 use anyhow::{Context, Result, bail};
@@ -23,7 +24,8 @@ enum Counted {
     Tokens,
     Items,
     Values,
-    Told,
+    Sizes,
+    Scripted,
 }
 
 /// What the word names, if anything.
@@ -32,7 +34,8 @@ fn find_counted(word: &str) -> Option<Counted> {
         "tokens" => Some(Counted::Tokens),
         "items" => Some(Counted::Items),
         "values" => Some(Counted::Values),
-        "told" => Some(Counted::Told),
+        "sizes" => Some(Counted::Sizes),
+        "scripted" => Some(Counted::Scripted),
         _ => None,
     }
 }
@@ -52,8 +55,9 @@ fn run(rt: &HostRuntime) -> Result<()> {
         Some(Counted::Tokens) => tokens::run(rt),
         Some(Counted::Items) => items::run(rt),
         Some(Counted::Values) => values::run(rt),
-        Some(Counted::Told) => told::run(rt),
-        None => bail!("the first word is 'tokens', 'items', 'values' or 'told'"),
+        Some(Counted::Sizes) => sizes::run(rt),
+        Some(Counted::Scripted) => scripted::run(rt),
+        None => bail!("the first word is 'tokens', 'items', 'values', 'sizes' or 'scripted'"),
     }
 }
 

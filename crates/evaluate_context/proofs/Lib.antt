@@ -1,3 +1,4 @@
+pub mod ByName
 pub mod Environments
 pub mod FirstNamed
 pub mod LastValues

@@ -2,6 +2,7 @@ pub mod Calling
 pub mod Conditions
 pub mod Frames
 pub mod InterpreterWords
+pub mod Known
 pub mod Levels
 pub mod LineParts
 pub mod Named

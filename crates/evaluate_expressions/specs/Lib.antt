@@ -1,3 +1,4 @@
 pub mod Failures
 pub mod Interpreters
+pub mod Known
 pub mod Situations

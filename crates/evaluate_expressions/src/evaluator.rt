@@ -1,5 +1,5 @@
 //! Values of expressions.
-ghost use Rattle.std.specs.Prelude.{◌≡◌, ◌≢◌, ◌-◌, [], false, Err, None};
+ghost use Rattle.std.specs.Prelude.{◌≡◌, ◌≢◌, ◌-◌, [], Bool, false, Err, None};
 ghost use Rattle.std.specs.BTreeSet.{contains};
 ghost use Rattle.std.specs.Option.{option_map};
 ghost use Rattle.std.specs.Ordering.{nat_cmp};
@@ -10,16 +10,18 @@ ghost use Rattle.evaluate_functions.specs.Arguments.{takes_text};
 ghost use Rattle.evaluate_functions.specs.Names.{function_of};
 ghost use Rattle.evaluate_context.specs.Refusals.{seen, seen_as};
 ghost use Rattle.evaluate_expressions.specs.Failures.{seen_above, seen_above_as};
+ghost use Rattle.evaluate_expressions.specs.Known.{TermKnownBy, BodiesKnownBy};
 ghost use Rattle.evaluate_expressions.specs.Situations.{stage_at, reading_at, running_stage, is_non_const, defined_at, builtin_at, called_builtin, calls_in};
 ghost use Rattle.just_host.specs.Asking.{Asks};
 ghost use Rattle.meaning_dialogues.specs.Calls as calls;
-ghost use Rattle.meaning_dialogues.specs.Calls.{const_stage, function_named, read_in, reading_in_frames};
+ghost use Rattle.meaning_dialogues.specs.Calls.{DefinedFunction, const_stage, function_named, read_in, reading_in_frames};
 ghost use Rattle.meaning_dialogues.specs.Dialogue.{Evaluates};
 ghost use Rattle.meaning_dialogues.specs.Evaluation as spec;
 ghost use Rattle.meaning_dialogues.specs.Evaluation.{dialogue, text_dialogue};
 ghost use Rattle.meaning_dialogues.specs.Faults.{memory, text_place};
 ghost use Rattle.meaning_dialogues.specs.Terms as terms;
 ghost use Rattle.meaning_dialogues.specs.Terms.{term_of, terms_of, holes_of};
+ghost use Rattle.meaning_soundness.specs.Endings.{NotInternal};
 ghost use Rattle.meaning_stages.specs.Stages.{defined_of};
 
 use crate::failure::{Failure, boxed, unboxed};
@@ -275,6 +277,7 @@ impl<'run, 'src> Evaluator<'run, 'src> {
     ) -> Result<Value, Error<'src>>
         ensures asks { Asks H.goes host.old host.new }
         ensures evaluates { Evaluates (reading_at self.now) (dialogue (stage_at self.now) (term_of expression.now)) host.old.entries host.new.entries (seen result) }
+        ensures known { (reached : DefinedFunction → Bool) → BodiesKnownBy self.now reached → TermKnownBy self.now reached (term_of expression.now) → NotInternal (seen result) }
     {
         let memory = Memory {
             alloc,
@@ -843,8 +846,23 @@ impl<'run, 'src> Evaluator<'run, 'src> {
 
     /// The one element of the expression's value. Other numbers of elements are refused as
     /// `ListInStringContext`.
-    #[tactic(auto, using(meaning_dialogues::proofs::Dialogues::then_goes, meaning_dialogues::proofs::Dialogues::then_stops, meaning_dialogues::proofs::Dialogues::ends))]
     pub fn evaluate_string<H: Host + Drop>(
+        &self,
+        alloc: Global,
+        host: &mut Recorded<H>,
+        expression: &Expression<'src>,
+        context: StringContext<'src>,
+    ) -> Result<String, Error<'src>>
+        ensures asks { Asks H.goes host.old host.new }
+        ensures evaluates { Evaluates (reading_at self.now) (text_dialogue (text_place context.entry) (dialogue (stage_at self.now) (term_of expression.now))) host.old.entries host.new.entries (seen_as string_bytes result) }
+        ensures known { (reached : DefinedFunction → Bool) → BodiesKnownBy self.now reached → TermKnownBy self.now reached (term_of expression.now) → NotInternal (seen_as string_bytes result) }
+    {
+        self.one_text(alloc, host, expression, context)
+    }
+
+    /// The one element of the expression's value.
+    #[tactic(auto, using(meaning_dialogues::proofs::Dialogues::then_goes, meaning_dialogues::proofs::Dialogues::then_stops, meaning_dialogues::proofs::Dialogues::ends))]
+    fn one_text<H: Host + Drop>(
         &self,
         alloc: Global,
         host: &mut Recorded<H>,

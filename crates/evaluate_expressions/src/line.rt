@@ -1,10 +1,13 @@
 //! Lines of bodies.
-ghost use Rattle.std.specs.Prelude.{◌≡◌, [], IfOk, map};
+ghost use Rattle.std.specs.Prelude.{◌≡◌, [], Bool, IfOk, map};
 ghost use Rattle.std.specs.String.{string_bytes};
 ghost use Rattle.evaluate_context.specs.Refusals.{seen_as};
+ghost use Rattle.evaluate_expressions.specs.Known.{BodiesKnownBy, LineKnownBy};
 ghost use Rattle.evaluate_expressions.specs.Situations.{stage_at, reading_at};
 ghost use Rattle.just_host.specs.Asking.{Asks};
+ghost use Rattle.meaning_dialogues.specs.Calls.{DefinedFunction};
 ghost use Rattle.meaning_dialogues.specs.Dialogue.{Evaluates};
+ghost use Rattle.meaning_soundness.specs.Endings.{NotInternal};
 ghost use Rattle.meaning_stages.specs.Lines.{line_dialogue, piece_dialogue, piece_of, piece_text};
 
 use crate::evaluator::Evaluator;
@@ -50,6 +53,21 @@ impl<'run, 'src> Evaluator<'run, 'src> {
     /// The text of a body line with its sigils and a final backslash. One that goes on with the line
     /// before loses the leading white space of its first fragment, if that is text.
     pub fn evaluate_line<H: Host + Drop>(
+        &self,
+        alloc: Global,
+        host: &mut Recorded<H>,
+        line: &Line<'src>,
+        continued: bool,
+    ) -> Result<String, Error<'src>>
+        ensures asks { Asks H.goes host.old host.new }
+        ensures evaluates { Evaluates (reading_at self.now) (line_dialogue (stage_at self.now) continued [] (map piece_of line.now.fragments.items)) host.old.entries host.new.entries (seen_as string_bytes result) }
+        ensures known { (reached : DefinedFunction → Bool) → BodiesKnownBy self.now reached → LineKnownBy self.now reached (map piece_of line.now.fragments.items) → NotInternal (seen_as string_bytes result) }
+    {
+        self.line_text(alloc, host, line, continued)
+    }
+
+    /// The texts of the line's fragments, one after the other.
+    fn line_text<H: Host + Drop>(
         &self,
         alloc: Global,
         host: &mut Recorded<H>,

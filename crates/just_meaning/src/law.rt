@@ -13,7 +13,7 @@ ghost use Rattle.just_meaning.specs.Runs.{RunGoes};
 ghost use Rattle.just_meaning.specs.Steady.{AreSteady};
 
 /// Brings the laws into the check.
-#[tactic(auto, using(crate::proofs::Composed::runs_mean, crate::proofs::Examples::dependencies_first))]
+#[tactic(auto, using(crate::proofs::Examples::dependencies_first))]
 pub fn law(number: u8) -> u8
     ensures { result ≡ number }
 {

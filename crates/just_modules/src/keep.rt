@@ -63,7 +63,7 @@ fn merged<'src, 'a>(
 /// The definitions that are kept, in their order. Disabled recipes are kept all.
 ///
 /// Refused as `DuplicateSet`, `DuplicateUnexport`, `DuplicateVariable` or `Redefinition` where a
-/// name has two definitions and the settings don't allow it, and where memory is.
+/// name has two definitions and the settings don't allow it, and where memory runs out.
 pub fn kept<'src, 'a>(
     alloc: Global,
     definitions: &[Definition<'src, 'a>],

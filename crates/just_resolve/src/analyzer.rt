@@ -62,7 +62,7 @@ impl Analyzer {
     /// read each other in a cycle; where a setting is no constant or has no value; where a
     /// dependency names no recipe, or one that takes another number of values, also one of a recipe
     /// that is disabled; where a dependency or an alias names a module; where recipes depend on each
-    /// other in a cycle; and where memory is. Of recipes and variables those that are kept count.
+    /// other in a cycle; and where memory runs out. Of recipes and variables those that are kept count.
     pub fn analyze<'a, 'src>(
         alloc: Global,
         compilation: &'a Compilation<'src>,

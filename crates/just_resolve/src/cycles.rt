@@ -53,7 +53,7 @@ fn circular_variable<'src>(names: Result<Sequence<Name<'src>>, AllocError>) -> E
 }
 
 /// The recipes' places, each after those of what it depends on. Refused where recipes depend on
-/// each other in a cycle, and where memory is.
+/// each other in a cycle, and where memory runs out.
 pub fn recipe_order<'src>(
     alloc: Global,
     nodes: &[RecipeNode<'src, '_>],
@@ -71,7 +71,7 @@ pub fn recipe_order<'src>(
 }
 
 /// The places of the module's variables, each after those that it reads directly or through
-/// functions. Refused where they read each other in a cycle, and where memory is.
+/// functions. Refused where they read each other in a cycle, and where memory runs out.
 pub fn variables_in_order<'src>(
     alloc: Global,
     lists: &ModuleLists<'src, '_>,

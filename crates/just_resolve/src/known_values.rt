@@ -79,7 +79,7 @@ fn all_settings<'src>(
 
 /// The values of the modules' settings and their files' folders, beside the texts that words give for
 /// variables. Keys of files are taken from this folder. Refused where a setting is no constant or has
-/// no value, and where memory is.
+/// no value, and where memory runs out.
 pub fn known_values<'src>(
     alloc: Global,
     compilation: &Compilation<'src>,

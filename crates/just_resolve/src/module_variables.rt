@@ -53,7 +53,7 @@ fn read_variables<'src, 'a>(
 
 /// What the modules keep and read, where words give texts for the variables of these numbers. Refused
 /// where an expression reads a name that stands for nothing, or calls no function or one with another
-/// number of arguments; where variables read each other in a cycle; and where memory is.
+/// number of arguments; where variables read each other in a cycle; and where memory runs out.
 pub fn module_variables<'src, 'a>(
     alloc: Global,
     compilation: &'a Compilation<'src>,

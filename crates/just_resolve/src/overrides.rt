@@ -69,7 +69,7 @@ fn add<'src>(
 }
 
 /// The values that are given for variables, by their numbers; the last of one variable counts.
-/// Refused where one names no variable that is kept, and where memory is.
+/// Refused where one names no variable that is kept, and where memory runs out.
 pub fn resolve_overrides<'src>(
     alloc: Global,
     compilation: &Compilation<'src>,

@@ -194,7 +194,7 @@ fn table_of_nodes<'src, 'a>(
 /// modules read this. Refused where a dependency names no recipe, or one that takes another number of
 /// values, also one of a recipe that is disabled; where a dependency or an alias names a module; where
 /// recipes depend on each other in a cycle; where a recipe reads a name that stands for nothing, or
-/// calls no function or one with another number of arguments; and where memory is.
+/// calls no function or one with another number of arguments; and where memory runs out.
 pub fn recipe_table<'src, 'a>(
     alloc: Global,
     compilation: &'a Compilation<'src>,

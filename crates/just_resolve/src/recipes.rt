@@ -27,7 +27,7 @@ fn reads_of<'src>(
 
 /// The recipe with the ranks of these needs: the priors, then the subsequents. Refused where it reads a
 /// name that stands for no variable, or calls no function or one that takes another number of
-/// arguments; and where memory is.
+/// arguments; and where memory runs out.
 pub fn resolved_recipe<'src>(
     alloc: Global,
     node: &RecipeNode<'src, '_>,

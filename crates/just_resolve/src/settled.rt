@@ -1,9 +1,9 @@
 //! The values of each module's settings.
 use crate::error::Error;
 use evaluate_context::{AssignmentRef, Settings};
+use evaluate_variables::{ConstEvaluator, evaluate_const_assignments};
 use just_text::Number;
 use just_value::Scope;
-use justfile_evaluator::{ConstEvaluator, evaluate_const_assignments};
 use modules_compilation::{Compilation, Place};
 use resolve_analysis::{ModuleLists, ModuleReads, add_marked};
 use resolve_references::{ReadFault, VariableResolver, set_references};
@@ -142,7 +142,7 @@ fn known_settings<'src>(
 /// The values of the module's settings, which stand at these places, by constants alone; its
 /// variables' places are given each after those that it reads. Refused where a setting reads or calls what
 /// is not there, is no constant or has no value, or where a constant that it reads has none; and
-/// where memory is.
+/// where memory runs out.
 pub fn settled<'src>(
     alloc: Global,
     compilation: &Compilation<'src>,

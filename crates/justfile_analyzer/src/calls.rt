@@ -113,7 +113,7 @@ fn functions_ask(
 
 /// Whether the flag of dependencies is asked for in these expressions, or in a function that is called
 /// from there through any chain of calls. The functions are in byte order of their names. Refused only
-/// where memory is.
+/// where memory runs out.
 pub(crate) fn references_ask(
     alloc: Global,
     functions: &[FunctionRef],

@@ -92,7 +92,7 @@ impl<'src, 'a> Justfile<'src, 'a> {
     }
 
     /// The recipes of the module and of its submodules, theirs too, that are not private. Refused
-    /// only where memory is.
+    /// only where memory runs out.
     pub fn public_recipes_recursive(
         &self,
         alloc: Global,
@@ -107,7 +107,7 @@ impl<'src, 'a> Justfile<'src, 'a> {
     }
 
     /// The same with the groups of the submodules that are not private, and theirs. Refused only
-    /// where memory is.
+    /// where memory runs out.
     pub fn public_groups_recursive(&self, alloc: Global) -> Result<Vec<&'a str>, AllocError> {
         let modules = modules_below(alloc, self.compilation, self.module)?;
         groups_of(alloc, self.compilation, modules.as_slice())

@@ -74,7 +74,7 @@ fn push_variable(
 }
 
 /// The variables that are not private, each with its printed value in the frame, one a line. Refused
-/// only where memory is.
+/// only where memory runs out.
 pub fn variables_text(
     alloc: Global,
     variables: &[AssignmentRef],

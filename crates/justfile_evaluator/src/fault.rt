@@ -55,7 +55,14 @@ impl<T: Drop> From<AllocFailed<T>> for RunFault<'_> {
     }
 }
 
+/// The fault of a recipe.
 impl<'src> From<Error<'src>> for RunFault<'src> {
+    ghost use Rattle.evaluate_context.specs.Refusals.{fault_of};
+    ghost use Rattle.justfile_evaluator.specs.Ended.{failure_of};
+    ghost use Rattle.meaning_runs.specs.Failures.{evaluation};
+
+    ghost from_gives = { λ error fault. failure_of fault ≡ evaluation (fault_of error) };
+
     fn from(error: Error<'src>) -> Self {
         match error {
             Error::OutOfMemory => RunFault::OutOfMemory,

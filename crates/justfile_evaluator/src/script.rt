@@ -1,12 +1,38 @@
 //! Bodies that are one script.
+ghost use Rattle.std.specs.Prelude.{◌≡◌, ◌∷◌, IfOk, [], drop, false, map, option_map, true};
+ghost use Rattle.std.specs.Str.{chars, encode_utf8_all, trim};
+ghost use Rattle.std.specs.String.{string_bytes};
+ghost use Rattle.just_text.specs.Tokens.{lexeme};
+ghost use Rattle.tree_items.specs.Lines.{no_sigils};
 ghost use Rattle.just_host.specs.Asking.{Asks};
+ghost use Rattle.just_host.specs.Follows.{Follows};
+ghost use Rattle.just_host.specs.declared.entry.Entry.TheVariants.{Show};
+ghost use Rattle.evaluate_context.specs.Refusals.{seen, seen_as};
+ghost use Rattle.evaluate_expressions.specs.Situations.{reading_at, stage_at};
+ghost use Rattle.meaning_dialogues.specs.Dialogue.{Evaluates};
+ghost use Rattle.meaning_dialogues.specs.Evaluation.{dialogues, interpreter_dialogue};
+ghost use Rattle.meaning_dialogues.specs.Terms.{terms_of};
+ghost use Rattle.meaning_stages.specs.Lines.{line_dialogue, piece_of};
+ghost use Rattle.meaning_runs.specs.Failures.{next_by};
+ghost use Rattle.meaning_calls.specs.Bodies as spec;
+ghost use Rattle.meaning_calls.specs.Bodies.{front, in_lines, rear, with_rest};
+ghost use Rattle.meaning_calls.specs.Calling.{without_next};
+ghost use Rattle.meaning_bodies.specs.Marked.{BeginsAs, BeginsShebang};
+ghost use Rattle.meaning_bodies.specs.Performing.{Performs};
+ghost use Rattle.justfile_evaluator.specs.Bodies.{IsBodyOf, NamedBody, script_of};
+ghost use Rattle.justfile_evaluator.specs.Ended.{ended};
+ghost use Rattle.justfile_evaluator.specs.Scripts as scripts;
+ghost use Rattle.justfile_evaluator.specs.Scripts.{GivesWords, IsScriptOf, handed_of, plain_words, positional_in, script_job_in, set_interpreter, shows_script_in, texts_of, words_of};
+ghost use Rattle.justfile_evaluator.specs.Sites as sites;
+ghost use Rattle.justfile_evaluator.specs.Sites.{extension_in, folder_in};
+ghost use Rattle.justfile_evaluator.specs.declared.site.Site as declared;
 
 use crate::fault::RunFault;
 use crate::site::{Site, extension_of, folder_of, judge};
 use evaluate_context::settings::interpreter_words;
 use evaluate_context::{Error, JobEnvironment};
 use evaluate_expressions::Evaluator;
-use just_host::{Recorded, RunHost, ScriptJob};
+use just_host::{Recorded, RunHost, ScriptJob, Status};
 use just_text::{Name, Sequence, Text};
 use std::alloc::{AllocError, Global};
 use tree_attribute_sets::AttributeSet;
@@ -29,6 +55,7 @@ fn script_line<'src, H: RunHost + Drop>(
     line: &Line<'src>,
 ) -> Result<Text, Error<'src>>
     ensures asks { Asks H.goes host.old host.new }
+    ensures evaluates { Evaluates (reading_at evaluator.now) (line_dialogue (stage_at evaluator.now) false [] (map piece_of line.now.fragments.items)) host.old.entries host.new.entries (seen result) }
 {
     let text = evaluator.evaluate_line(alloc, host, line, false)?;
     Ok(Text::from_string(text))
@@ -42,21 +69,24 @@ fn script_lines<'src, H: RunHost + Drop>(
     body: &[Line<'src>],
 ) -> Result<Vec<Text>, Error<'src>>
     ensures asks { Asks H.goes host.old host.new }
+    ensures evaluates { (b : NamedBody) (site : declared.Site) → IsBodyOf b site evaluator.now body.now → Evaluates b.reading (texts_of b) host.old.entries host.new.entries (seen_as (λ texts. texts.items) result) }
 {
     let mut lines = Vec::new(alloc);
     for line in body {
-        lines.push(script_line(alloc, host, evaluator, line)?)?;
+        let text = script_line(alloc, host, evaluator, line)?;
+        lines.push(text)?;
     }
     Ok(lines)
 }
 
 /// The lines with a newline between two.
-fn joined(alloc: Global, lines: &[Text]) -> Result<String, AllocError> {
-    let mut text = String::new(alloc);
+fn joined(alloc: Global, lines: &[Text]) -> Result<String, AllocError>
+    ensures { IfOk result (λ text. string_bytes text ≡ in_lines lines.now) }
+{
     let Some((first, others)) = lines.split_first() else {
-        return Ok(text);
+        return Ok(String::new(alloc));
     };
-    text.push_str(first.as_str())?;
+    let mut text = String::from_str(alloc, first.as_str())?;
     for line in others {
         text.push('\n')?;
         text.push_str(line.as_str())?;
@@ -64,20 +94,47 @@ fn joined(alloc: Global, lines: &[Text]) -> Result<String, AllocError> {
     Ok(text)
 }
 
+/// What a first line `#!` names, without white space around it.
+fn named_program(line: &str) -> &str
+    ensures { BeginsShebang line.now → result.now ≡ trim (drop 2 line.now) }
+{
+    match line.strip_prefix("#!") {
+        Some(rest) => rest.trim(),
+        None => line.trim(),
+    }
+}
+
+/// The text up to its first white space, and what stands after it.
+fn halves(text: &str) -> (&str, &str)
+    ensures word { result.0.now ≡ encode_utf8_all (front (chars text.now)) }
+    ensures rest { trim result.1.now ≡ trim (encode_utf8_all (rear (chars text.now))) }
+{
+    match text.split_once(|c: char| c.is_whitespace()) {
+        Some(parts) => parts,
+        None => (text, ""),
+    }
+}
+
+/// The word, and after it the rest if there is one.
+fn word_and_rest(alloc: Global, word: &str, rest: &str) -> Result<Sequence<Text>, AllocError>
+    ensures { IfOk result (λ words. words ≡ word.now ∷ with_rest rest.now) }
+{
+    let mut words = Sequence::new(alloc);
+    words.push(Text::from_text(alloc, word)?)?;
+    if rest.is_empty() {
+        return Ok(words);
+    }
+    words.push(Text::from_text(alloc, rest)?)?;
+    Ok(words)
+}
+
 /// The interpreter that a first line `#!` names: its first word, and the rest as one word if there
 /// is one.
-fn shebang_words(alloc: Global, line: &str) -> Result<Sequence<Text>, AllocError> {
-    let line = line.strip_prefix("#!").unwrap_or(line).trim();
-    let (command, rest) = match line.split_once(|c: char| c.is_whitespace()) {
-        Some((command, rest)) => (command, rest.trim()),
-        None => (line, ""),
-    };
-    let mut words = Sequence::new(alloc);
-    words.push(Text::from_text(alloc, command)?)?;
-    if !rest.is_empty() {
-        words.push(Text::from_text(alloc, rest)?)?;
-    }
-    Ok(words)
+fn shebang_words(alloc: Global, line: &str) -> Result<Sequence<Text>, AllocError>
+    ensures { BeginsShebang line.now → IfOk result (λ words. words ≡ spec.shebang_words line.now) }
+{
+    let (word, rest) = halves(named_program(line));
+    word_and_rest(alloc, word, rest.trim())
 }
 
 /// The words of the interpreter that stands in the attribute at this name.
@@ -89,34 +146,57 @@ fn written_words<'src, H: RunHost + Drop>(
     name: Name<'src>,
 ) -> Result<Sequence<Text>, Error<'src>>
     ensures asks { Asks H.goes host.old host.new }
+    ensures evaluates { GivesWords (reading_at evaluator.now) (interpreter_dialogue (lexeme name.entry.token) (dialogues (stage_at evaluator.now) (terms_of (interpreter.now.command ∷ interpreter.now.arguments.items)))) host.old.entries host.new.entries result }
 {
     let words = evaluator.evaluate_interpreter(alloc, host, interpreter, name)?;
     Ok(interpreter_words(alloc, &words)?)
 }
 
-/// The interpreter that the attribute names, if it names one.
-fn attribute_words<'src, H: RunHost + Drop>(
-    alloc: Global,
-    host: &mut Recorded<H>,
-    evaluator: &Evaluator<'_, 'src>,
-    attributes: &AttributeSet<'src>,
-    recipe: Name<'src>,
-) -> Result<Option<Sequence<Text>>, Error<'src>>
-    ensures asks { Asks H.goes host.old host.new }
+/// The interpreter that the attribute names.
+fn interpreter_at<'a, 'src>(
+    attribute: &'a Attribute<'src>,
+) -> Option<&'a Interpreter<Expression<'src>>>
+    ensures { option_map (λ interpreter. interpreter.now) result ≡ sites.interpreter_at (Some attribute.now) }
 {
-    let Some(Attribute::Script(Some(interpreter))) = attributes.get(AttributeKind::Script) else {
-        return Ok(None);
-    };
-    let name = attributes.name(AttributeKind::Script).unwrap_or(recipe);
-    Ok(Some(written_words(alloc, host, evaluator, interpreter, name)?))
+    match attribute {
+        Attribute::Script(given) => given.as_ref(),
+        _ => None,
+    }
+}
+
+/// The interpreter that an attribute names, if one does.
+fn interpreter_in<'a, 'src>(
+    attributes: &'a AttributeSet<'src>,
+) -> Option<&'a Interpreter<Expression<'src>>>
+    ensures { option_map (λ interpreter. interpreter.now) result ≡ sites.interpreter_in attributes.now }
+{
+    match attributes.get(AttributeKind::Script) {
+        Some(attribute) => interpreter_at(attribute),
+        None => None,
+    }
+}
+
+/// Where the attribute `script` is written, else the recipe's name.
+fn script_name<'src>(attributes: &AttributeSet<'src>, recipe: Name<'src>) -> Name<'src>
+    ensures { result ≡ scripts.script_name attributes.now recipe.entry }
+{
+    match attributes.name(AttributeKind::Script) {
+        Some(name) => name,
+        None => recipe,
+    }
 }
 
 /// The words where no attribute names an interpreter: those of the first line where the body begins
 /// `#!`, else those of the settings.
-fn default_words(alloc: Global, site: &Site, lines: &[Text]) -> Result<Sequence<Text>, AllocError> {
-    match lines.first() {
-        Some(line) if site.manner.has_shebang => shebang_words(alloc, line.as_str()),
-        _ => site.context.module.settings.interpreter(alloc),
+fn default_words(alloc: Global, site: &Site, lines: &[Text]) -> Result<Sequence<Text>, AllocError>
+    ensures { BeginsAs site.now.manner.has_shebang lines.now → IfOk result (λ words. words ≡ plain_words site.now.manner.has_shebang (set_interpreter site.now) lines.now) }
+{
+    if !site.manner.has_shebang {
+        return site.context.module.settings.interpreter(alloc);
+    }
+    match lines.split_first() {
+        Some((first, _others)) => shebang_words(alloc, first.as_str()),
+        None => site.context.module.settings.interpreter(alloc),
     }
 }
 
@@ -129,45 +209,89 @@ fn interpreter<'src, H: RunHost + Drop>(
     lines: &[Text],
 ) -> Result<Sequence<Text>, Error<'src>>
     ensures asks { Asks H.goes host.old host.new }
+    ensures evaluates { (b : NamedBody) → IsScriptOf b site.now evaluator.now lines.now → Evaluates b.reading (words_of b lines.now) host.old.entries host.new.entries (seen result) }
 {
-    match attribute_words(alloc, host, evaluator, site.attributes, site.name)? {
-        Some(words) => Ok(words),
+    match interpreter_in(site.attributes) {
+        Some(interpreter) => {
+            let name = script_name(site.attributes, site.name);
+            written_words(alloc, host, evaluator, interpreter, name)
+        }
         None => Ok(default_words(alloc, site, lines)?),
     }
 }
 
-/// The words after the script's path.
-fn script_words(alloc: Global, site: &Site) -> Result<Sequence<Text>, AllocError> {
-    let mut words = Sequence::new(alloc);
-    if !site.manner.passes_words {
-        return Ok(words);
+/// The words, copied.
+fn copied(alloc: Global, words: &[String]) -> Result<Sequence<Text>, AllocError>
+    ensures { IfOk result (λ copies. copies ≡ map string_bytes words.now) }
+{
+    let mut copies = Sequence::new(alloc);
+    for word in words {
+        copies.push(Text::from_text(alloc, word.as_str())?)?;
     }
-    for word in site.positional {
-        words.push(Text::from_text(alloc, word.as_str())?)?;
-    }
-    Ok(words)
+    Ok(copies)
 }
 
-/// What a script is made of: the words before its path, its lines, and the end of its name.
+/// The words after the script's path.
+fn script_words(alloc: Global, site: &Site) -> Result<Sequence<Text>, AllocError>
+    ensures { IfOk result (λ words. words ≡ positional_in site.now) }
+{
+    if site.manner.passes_words {
+        return copied(alloc, site.positional);
+    }
+    Ok(Sequence::new(alloc))
+}
+
+/// What a script is given beside its text and its environment.
 #[derive(Drop)]
-struct ScriptParts {
-    interpreter: Sequence<Text>,
-    lines: Vec<Text>,
+struct ScriptPlace {
+    positional: Sequence<Text>,
     extension: Option<Text>,
+    folder: Option<String>,
+}
+
+/// What a script is given there beside its text and its environment.
+fn script_place(alloc: Global, site: &Site) -> Result<ScriptPlace, AllocError>
+    ensures positional { IfOk result (λ place. place.positional ≡ positional_in site.now) }
+    ensures extension { IfOk result (λ place. place.extension ≡ extension_in site.now.attributes.now) }
+    ensures folder { IfOk result (λ place. option_map string_bytes place.folder ≡ folder_in site.now.context.now site.now.attributes.now) }
+{
+    let positional = script_words(alloc, site)?;
+    let extension = extension_of(alloc, site.attributes)?;
+    let folder = folder_of(alloc, site.context, site.attributes)?;
+    Ok(ScriptPlace {
+        positional,
+        extension,
+        folder,
+    })
+}
+
+/// The text of a folder, if there is one.
+fn folder_text(folder: Option<String>) -> Option<Text>
+    ensures { result ≡ option_map string_bytes folder }
+{
+    match folder {
+        Some(folder) => Some(Text::from_string(folder)),
+        None => None,
+    }
 }
 
 /// What is handed over.
-fn job(alloc: Global, site: &Site, parts: ScriptParts) -> Result<ScriptJob, AllocError> {
-    let positional = script_words(alloc, site)?;
-    let folder = folder_of(alloc, site.context, site.attributes)?;
-    let JobEnvironment { pairs, removed } = site
-        .context
-        .job_environment(alloc, site.env, site.scope)?;
-    let ScriptParts {
-        interpreter,
-        lines,
+fn job(
+    alloc: Global,
+    site: &Site,
+    interpreter: Sequence<Text>,
+    lines: Vec<Text>,
+) -> Result<ScriptJob, AllocError>
+    ensures { IfOk result (λ job. job ≡ script_job_in site.now interpreter lines.items) }
+{
+    let place = script_place(alloc, site)?;
+    let environment = site.context.job_environment(alloc, site.env, site.scope)?;
+    let ScriptPlace {
+        positional,
         extension,
-    } = parts;
+        folder,
+    } = place;
+    let JobEnvironment { pairs, removed } = environment;
     Ok(ScriptJob {
         interpreter,
         lines: Sequence::from_vec(lines),
@@ -175,11 +299,16 @@ fn job(alloc: Global, site: &Site, parts: ScriptParts) -> Result<ScriptJob, Allo
         extension,
         pairs,
         removed,
-        folder: match folder {
-            Some(folder) => Some(Text::from_string(folder)),
-            None => None,
-        },
+        folder: folder_text(folder),
     })
+}
+
+/// Whether the script is shown.
+fn shows_script(site: &Site) -> bool
+    ensures { result ≡ shows_script_in site.now }
+{
+    let config = site.context.config;
+    config.dry_run || config.loquacious || site.manner.is_quiet
 }
 
 /// Shows the script where it is to be shown.
@@ -190,13 +319,25 @@ fn show<H: RunHost + Drop>(
     lines: &[Text],
 ) -> Result<(), AllocError>
     ensures asks { Asks H.goes host.old host.new }
+    ensures shown { shows_script_in site.now ≡ true → IfOk result (λ _. Follows H.goes host.old (Show (in_lines lines.now) ∷ []) host.new) }
+    ensures hidden { shows_script_in site.now ≡ false → host.new ≡ host.old }
 {
-    let config = site.context.config;
-    if config.dry_run || config.loquacious || site.manner.is_quiet {
-        let text = joined(alloc, lines)?;
-        host.show(text.as_str());
+    if !shows_script(site) {
+        return Ok(());
     }
+    let text = joined(alloc, lines)?;
+    host.show(text.as_str());
     Ok(())
+}
+
+/// How a script that ended so ends its recipe's body.
+fn end<'src>(site: &Site<'_, 'src>, status: Status) -> Result<(), RunFault<'src>>
+    ensures { ended result ≡ without_next (next_by (lexeme site.now.name.token) no_sigils status) }
+{
+    match judge(site.name, status, NO_SIGILS, site.manner.is_silent) {
+        Ok(_goes_on) => Ok(()),
+        Err(fault) => Err(fault),
+    }
 }
 
 /// Evaluates the whole body, shows it and hands it over.
@@ -208,6 +349,7 @@ pub(crate) fn run_script<'src, H: RunHost + Drop>(
     body: &[Line<'src>],
 ) -> Result<(), RunFault<'src>>
     ensures asks { Asks H.goes host.old host.new }
+    ensures performs { (b : NamedBody) → IsBodyOf b site.now evaluator.now body.now → Performs b.reading (script_of b) host.old host.new (ended result) }
 {
     let lines = script_lines(alloc, host, evaluator, body)?;
     show(alloc, host, site, lines.as_slice())?;
@@ -226,17 +368,10 @@ fn hand_over<'src, H: RunHost + Drop>(
     lines: Vec<Text>,
 ) -> Result<(), RunFault<'src>>
     ensures asks { Asks H.goes host.old host.new }
+    ensures performs { (b : NamedBody) → IsScriptOf b site.now evaluator.now lines.items → Performs b.reading (handed_of b false lines.items) host.old host.new (ended result) }
 {
-    let words = lines.as_slice();
-    let interpreter = interpreter(alloc, host, evaluator, site, words)?;
-    let extension = extension_of(alloc, site.attributes)?;
-    let parts = ScriptParts {
-        interpreter,
-        lines,
-        extension,
-    };
-    let job = job(alloc, site, parts)?;
+    let words = interpreter(alloc, host, evaluator, site, lines.as_slice())?;
+    let job = job(alloc, site, words, lines)?;
     let status = host.script(&job);
-    let _goes_on = judge(site.name, status, NO_SIGILS, site.manner.is_silent)?;
-    Ok(())
+    end(site, status)
 }

@@ -1,7 +1,17 @@
 //! Where a recipe's body runs, and how.
+ghost use Rattle.std.specs.Prelude.{◌≡◌, IfOk, option_map};
+ghost use Rattle.std.specs.String.{string_bytes};
+ghost use Rattle.just_text.specs.Tokens.{lexeme};
+ghost use Rattle.evaluate_context.specs.Folders as folders;
+ghost use Rattle.meaning_runs.specs.Failures.{next_by};
+ghost use Rattle.justfile_evaluator.specs.Ended.{failure_of, next_of};
+ghost use Rattle.justfile_evaluator.specs.Sites as spec;
+ghost use Rattle.justfile_evaluator.specs.Sites.{extension_in, folder_in, manner_of, shows_in};
+ghost use Rattle.meaning_bodies.specs.Left.{failed_with};
+
 use crate::fault::RunFault;
-use crate::parameters::passes_words;
 use evaluate_context::{ExecutionContext, Settings};
+use evaluate_variables::passes_words;
 use just_host::{Config, Pair, Status};
 use just_text::{Name, Text};
 use just_value::{Scope, path};
@@ -34,7 +44,9 @@ impl Manner {
         attributes: &AttributeSet,
         is_quiet: bool,
         body: &[Line],
-    ) -> Manner {
+    ) -> Manner
+        ensures { result ≡ manner_of settings.now attributes.now is_quiet body.now }
+    {
         let has_shebang = begins_shebang(body);
         Manner {
             passes_words: passes_words(settings, attributes),
@@ -49,14 +61,18 @@ impl Manner {
     }
 
     /// Whether a line with this mark of quiet is shown.
-    pub(crate) fn shows_line(self, config: &Config, is_quiet: bool) -> bool {
+    pub(crate) fn shows_line(self, config: &Config, is_quiet: bool) -> bool
+        ensures { result ≡ shows_in self config.now is_quiet }
+    {
         let is_hidden = is_quiet != self.is_quiet || self.hides_lines || config.quiet;
         config.dry_run || config.loquacious || !is_hidden
     }
 }
 
 /// Whether the body begins `#!`.
-fn begins_shebang(body: &[Line]) -> bool {
+fn begins_shebang(body: &[Line]) -> bool
+    ensures { result ≡ spec.begins_shebang body.now }
+{
     match body.first() {
         Some(line) => line.is_shebang(),
         None => false,
@@ -64,7 +80,9 @@ fn begins_shebang(body: &[Line]) -> bool {
 }
 
 /// Whether nothing is said of a command that fails.
-fn is_silent(settings: &Settings, attributes: &AttributeSet) -> bool {
+fn is_silent(settings: &Settings, attributes: &AttributeSet) -> bool
+    ensures { result ≡ spec.is_silent settings.now attributes.now }
+{
     let silent = settings.no_exit_message || attributes.contains(AttributeKind::NoExitMessage);
     silent && !attributes.contains(AttributeKind::ExitMessage)
 }
@@ -86,36 +104,57 @@ pub struct Site<'a, 'src> {
     pub manner: Manner,
 }
 
-/// Whether commands run where the program was started.
-fn stays(settings: &Settings, attributes: &AttributeSet) -> bool {
-    attributes.contains(AttributeKind::NoCd)
-        || (settings.no_cd && !attributes.contains(AttributeKind::WorkingDirectory))
+/// The folder that an attribute names.
+fn own_folder<'a>(attributes: &'a AttributeSet) -> Option<&'a str>
+    ensures { option_map (λ folder. folder.now) result ≡ spec.own_folder attributes.now }
+{
+    match attributes.get(AttributeKind::WorkingDirectory) {
+        Some(Attribute::WorkingDirectory(text)) => Some(text.cooked.as_str()),
+        _ => None,
+    }
 }
 
-/// The folder of the commands of a recipe with these attributes, if they have one of their own.
+/// Whether commands run where the program was started, by whether an attribute names a folder.
+fn stays(settings: &Settings, attributes: &AttributeSet, is_named: bool) -> bool
+    ensures { result ≡ spec.stays settings.now attributes.now is_named }
+{
+    attributes.contains(AttributeKind::NoCd) || (settings.no_cd && !is_named)
+}
+
+/// The folder below this one that is named, or this one itself.
+fn folder_below(alloc: Global, folder: String, named: Option<&str>) -> Result<String, AllocError>
+    ensures { IfOk result (λ joined. string_bytes joined ≡ folders.folder_below (string_bytes folder) (option_map (λ text. text.now) named.entry)) }
+{
+    match named {
+        Some(named) => path::join(alloc, folder.as_str(), named),
+        None => Ok(folder),
+    }
+}
+
+/// The folder of the commands of a recipe with these attributes; none where they run where the
+/// program was started. Refused only where memory is.
 pub(crate) fn folder_of(
     alloc: Global,
     context: &ExecutionContext,
     attributes: &AttributeSet,
-) -> Result<Option<String>, AllocError> {
-    if stays(context.module.settings, attributes) {
+) -> Result<Option<String>, AllocError>
+    ensures { IfOk result (λ folder. option_map string_bytes folder ≡ folder_in context.now attributes.now) }
+{
+    let named = own_folder(attributes);
+    if stays(context.module.settings, attributes, named.is_some()) {
         return Ok(None);
     }
     let folder = context.working_directory(alloc)?;
-    match attributes.get(AttributeKind::WorkingDirectory) {
-        Some(Attribute::WorkingDirectory(inner)) => {
-            let joined = path::join(alloc, folder.as_str(), inner.cooked.as_str())?;
-            Ok(Some(joined))
-        }
-        _ => Ok(Some(folder)),
-    }
+    Ok(Some(folder_below(alloc, folder, named)?))
 }
 
 /// The end of a script's name, if there is one.
 pub(crate) fn extension_of(
     alloc: Global,
     attributes: &AttributeSet,
-) -> Result<Option<Text>, AllocError> {
+) -> Result<Option<Text>, AllocError>
+    ensures { IfOk result (λ text. text ≡ extension_in attributes.now) }
+{
     match attributes.get(AttributeKind::Extension) {
         Some(Attribute::Extension(text)) => Ok(Some(Text::from_text(alloc, text.cooked.as_str())?)),
         _ => Ok(None),
@@ -128,7 +167,9 @@ pub(crate) fn judge<'src>(
     status: Status,
     sigils: Sigils,
     is_silent: bool,
-) -> Result<bool, RunFault<'src>> {
+) -> Result<bool, RunFault<'src>>
+    ensures { next_of result ≡ next_by (lexeme recipe.entry.token) sigils status }
+{
     match status {
         Status::Code(0) => Ok(true),
         Status::NotStarted => Err(RunFault::CouldNotStart(recipe)),
@@ -139,7 +180,9 @@ pub(crate) fn judge<'src>(
 }
 
 /// The failure of a command of the recipe that ended so.
-fn failure<'src>(recipe: Name<'src>, status: Status, is_silent: bool) -> RunFault<'src> {
+fn failure<'src>(recipe: Name<'src>, status: Status, is_silent: bool) -> RunFault<'src>
+    ensures { failure_of result ≡ failed_with (lexeme recipe.entry.token) status }
+{
     match status {
         Status::Code(code) => RunFault::Code {
             recipe,

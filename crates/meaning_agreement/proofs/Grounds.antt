@@ -21,7 +21,8 @@ use Rattle.just_meaning.specs.Opening.{Opened, Held, exported, named, is_exporte
 use Rattle.just_meaning.specs.Runs.{pairs_at, values_at, ground_of}
 use Rattle.just_meaning.specs.Meanings.{dotenv_at, variables_at, pair_meant, pairs_meant, meant_ground}
 use Rattle.meaning_agreement.specs.Opened.{AreOpened, AreListed}
-use Rattle.meaning_agreement.proofs.Names.{by_name_same, last_append, or_none, same_bytes, contains_any}
+use Rattle.evaluate_context.proofs.ByName.{by_name_same, last_append, or_none}
+use Rattle.meaning_agreement.proofs.Names.{same_bytes, contains_any}
 
 and_front : (a b : Bool) → a && b ≡ true → a ≡ true
 and_front true b h = refl

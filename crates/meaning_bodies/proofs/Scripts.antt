@@ -111,8 +111,8 @@ module _ (c : Configuration) (scene : Scene) (name : List ℕ) (recipe : RecipeR
       → Evaluates reading (interpreter_dialogue (codes "script") (valued c scene name recipe flag bound shape.command ∷ map (valued c scene name recipe flag bound) shape.arguments)) old new (Err f) → Evaluates reading (words_by given texts) old new (Err f)
   words_stop given shape texts old new f e h = rw e (then_stops _ _ h)
 
-  -- where the attribute names none, the module's or the usual ones
-  pub words_unnamed : (given : Option (Option InterpreterShape)) (texts words : List (List ℕ)) (old : List Entry) → given ≡ Some None → words ≡ first_words c scene name recipe flag bound false texts → Evaluates reading (words_by given texts) old old (Ok words)
+  -- where the attribute names none, those of the first line, or the module's, or the usual ones
+  pub words_unnamed : (given : Option (Option InterpreterShape)) (texts words : List (List ℕ)) (old : List Entry) → given ≡ Some None → words ≡ first_words c scene name recipe flag bound (has_shebang c scene name recipe flag bound recipe.body) texts → Evaluates reading (words_by given texts) old old (Ok words)
   words_unnamed given texts words old e f = rw (e, f) (laws.ends _ (λ n. refl))
 
   -- where there is no attribute, those of the first line, or the module's, or the usual ones

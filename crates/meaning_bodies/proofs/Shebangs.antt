@@ -7,16 +7,17 @@ use Rattle.tree_expressions.specs.Cutting.{begins}
 use Rattle.tree_expressions.specs.Parts.{halved}
 use Rattle.parse_expressions.specs.Literals.{Expansion}
 use Rattle.meaning_dialogues.specs.Written.{numbered}
-use Rattle.meaning_dialogues.specs.Dialogue.{Evaluates, Reading}
+use Rattle.meaning_dialogues.specs.Dialogue.{Dialogue, Ends, Evaluates, Reading, ◌>>=◌}
 use Rattle.meaning_dialogues.specs.Evaluation.{Stage}
 use Rattle.meaning_stages.specs.Lines.{line_dialogue}
 use Rattle.meaning_stages.specs.Parameters.{Bound}
 use Rattle.meaning_calls.specs.Named.{RecipeRow}
 use Rattle.meaning_calls.specs.Scopes.{Configuration, Scene, piece_in, parameter_names, body_stage, frame_of}
-use Rattle.meaning_calls.specs.Bodies.{first_of, line_text}
-use Rattle.meaning_bodies.specs.Marked.{BeginsShebang, Gives}
+use Rattle.meaning_calls.specs.Bodies.{first_of, has_shebang, line_text, script_texts}
+use Rattle.meaning_calls.specs.Groups.{each}
+use Rattle.meaning_bodies.specs.Marked.{BeginsAs, BeginsShebang, Gives}
 use Rattle.meaning_bodies.proofs.Marks.{both, kept_at}
-use Rattle.meaning_bodies.proofs.Texts.{Grows, line_grows, gives_weaker, goes_gives, gives_under}
+use Rattle.meaning_bodies.proofs.Texts.{Grows, line_grows, gives_any, gives_then, gives_weaker, goes_gives, gives_under}
 
 halved_shebang : (t : List ℕ) → begins t (codes "#!") ≡ true → BeginsShebang (halved t)
 halved_shebang [] e = absurd (cc e)
@@ -45,3 +46,26 @@ first_shebang c scene name recipe flag bound reading line old new all e h =
     (gives_under BeginsShebang (frame_of c scene name recipe flag bound) (line_dialogue (body_stage c scene name recipe flag bound) false [] (map (piece_in c.expansion recipe.file (numbered (parameter_names recipe))) line))
     (line_shebang c.expansion recipe.file (numbered (parameter_names recipe)) (body_stage c scene name recipe flag bound) line e))
     (h.goes (λ q. cc))
+
+module _ (c : Configuration) (scene : Scene) (name : List ℕ) (recipe : RecipeRow) (flag : Bool) (bound : Bound) where
+  abbrev Text : List Piece → Dialogue (List ℕ)
+  Text = line_text c scene name recipe flag bound false
+
+  text_shebang : (line : List Piece) → is_shebang (first_of line) ≡ true → Gives BeginsShebang (Text line)
+  text_shebang line e =
+      gives_under BeginsShebang (frame_of c scene name recipe flag bound) (line_dialogue (body_stage c scene name recipe flag bound) false [] (map (piece_in c.expansion recipe.file (numbered (parameter_names recipe))) line))
+      (line_shebang c.expansion recipe.file (numbered (parameter_names recipe)) (body_stage c scene name recipe flag bound) line e)
+
+  after_first : (b : Bool) (d : Dialogue (List ℕ)) (ds : List (Dialogue (List ℕ))) → (b ≡ true → Gives BeginsShebang d) → Gives (BeginsAs b) (each (d ∷ ds))
+  after_first true d ds h =
+      gives_then BeginsShebang (BeginsAs true) d (λ text. each ds >>= λ texts. Ends (Ok (text ∷ texts))) (h refl)
+      (λ text begins. gives_then (λ texts. Unit {0}) (BeginsAs true) (each ds) (λ texts. Ends (Ok (text ∷ texts))) (gives_any (each ds)) (λ texts u. begins))
+  after_first false d ds h = gives_weaker (λ texts. Unit {0}) (BeginsAs false) (each (d ∷ ds)) (λ texts u. tt) (gives_any (each (d ∷ ds)))
+
+  all_shebang : (lines : List (List Piece)) → Gives (BeginsAs (has_shebang c scene name recipe flag bound lines)) (each (map Text lines))
+  all_shebang [] = tt
+  all_shebang (line ∷ lines) = after_first (is_shebang (first_of line)) (Text line) (map Text lines) (text_shebang line)
+
+  -- where a body begins `#!`, so does the first of its texts
+  pub texts_shebang : (reading : Reading) (old new : List Entry) (texts : List (List ℕ)) → Evaluates reading (script_texts c scene name recipe flag bound) old new (Ok texts) → BeginsAs (has_shebang c scene name recipe flag bound recipe.body) texts
+  texts_shebang reading old new texts h = goes_gives reading (BeginsAs (has_shebang c scene name recipe flag bound recipe.body)) (script_texts c scene name recipe flag bound) old new texts (all_shebang recipe.body) (h.goes (λ q. cc))

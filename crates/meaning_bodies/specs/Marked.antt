@@ -1,5 +1,5 @@
 -- Texts that begin with the marks of a command, and texts that end with a backslash.
-use Rattle.std.specs.Prelude.{◌≡◌, ℕ, ◌==◌, ◌||◌, true, Bool, List, [], ◌∷◌, ◌++◌, length, Ok, Err}
+use Rattle.std.specs.Prelude.{◌≡◌, ℕ, ◌==◌, ◌||◌, true, false, Bool, List, [], ◌∷◌, ◌++◌, length, Ok, Err}
 use Rattle.just_host.specs.declared.host.Answer.{Answer}
 use Rattle.meaning_dialogues.specs.Dialogue.{Dialogue, Ends, Asks, Reads}
 
@@ -35,3 +35,9 @@ Gives P (Reads place variable next) = (value : List (List ℕ)) → Gives P (nex
 pub record BeginsShebang (text : List ℕ) : Type 0 where
   pub rest : List ℕ
   pub is : text ≡ 35 ∷ 33 ∷ rest
+
+-- where a body begins `#!`, so does the first of its texts, if there is one
+abbrev pub BeginsAs : Bool → List (List ℕ) → Type 0
+BeginsAs true (text ∷ texts) = BeginsShebang text
+BeginsAs true [] = Unit {0}
+BeginsAs false texts = Unit {0}

@@ -1,4 +1,3 @@
 pub mod Calls
 pub mod Bodies
-pub mod Read
 pub mod Examples

@@ -124,7 +124,8 @@ module _ (c : Configuration) (scene : Scene) (name : List ℕ) (recipe : RecipeR
   abbrev pub script_texts : Dialogue (List (List ℕ))
   script_texts = each (map (line_text false) recipe.body)
 
-  -- the words of a script's interpreter: the attribute's, else those that the first line's `#!` names, else the module's, else `sh -eu`
+  -- the words of a script's interpreter: the attribute's, else those that the first line's `#!` names, else the module's, else `sh -eu`;
+  -- an attribute that names no interpreter stands over no body that begins `#!`, so it makes no difference here
   abbrev pub first_words : Bool → List (List ℕ) → List (List ℕ)
   first_words true (text ∷ texts) = shebang_words text
   first_words true [] = default_words scene.row.script_interpreter
@@ -138,7 +139,7 @@ module _ (c : Configuration) (scene : Scene) (name : List ℕ) (recipe : RecipeR
   interpreter (Some (Some shape)) texts = do
     words ← interpreter_dialogue (codes "script") (valued c scene name recipe flag bound shape.command ∷ map (valued c scene name recipe flag bound) shape.arguments)
     Ends (Ok (words.0 ∷ words.1))
-  interpreter (Some None) texts = Ends (Ok (first_words false texts))
+  interpreter (Some None) texts = Ends (Ok (first_words (has_shebang recipe.body) texts))
   interpreter None texts = Ends (Ok (first_words (has_shebang recipe.body) texts))
 
   abbrev pub is_script : Bool

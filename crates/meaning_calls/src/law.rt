@@ -7,7 +7,7 @@ ghost use Rattle.meaning_calls.specs.Named.{same_call};
 ghost use Rattle.meaning_calls.specs.Scopes.{surroundings_in};
 
 /// Brings the laws into the check.
-#[tactic(auto, using(crate::proofs::Calls::calls_decide, crate::proofs::Bodies::lines_go, crate::proofs::Read::head_sound, crate::proofs::Examples::modules))]
+#[tactic(auto, using(crate::proofs::Calls::calls_decide, crate::proofs::Bodies::lines_go, crate::proofs::Examples::modules))]
 pub fn law(number: u8) -> u8
     ensures { result ≡ number }
 {

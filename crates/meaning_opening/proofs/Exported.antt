@@ -1,18 +1,14 @@
 -- What is exported makes no difference to the questions of variables, which are taken without it.
 use Rattle.std.proofs.Common.{◌≡◌, ℕ, Bool, true, false, cond, not, ◌||◌, List, [], ◌∷◌, ◌++◌, map, filter, is_some, Option, Some, None, refl, sym, ap, ap₂, ◌∙◌, subst}
-use Rattle.std.proofs.Math.Dec.{T}
-use Rattle.std.specs.Cmp.{IsEquivalence}
 use Rattle.std.specs.Cmp.Lexicographic.{slice_cmp}
 use Rattle.std.specs.FinMap.{nat_cmp-IsAntisymmetric, slice_cmp-IsAntisymmetric}
-use Rattle.std.specs.FinMap.Entries.{put, find, is_sorted, is_sorted-put, find-put, same_entries, where_key, is_sorted-where_key, find-where_key}
+use Rattle.std.specs.FinMap.Entries.{find, is_sorted, same_entries, where_key, is_sorted-where_key, find-where_key}
 use Rattle.std.specs.Option.{option_or}
-use Rattle.std.specs.Ordering.{eq_by_cmp, nat_cmp}
-use Rattle.std.specs.declared.cmp.Ordering.{Ordering}
+use Rattle.std.specs.Ordering.{nat_cmp}
 use Rattle.std.specs.declared.cmp.Ordering.TheVariants.{Equal}
 use Rattle.std.specs.Str.{bytes_eq}
-use Rattle.std.proofs.lemmas.Cmp.{eq_by_cmp_equiv, nat_list_cmp_total}
+use Rattle.std.proofs.lemmas.Cmp.{nat_list_cmp_total}
 use Rattle.std.proofs.lemmas.List.Elements.{filter-append}
-use Rattle.std.proofs.lemmas.Map.Text.{is_eq-slice_cmp}
 use Rattle.std.proofs.lemmas.Slice.Eq.{bytes_eq-Decides}
 use Rattle.just_host.specs.declared.host.Question.TheVariants.{Command}
 use Rattle.just_host.specs.declared.job.CommandJob.{CommandJob}
@@ -20,42 +16,8 @@ use Rattle.just_host.specs.declared.job.Pair.{Pair}
 use Rattle.evaluate_context.specs.Environment.{last_of, is_among, without, pair_at}
 use Rattle.evaluate_context.specs.Surroundings.{Surroundings, Standing, entries_by_name, by_name, given, removed}
 use Rattle.meaning_runs.specs.Told.{Answers, left_out, of_variables}
+use Rattle.evaluate_context.proofs.ByName.{order, found, sorted_after, last_append}
 use Rattle.meaning_opening.specs.Alike.{StandAlike, HaveNames}
-
-abbrev order : List ℕ → List ℕ → Ordering
-order = slice_cmp nat_cmp
-
-or_cond : (t : Bool) (v : List ℕ) (c : Option (List ℕ)) → option_or (cond t (Some v) None) c ≡ cond t (Some v) c
-or_cond true v c = refl
-or_cond false v c = refl
-
-or_assoc : (a b c : Option (List ℕ)) → option_or (option_or a b) c ≡ option_or a (option_or b c)
-or_assoc None b c = refl
-or_assoc (Some x) b c = refl
-
-or_none : (a : Option (List ℕ)) → option_or a None ≡ a
-or_none None = refl
-or_none (Some x) = refl
-
-by_key : IsEquivalence (eq_by_cmp order)
-by_key = eq_by_cmp_equiv nat_list_cmp_total
-
-tests : (name key : List ℕ) → eq_by_cmp order name key ≡ bytes_eq key name
-tests name key = sym (by_key.symm key name) ∙ is_eq-slice_cmp key name
-
-found_after : (name : List ℕ) (es : List (List ℕ × List ℕ)) (pairs : List Pair) → find order name (entries_by_name es pairs) ≡ option_or (last_of name pairs) (find order name es)
-found_after name es [] = refl
-found_after name es (p ∷ ps) =
-    found_after name (put order p.name p.value es) ps
-    ∙ (ap (option_or (last_of name ps)) (find-put order nat_list_cmp_total name p.name p.value es ∙ (ap (λ t. cond t (Some p.value) (find order name es)) (tests name p.name) ∙ sym (or_cond (bytes_eq p.name name) p.value (find order name es))))
-    ∙ sym (or_assoc (last_of name ps) (cond (bytes_eq p.name name) (Some p.value) None) (find order name es)))
-
-sorted_after : (es : List (List ℕ × List ℕ)) (pairs : List Pair) → T (is_sorted order es) → T (is_sorted order (entries_by_name es pairs))
-sorted_after es [] h = h
-sorted_after es (p ∷ ps) h = sorted_after (put order p.name p.value es) ps (is_sorted-put order nat_list_cmp_total p.name p.value es h)
-
-found : (name : List ℕ) (pairs : List Pair) → find order name (entries_by_name [] pairs) ≡ last_of name pairs
-found name pairs = found_after name [] pairs ∙ or_none (last_of name pairs)
 
 same_name : (x y : List ℕ) → order x y ≡ Equal → x ≡ y
 same_name x y e = slice_cmp-IsAntisymmetric nat_cmp-IsAntisymmetric x y e
@@ -89,11 +51,6 @@ left_same names g h same =
   where
     alike : (q x : List ℕ) → order q x ≡ Equal → kept names x ≡ kept names q
     alike q x e = ap (kept names) (sym (same_name q x e))
-
--- a later pair counts
-last_append : (name : List ℕ) (ps qs : List Pair) → last_of name (ps ++ qs) ≡ option_or (last_of name qs) (last_of name ps)
-last_append name [] qs = sym (or_none (last_of name qs))
-last_append name (p ∷ ps) qs = ap (λ o. option_or o (cond (bytes_eq p.name name) (Some p.value) None)) (last_append name ps qs) ∙ or_assoc (last_of name qs) (last_of name ps) (cond (bytes_eq p.name name) (Some p.value) None)
 
 none_of_both : (o : Option (List ℕ)) (b : Bool) (v : List ℕ) → o ≡ None → b ≡ false → option_or o (cond b (Some v) None) ≡ None
 none_of_both o b v e f = rw (e, f) refl

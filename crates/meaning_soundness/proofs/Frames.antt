@@ -36,7 +36,8 @@ bound_is_read : (excluded : ℕ → Bool) (frames : Frames) (number : Option ℕ
 bound_is_read excluded frames None h = absurd h
 bound_is_read excluded frames (Some number) h = inr h
 
-bound_at : (excluded : ℕ → Bool) (here there : Frames) (place : Lookup) (x : Variable) → IsBoundAt here there place x → IsReadAt excluded here there place x
+-- a variable that is bound is read properly, whatever numbers are those of no constants
+pub bound_at : (excluded : ℕ → Bool) (here there : Frames) (place : Lookup) (x : Variable) → IsBoundAt here there place x → IsReadAt excluded here there place x
 bound_at excluded here there around x h = bound_is_read excluded here x.number h
 bound_at excluded here there in_module x h = bound_is_read excluded there x.number h
 

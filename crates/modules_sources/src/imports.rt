@@ -1,9 +1,9 @@
 //! The files of a module.
 
 use crate::items::{import_of, items_of};
-use crate::search::imported;
 use justfile_syntax::Item;
 use modules_compilation::{Error, File, Source};
+use modules_files::imported;
 use resolve_order::{OrderFault, order};
 use std::alloc::{AllocError, Global};
 use std::collections::BTreeMap;

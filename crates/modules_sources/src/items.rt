@@ -1,22 +1,8 @@
 //! What items say of files.
 
-use justfile_syntax::{Item, Name, Os};
+use justfile_syntax::{Item, Os};
 use modules_compilation::File;
-
-/// What an import says.
-#[derive(Clone, Copy)]
-pub struct ImportLine<'item> {
-    pub path: &'item str,
-    pub optional: bool,
-}
-
-/// What an item of a submodule says of its file.
-#[derive(Clone, Copy)]
-pub struct ModuleLine<'item, 'src> {
-    pub name: Name<'src>,
-    pub path: Option<&'item str>,
-    pub optional: bool,
-}
+use modules_files::{ImportLine, ModuleLine};
 
 /// The items of the file, in their order.
 pub fn items_of<'file, 'src>(file: &'file File<'src>) -> &'file [Item<'src>] {

@@ -1,13 +1,11 @@
 //! Loading files into modules: which files imports and submodules reach.
 #![tactic(auto)]
 
-mod folders;
 mod imports;
 mod items;
 mod load;
 mod nodes;
 mod queue;
-mod search;
 mod submodules;
 
 pub use items::items_of;

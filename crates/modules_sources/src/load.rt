@@ -1,16 +1,15 @@
 //! Loading files into modules.
 ghost use Rattle.std.specs.Prelude.{◌≡◌, ◌+◌, ◌<◌, length, true, IfOk, OnOk};
 
-use crate::folders::Folders;
 use crate::imports::{Reached, depth_behind};
 use crate::nodes::add_node;
 use crate::queue::{Pending, Queue};
-use crate::search::Files;
 use crate::submodules::find_all;
 use just_host::Config;
 use just_value::CONSTANT_COUNT;
 use justfile_syntax::{Ast, Expander, Numerator, Os, Parser};
 use modules_compilation::{Compilation, Error, File, Source, is_clean};
+use modules_files::{Files, Folders, file_at};
 use std::alloc::{AllocError, Global};
 use std::collections::BTreeMap;
 
@@ -333,7 +332,7 @@ fn root_source<'src>(
     if !is_clean(root) {
         return Err(Error::MissingRoot(root));
     }
-    match Source::find(sources, root) {
+    match file_at(sources, root) {
         Some(source) => Ok(source),
         None => Err(Error::MissingRoot(root)),
     }
@@ -407,7 +406,7 @@ fn load_parsed<'src, E: Expander>(
 ///
 /// Refused as `MissingRoot` where the sources have no such key or it is no clean path, as the parser
 /// refuses a text, as `MissingImport`, `MissingModule` and `AmbiguousModule` where no file or more than
-/// one is meant, as `CircularImport` where a file is reached from itself, and where memory is.
+/// one is meant, as `CircularImport` where a file is reached from itself, and where memory runs out.
 pub fn load_root<'src, E: Expander>(
     alloc: Global,
     config: &Config,

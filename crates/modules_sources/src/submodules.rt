@@ -3,9 +3,9 @@
 use crate::imports::key_at;
 use crate::items::{items_of, module_of};
 use crate::queue::{Pending, Queue};
-use crate::search::Files;
 use justfile_syntax::{Item, Name, Os};
 use modules_compilation::{Compilation, Error, File, Place, Source};
+use modules_files::{Files, of_module};
 use std::alloc::Global;
 
 /// A submodule that a file has, and its file.
@@ -30,7 +30,7 @@ fn add_submodule<'src>(
     let Some(module) = module_of(item, os) else {
         return Ok(());
     };
-    if let Some(source) = files.of_module(alloc, key, module)? {
+    if let Some(source) = of_module(alloc, files, key, &module)? {
         found.push(Submodule {
             source,
             item: place,

@@ -39,7 +39,7 @@ fn alias_rank<'a, 'src>(
 }
 
 /// The module's aliases in byte order of their names, each with the rank of its recipe. Refused where
-/// one stands for a module or for nothing, and where memory is.
+/// one stands for a module or for nothing, and where memory runs out.
 pub fn resolved_aliases<'a, 'src>(
     alloc: Global,
     compilation: &'a Compilation<'src>,

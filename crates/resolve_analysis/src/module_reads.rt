@@ -120,7 +120,7 @@ pub fn reads_of<'src>(
 
 /// The places of the module's variables, each after those that it reads directly or through
 /// functions. Refused where they read each other in a cycle, which is told by their places, the first
-/// again at the end; and where memory is.
+/// again at the end; and where memory runs out.
 pub fn evaluation_order<'src>(
     alloc: Global,
     lists: &ModuleLists<'src, '_>,

@@ -25,7 +25,7 @@ fn needs_of<'a, 'src>(
 
 /// For each recipe that is kept the places of those that it depends on: the priors in order, then the
 /// subsequents. Refused where a dependency names no recipe, a module, or a recipe that takes another
-/// number of values; and where memory is.
+/// number of values; and where memory runs out.
 pub fn all_needs<'a, 'src>(
     alloc: Global,
     compilation: &Compilation<'src>,
@@ -40,7 +40,7 @@ pub fn all_needs<'a, 'src>(
 }
 
 /// At each place the place that it has in the order; 0 where the order doesn't have it. Refused only
-/// where memory is.
+/// where memory runs out.
 pub fn ranks(alloc: Global, order: &[usize]) -> Result<Vec<usize>, AllocError> {
     let mut ranks = vec![in alloc; 0; order.len()]?;
     for rank in 0..order.len() {

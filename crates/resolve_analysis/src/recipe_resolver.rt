@@ -97,7 +97,7 @@ fn place_of<'src>(
 }
 
 /// Adds the places of the dependencies' recipes. Refused where a dependency of the recipe names no
-/// recipe, a module, or a recipe that takes another number of values; and where memory is.
+/// recipe, a module, or a recipe that takes another number of values; and where memory runs out.
 pub(crate) fn add_places<'d, 'src>(
     compilation: &Compilation<'src>,
     resolver: &RecipeResolver,

@@ -5,3 +5,7 @@ pub mod Steps
 pub mod Work
 pub mod Turns
 pub mod Ranks
+pub mod Contraction
+pub mod Flooding
+pub mod Reading
+pub mod Cycles

@@ -1,11 +1,11 @@
 -- What an order rules out, and when a search has found one.
-use Rattle.std.proofs.Common.{◌≡◌, sym, ◌∙◌, ap, subst, List, [], ◌∷◌, ℕ, ◌+◌, ◌-◌, ◌<◌, ◌≤◌, Some, refl, arith, length, get_or, map}
+use Rattle.std.proofs.Common.{◌≡◌, sym, ◌∙◌, ap, List, [], ◌∷◌, ℕ, ◌+◌, ◌-◌, ◌<◌, ◌≤◌, Some, arith, length, get_or}
 use Rattle.std.specs.Prelude.{slice_get}
-use Rattle.std.proofs.lemmas.Option.{none-some, same_Some, slice_get_within, slice_get-get_or}
-use Rattle.resolve_order.specs.Needs.{Needs, Walks, IsCycle}
+use Rattle.std.proofs.lemmas.Option.{none-some, slice_get_within, slice_get-get_or}
+use Rattle.resolve_order.specs.Needs.{Walks, IsCycle}
 use Rattle.resolve_order.specs.Marked.{AreNew}
 use Rattle.resolve_order.specs.Order.{IsOrder, IsBefore}
-use Rattle.resolve_order.specs.Search.{IsSearch, AreLookedAt, FrameShape}
+use Rattle.resolve_order.specs.Search.{IsSearch, AreLookedAt}
 use Rattle.resolve_order.specs.declared.marks.Mark.{Mark}
 use Rattle.resolve_order.specs.declared.marks.Mark.TheVariants.{New, Open, Done}
 

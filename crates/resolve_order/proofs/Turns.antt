@@ -1,5 +1,5 @@
 -- The turns of the search: what stands on top, and what its next need is.
-use Rattle.std.proofs.Common.{◌≡◌, inl, inr, sym, ◌∙◌, ap, subst, List, [], ◌∷◌, ◌++◌, ℕ, ◌+◌, ◌<◌, ◌≤◌, Option, Some, None, refl, arith, length, map, drop, get_or, append_assoc}
+use Rattle.std.proofs.Common.{◌≡◌, inl, sym, ◌∙◌, ap, subst, List, [], ◌∷◌, ◌++◌, ℕ, ◌+◌, ◌<◌, ◌≤◌, Option, Some, None, refl, arith, length, map, drop, get_or, append_assoc}
 use Rattle.std.specs.Prelude.{slice_get, option_map, Contains}
 use Rattle.std.proofs.lemmas.Option.{none-some, slice_get_within, slice_get-map, slice_get-get_or}
 use Rattle.std.proofs.lemmas.List.{map_push, drop-map, drop-append-le, length-map, length_push}
@@ -10,7 +10,6 @@ use Rattle.resolve_order.specs.Search.{FrameShape, IsFrame, IsSearch, IsNearer, 
 use Rattle.resolve_order.specs.Turns.{turn_of}
 use Rattle.resolve_order.specs.declared.marks.Mark.{Mark}
 use Rattle.resolve_order.specs.declared.marks.Mark.TheVariants.{New, Open, Done}
-use Rattle.resolve_order.specs.declared.marks.Turn.{Turn}
 use Rattle.resolve_order.specs.declared.marks.Turn.TheVariants.{Pass, Descend, Back}
 use Rattle.resolve_order.proofs.Places.{push_here, contains_first}
 use Rattle.resolve_order.proofs.Walking.{walk_more, cycle_behind}

@@ -3,3 +3,7 @@ pub mod Marked
 pub mod Turns
 pub mod Order
 pub mod Search
+pub mod Reads
+pub mod Contracted
+pub mod Flooded
+pub mod Cycles

@@ -1,5 +1,5 @@
 -- Marks of things by place.
-use Rattle.std.specs.Prelude.{◌≡◌, ◌<◌, ℕ, List, Some, length, slice_get}
+use Rattle.std.specs.Prelude.{◌≡◌, ℕ, List, Some, length, slice_get}
 use Rattle.resolve_order.specs.declared.marks.Mark.{Mark}
 use Rattle.resolve_order.specs.declared.marks.Mark.TheVariants.{New}
 

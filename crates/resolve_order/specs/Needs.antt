@@ -1,5 +1,5 @@
--- What things need, and cycles of needs. A thing is told by its place.
-use Rattle.std.specs.Prelude.{◌≡◌, ◌<◌, ◌-◌, ℕ, List, [], ◌∷◌, Option, Some, length, map, slice_get, Contains}
+-- What things need, and cycles of needs. A thing is known by its place.
+use Rattle.std.specs.Prelude.{◌≡◌, ◌<◌, ◌-◌, ℕ, List, [], ◌∷◌, Some, length, map, slice_get, Contains}
 use Rattle.std.specs.Global.{Vec}
 
 -- what each thing needs

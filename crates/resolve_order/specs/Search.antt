@@ -1,5 +1,5 @@
 -- What a search for an order has found so far.
-use Rattle.std.specs.Prelude.{◌≡◌, ◌<◌, ◌+◌, ℕ, List, [], ◌∷◌, ◌++◌, ◌⊎◌, Option, Some, None, map, slice_get, length, drop, get_or, Contains}
+use Rattle.std.specs.Prelude.{◌≡◌, ◌<◌, ◌+◌, ℕ, List, [], ◌∷◌, ◌⊎◌, Some, map, slice_get, length, drop, get_or, Contains}
 use Rattle.resolve_order.specs.Needs.{Needs, Walks}
 use Rattle.resolve_order.specs.Marked.{AreNew}
 use Rattle.resolve_order.specs.Order.{IsBefore}

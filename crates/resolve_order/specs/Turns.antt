@@ -1,5 +1,5 @@
 -- What a search does with a need.
-use Rattle.std.specs.Prelude.{ℕ, Option, Some, None}
+use Rattle.std.specs.Prelude.{Option, Some, None}
 use Rattle.resolve_order.specs.declared.marks.Mark.{Mark}
 use Rattle.resolve_order.specs.declared.marks.Mark.TheVariants.{New, Open, Done}
 use Rattle.resolve_order.specs.declared.marks.Turn.{Turn}

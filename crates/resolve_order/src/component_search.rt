@@ -124,17 +124,17 @@ fn mark_all(
     order: &[usize],
     marks: &mut [Option<usize>],
 ) -> Result<(), AllocError> {
-    let most = size(graph).saturating_add(1);
     let mut stack = Vec::new(alloc);
     for place in order.iter().rev() {
         stack.push(*place)?;
-        flood(graph, &[], marks, &mut stack, *place, most)?;
+        flood(graph, &[], marks, &mut stack, *place)?;
     }
     Ok(())
 }
 
-/// For each place of the graph one that stands for all places which it reaches and which reach it: the
-/// same for all of them, and one of them. Linear in places and leads.
+/// For each place of the graph a representative of all places which it reaches and which reach it: the
+/// same for all of them, and one of them. Linear in places and leads. Refused only where memory runs
+/// out.
 pub fn components(alloc: Global, graph: &[Vec<usize>]) -> Result<Vec<Option<usize>>, AllocError> {
     let order = leaving_order(alloc, graph)?;
     let back = turned(alloc, graph)?;

@@ -1,8 +1,14 @@
 //! Graphs of places: what each place leads to, in order.
+ghost use Rattle.std.specs.Prelude.{◌≡◌, ◌++◌, IfOk, OnOk, length};
+ghost use Rattle.resolve_order.specs.Needs.{rows};
+ghost use Rattle.resolve_order.specs.Flooded.{leads_of};
+
 use std::alloc::{AllocError, Global};
 
 /// The places that a place leads to.
-pub(crate) fn leads(graph: &[Vec<usize>], place: usize) -> &[usize] {
+pub(crate) fn leads(graph: &[Vec<usize>], place: usize) -> &[usize]
+    ensures { result.now ≡ leads_of (rows graph.now) place }
+{
     if place < graph.len() {
         graph[place].as_slice()
     } else {
@@ -20,7 +26,9 @@ pub(crate) fn size(graph: &[Vec<usize>]) -> usize {
 }
 
 /// Puts the places on the stack.
-pub(crate) fn push_all(stack: &mut Vec<usize>, places: &[usize]) -> Result<(), AllocError> {
+pub(crate) fn push_all(stack: &mut Vec<usize>, places: &[usize]) -> Result<(), AllocError>
+    ensures { OnOk result (stack.new.items ≡ stack.old.items ++ places.entry.now) }
+{
     for place in places {
         stack.push(*place)?;
     }
@@ -28,7 +36,9 @@ pub(crate) fn push_all(stack: &mut Vec<usize>, places: &[usize]) -> Result<(), A
 }
 
 /// So many places, of which none leads anywhere.
-pub(crate) fn empty_rows(alloc: Global, count: usize) -> Result<Vec<Vec<usize>>, AllocError> {
+pub(crate) fn empty_rows(alloc: Global, count: usize) -> Result<Vec<Vec<usize>>, AllocError>
+    ensures { IfOk result (λ rows. length rows.items ≡ count) }
+{
     let mut rows = Vec::new(alloc);
     for _ in 0..count {
         rows.push(Vec::new(alloc))?;

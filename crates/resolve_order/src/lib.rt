@@ -8,6 +8,8 @@ pub mod flood;
 mod graph;
 mod marks;
 pub mod ordered;
+mod read_cycles;
+mod read_rows;
 mod search;
 pub mod variable_places;
 

@@ -7,7 +7,7 @@ use crate::fault::OrderFault;
 use crate::search::Search;
 use std::alloc::Global;
 
-/// Puts things into an order in which each stands after all that it needs. A thing is told by its
+/// Puts things into an order in which each stands after all that it needs. A thing is known by its
 /// place among `needs`, where the places of what it needs stand; a place at which there is nothing
 /// counts for nothing. What stands first comes as early as it can.
 ///

@@ -138,7 +138,7 @@ fn add_set<'src>(references: &mut References<'src>, set: &Set<'src>) -> Result<(
 
 /// All calls and variables of the recipe: of its attributes, its parameters' defaults and what their
 /// options stand for, its dependencies' arguments, those after the body too, and its body. Refused
-/// only where memory is.
+/// only where memory runs out.
 pub fn recipe_references<'src>(
     alloc: Global,
     recipe: &Recipe<'src, UnresolvedDependency<'src>>,

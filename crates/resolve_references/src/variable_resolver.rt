@@ -86,7 +86,7 @@ impl<'src> VariableResolver<'src> {
 
     /// The places of the module's variables and functions that are read and called there, in order
     /// and as often. Refused where a name stands for no variable, a call calls no function, or one
-    /// that takes another number of arguments; and where memory is.
+    /// that takes another number of arguments; and where memory runs out.
     pub fn resolve_references(
         &self,
         alloc: Global,

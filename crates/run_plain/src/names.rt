@@ -42,7 +42,7 @@ impl<'src> Names<'src> {
 }
 
 /// The places of the recipes by name. Refused where a recipe has the name of an earlier one, and
-/// where memory is.
+/// where memory runs out.
 pub fn named<'src>(alloc: Global, recipes: &[Recipe<'src>]) -> Result<Names<'src>, OrderFault<'src>>
     ensures named { IfOk result (λ names. AreNamed (map recipe_shape recipes.now) (place_named names)) }
     ensures broken { IfErr result (λ e. IsBrokenOrder (map recipe_shape recipes.now) e) }

@@ -12,7 +12,7 @@ use justfile_syntax::plain_files::Recipe;
 use std::alloc::Global;
 
 /// The places of what the recipe at this place depends on. Refused where a dependency names no
-/// recipe, and where memory is.
+/// recipe, and where memory runs out.
 fn row<'src>(
     alloc: Global,
     recipes: &[Recipe<'src>],

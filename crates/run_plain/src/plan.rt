@@ -38,7 +38,7 @@ fn names_at<'src>(
 }
 
 /// The places of the recipes, each after those of what it depends on. Refused where recipes depend
-/// on one another in a cycle, and where memory is.
+/// on one another in a cycle, and where memory runs out.
 fn ordered<'src>(
     alloc: Global,
     recipes: &[Recipe<'src>],
@@ -123,7 +123,7 @@ fn all_planned<'a, 'src>(
 }
 
 /// The recipes in an order in which each stands after all that it depends on. Refused where recipes
-/// depend on one another in a cycle, and where memory is.
+/// depend on one another in a cycle, and where memory runs out.
 pub fn put_in_order<'a, 'src>(
     alloc: Global,
     recipes: &'a [Recipe<'src>],

@@ -121,7 +121,7 @@ fn root_of<'src>(
 
 /// Reads the root file that `roots` name for the words' search directory. The constants' numbers come before its own.
 ///
-/// Refused as `NoRootForWord` where there is none, as `MissingRoot` where its path isn't clean or has no text, as `Syntax` where its text is no justfile, and where memory is.
+/// Refused as `NoRootForWord` where there is none, as `MissingRoot` where its path isn't clean or has no text, as `Syntax` where its text is no justfile, and where memory runs out.
 pub fn read_root<'src, E: Expander>(
     alloc: Global,
     words: &Positional,

@@ -1,6 +1,8 @@
 //! Why a task failed.
+ghost use Rattle.std.specs.Prelude.{◌≡◌};
 ghost use Rattle.std.specs.Fmt.{WritesOnOk};
 ghost use Rattle.just_host.specs.Failures.{status_text};
+ghost use Rattle.justfile_evaluator.specs.declared.fault.RunFault.TheVariants.{OutOfMemory};
 
 use analyze_runs::RunFault;
 use just_host::Status;
@@ -54,18 +56,30 @@ pub enum TaskFault<'src> {
 }
 
 impl From<AllocError> for TaskFault<'_> {
+    ghost use Rattle.run_tasks.specs.declared.fault.TaskFault.TheVariants.{Run};
+
+    ghost from_gives = { λ _ e. e ≡ Run OutOfMemory };
+
     fn from(_refused: AllocError) -> Self {
         TaskFault::Run(RunFault::OutOfMemory)
     }
 }
 
 impl<T: Drop> From<AllocFailed<T>> for TaskFault<'_> {
+    ghost use Rattle.run_tasks.specs.declared.fault.TaskFault.TheVariants.{Run};
+
+    ghost from_gives = { λ _ e. e ≡ Run OutOfMemory };
+
     fn from(_refused: AllocFailed<T>) -> Self {
         TaskFault::Run(RunFault::OutOfMemory)
     }
 }
 
 impl<'src> From<RunFault<'src>> for TaskFault<'src> {
+    ghost use Rattle.run_tasks.specs.declared.fault.TaskFault.TheVariants.{Run};
+
+    ghost from_gives = { λ f e. e ≡ Run f };
+
     fn from(fault: RunFault<'src>) -> Self {
         TaskFault::Run(fault)
     }

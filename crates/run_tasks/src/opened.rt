@@ -1,5 +1,9 @@
 //! All modules opened, and what is done in them.
+ghost use Rattle.std.specs.Prelude.{◌≡◌, IfOk, slice_get};
+ghost use Rattle.std.specs.String.{string_bytes};
 ghost use Rattle.just_host.specs.Asking.{Asks};
+ghost use Rattle.run_tasks.specs.Tasks as spec;
+ghost use Rattle.run_tasks.specs.Tasks.{CommandsIn, Does, IsEvaluated};
 
 use crate::command::run_command;
 use crate::fault::TaskFault;
@@ -73,12 +77,13 @@ fn module_text(
     alloc: Global,
     contexts: &[ExecutionContext],
     module: usize,
-) -> Result<String, AllocError> {
-    if module >= contexts.len() {
-        return Ok(String::new(alloc));
+) -> Result<String, AllocError>
+    ensures { IfOk result (λ text. string_bytes text ≡ spec.module_text (slice_get contexts.now «module»)) }
+{
+    match contexts.get(module) {
+        Some(context) => variables_text(alloc, context.module.assignments, context.scope),
+        None => Ok(String::new(alloc)),
     }
-    let context = &contexts[module];
-    variables_text(alloc, context.module.assignments, context.scope)
 }
 
 /// The text of the value of the module's variable.
@@ -87,11 +92,13 @@ fn value_text(
     contexts: &[ExecutionContext],
     module: usize,
     number: Number,
-) -> Result<String, AllocError> {
-    if module >= contexts.len() {
+) -> Result<String, AllocError>
+    ensures { IfOk result (λ text. string_bytes text ≡ spec.value_text number (slice_get contexts.now «module»)) }
+{
+    let Some(context) = contexts.get(module) else {
         return Ok(String::new(alloc));
-    }
-    match contexts[module].scope.value(number) {
+    };
+    match context.scope.value(number) {
         Some(value) => value.join(alloc),
         None => Ok(String::new(alloc)),
     }
@@ -102,7 +109,9 @@ fn evaluated(
     alloc: Global,
     contexts: &[ExecutionContext],
     target: EvaluationTarget,
-) -> Result<String, AllocError> {
+) -> Result<String, AllocError>
+    ensures { IfOk result (λ text. string_bytes text ≡ spec.values_text contexts.now target) }
+{
     match target {
         EvaluationTarget::Module(module) => module_text(alloc, contexts, module),
         EvaluationTarget::Variable { module, number } => {
@@ -111,11 +120,14 @@ fn evaluated(
     }
 }
 
+/// Answers the text of what is evaluated.
 fn evaluate<'src>(
     alloc: Global,
     contexts: &[ExecutionContext<'_, 'src>],
     target: EvaluationTarget,
-) -> Result<Performed, TaskFault<'src>> {
+) -> Result<Performed, TaskFault<'src>>
+    ensures { IsEvaluated (spec.values_text contexts.now target) result }
+{
     Ok(Performed::Evaluated(evaluated(alloc, contexts, target)?))
 }
 
@@ -126,12 +138,13 @@ fn command<'src, H: RunHost + Drop>(
     contexts: &[ExecutionContext<'_, 'src>],
     words: &[Text],
 ) -> Result<Performed, TaskFault<'src>>
+    ensures commands { CommandsIn H.goes (slice_get contexts.now 0) words.now host.old result host.new }
     ensures asks { Asks H.goes host.old host.new }
 {
-    if contexts.is_empty() {
+    let Some(root) = contexts.first() else {
         return Ok(Performed::Ran);
-    }
-    run_command(alloc, host, &contexts[0], words)
+    };
+    run_command(alloc, host, root, words)
 }
 
 /// Does the task in the modules' contexts.
@@ -143,6 +156,7 @@ fn perform_in<'a, 'src, H: RunHost + Drop>(
     task: Task,
     tally: &mut Tally,
 ) -> Result<Performed, TaskFault<'src>>
+    ensures does { Does H.goes contexts.now task.entry host.old result host.new }
     ensures asks { Asks H.goes host.old host.new }
 {
     match task {

@@ -3,6 +3,7 @@
 use crate::tokens::name;
 use just_text::{Number, Numerator};
 use std::alloc::{AllocError, Global};
+use std::cmp::Ordering;
 use std::test::Fail;
 use tree_attribute_sets::{AttributeItem, AttributeSet};
 use tree_attributes::{Attribute, AttributeKind};
@@ -35,6 +36,21 @@ fn variable(text: &'static str) -> Expression<'static> {
         name: name(text),
         number: None,
     }
+}
+
+/// How two variables without numbers stand to each other.
+fn compared(first: &'static str, second: &'static str) -> (bool, Ordering) {
+    let first = variable(first);
+    let second = variable(second);
+    (first == second, first.cmp(&second))
+}
+
+#[test]
+fn compares_expressions(rt: HostRuntime) -> Result<(), Fail> {
+    assert_eq!(rt; compared("x", "x"), (true, Ordering::Equal));
+    assert_eq!(rt; compared("x", "y"), (false, Ordering::Less));
+    assert_eq!(rt; compared("y", "x"), (false, Ordering::Greater));
+    Ok(())
 }
 
 /// Whether the expression is a variable with this number.

@@ -1,11 +1,18 @@
+use Rattle.std.proofs.Common.{◌≡◌, false}
 use Rattle.just_host.specs.Asking.{Asks}
-use Rattle.analyze_runs.specs.Tallies.{HasCounted}
+use Rattle.analyze_runs.specs.Rest.{Leads}
+use Rattle.analyze_runs.specs.Steps.{parts}
+use Rattle.analyze_runs.specs.Tallies.{HasCounted, tally_of}
 use Rattle.analyze_runs.specs.Weight.{weight}
 use Rattle.analyze_runs.proofs.running.run_stack.Given as goal
 
 abbrev pub decreases-loop-frame : goal.decreases-loop-frame
 decreases-loop-frame g l = weight l.stack
 
--- what was asked and counted so far
+-- what was asked and counted so far; what the stack does from here, it did from the start
 abbrev pub invariant-loop-frame : goal.invariant-loop-frame
-invariant-loop-frame g l = Asks g.H.Host.goes l.initial.host l.host × HasCounted l.initial.tally l.tally
+invariant-loop-frame g l = record {
+  asked : Asks g.H.Host.goes l.fn.host l.host;
+  counted : HasCounted l.fn.tally l.tally;
+  leads : l.host.exhausted ≡ false → Leads (parts l.runner) l.fn.stack l.fn.done l.fn.host.entries (tally_of l.fn.tally) l.stack l.done l.host.entries (tally_of l.tally);
+}

@@ -1,6 +1,14 @@
--- What was asked so far.
+-- What was asked so far, and what follows from here.
+use Rattle.std.proofs.Common.{drop, map}
 use Rattle.just_host.specs.Asking.{Asks}
+use Rattle.tree_items.specs.Lines.{pieces_of}
+use Rattle.justfile_evaluator.specs.Bodies.{NamedBody, IsBodyOf}
+use Rattle.justfile_evaluator.specs.Turns.{GoesOn, IsHeld}
 use Rattle.justfile_evaluator.proofs.body.run_lines.Given as goal
 
 abbrev pub invariant-loop-line : goal.invariant-loop-line
-invariant-loop-line g l = Asks g.H.Host.goes l.initial.host l.host
+invariant-loop-line g l = record {
+  asks : Asks g.H.Host.goes l.initial.host l.host;
+  held : IsHeld l.fn.site l.progress;
+  goes_on : (b : NamedBody) → IsBodyOf b l.fn.site l.fn.evaluator l.fn.body → GoesOn b l.progress.command (map pieces_of (drop l.line-index l.fn.body)) l.initial.host l.host;
+}

@@ -1,5 +1,5 @@
 -- When each thing was looked at and none waits, the order is whole.
-use Rattle.std.proofs.Common.{◌≡◌, sym, subst, refl, arith, map, length}
+use Rattle.std.proofs.Common.{◌≡◌, sym, subst, refl, arith, length}
 use Rattle.std.proofs.lemmas.List.{length-map}
 use Rattle.resolve_order.specs.Needs.{rows}
 use Rattle.resolve_order.specs.Order.{IsOrder}

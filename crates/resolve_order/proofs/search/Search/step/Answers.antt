@@ -1,12 +1,12 @@
 -- Each turn keeps the search and leaves fewer turns, or has found a cycle.
-use Rattle.std.proofs.Common.{◌≡◌, ◌<◌, sym, ◌∙◌, ap, subst, ◌++◌, ◌∷◌, [], drop, map, length, Some, arith, refl}
+use Rattle.std.proofs.Common.{◌≡◌, ◌<◌, sym, ◌∙◌, ap, subst, ◌++◌, ◌∷◌, [], drop, map, length, arith, refl}
 use Rattle.std.specs.Prelude.{slice_get}
 use Rattle.std.proofs.lemmas.Option.{slice_get_within}
 use Rattle.std.proofs.lemmas.List.{length-map, drop-map}
 use Rattle.resolve_order.specs.Needs.{IsCycle, rows}
 use Rattle.resolve_order.specs.Search.{frame_shape, frame_place, stack_of}
 use Rattle.resolve_order.specs.Turns.{turn_of}
-use Rattle.resolve_order.specs.declared.marks.Mark.TheVariants.{New, Open}
+use Rattle.resolve_order.specs.declared.marks.Mark.TheVariants.{New}
 use Rattle.resolve_order.proofs.Steps.{closed_search}
 use Rattle.resolve_order.proofs.Work.{closed_nearer, passed_nearer}
 use Rattle.resolve_order.proofs.Turns.{none_first, some_first, search_along, nearer_along, top_within, marked_within, descend_is, back_is, new_turn, open_turn, pass_turn}

@@ -1,0 +1,56 @@
+use Rattle.std.proofs.Common.{◌∷◌, ◌∙◌, ap, sym}
+use Rattle.std.proofs.lemmas.Result.{err_from_is_err_and}
+use Rattle.analyze_runs.specs.Calls.{row_of, rows}
+use Rattle.analyze_runs.specs.Frames.{todo}
+use Rattle.analyze_runs.specs.Steps.{parts}
+use Rattle.analyze_runs.specs.Tallies.{tally_of}
+use Rattle.analyze_runs.specs.Todo.{Calls, Body, entered_of}
+use Rattle.analyze_runs.proofs.Counts.{counted_on}
+use Rattle.analyze_runs.proofs.Turns.{asked_on, was_open, on, returned, ends, fails}
+use Rattle.analyze_runs.proofs.running.run_stack.Goals as goal
+
+pub returns-clause-goes : goal.returns-clause-goes
+returns-clause-goes g c = λ k. ends (parts c.args.runner.now) c.args.stack.now c.loop-frame.stack c.args.done.now c.loop-frame.done c.args.host.now.entries c.loop-frame.host.entries (tally_of c.args.tally.now) (tally_of c.loop-frame.tally)
+    c.in_default.ensures (c.loop-frame.invariant.leads k)
+
+pub returns-in_err-turn_calls-in-Calls-clause-goes : goal.returns-in_err-turn_calls-in-Calls-clause-goes
+returns-in_err-turn_calls-in-Calls-clause-goes g c =
+    let p = err_from_is_err_and c.from_residual.result c.from_residual.ensures.1 in
+    rw (p.1, p.2) (fails (parts c.args.runner.now) c.args.stack.now c.loop-frame.stack (Calls c.in-Calls.are_dependencies (rows c.in-Calls.pending) ∷ c.pop.new.self) c.args.done.now c.loop-frame.done
+    c.args.host.now.entries c.loop-frame.host.entries c.turn_calls.new.host.entries (tally_of c.args.tally.now) (tally_of c.loop-frame.tally) (tally_of c.turn_calls.new.tally)
+    c.turn_calls.new.host.exhausted c.in_err-turn_calls-in-Calls.field-0.0 (Unit {0}) (c.in-Some.ensures ∙ ap (λ f. todo f ∷ c.pop.new.self) c.in-Calls.is)
+    (λ k. c.loop-frame.invariant.leads (was_open g.H.Host.goes g.met.H.Host.nothing c.loop-frame.host c.turn_calls.new.host c.in_err-turn_calls-in-Calls.ensures.asks k)) c.in_err-turn_calls-in-Calls.ensures.goes)
+
+pub loop-frame-preserved-in-Continue-1 : goal.loop-frame-preserved-in-Continue-1
+loop-frame-preserved-in-Continue-1 g c = record {
+  asked = asked_on g.H.Host.goes c.args.host.now c.loop-frame.host c.turn_calls.new.host c.loop-frame.invariant.asked c.in_ok-turn_calls-in-Calls.ensures.asks;
+  counted = counted_on c.args.tally.now c.loop-frame.tally c.turn_calls.new.tally c.loop-frame.invariant.counted c.in_ok-turn_calls-in-Calls.ensures.counted;
+  leads = λ k. on (parts c.args.runner.now) (c.in-Some.ensures ∙ ap (λ f. todo f ∷ c.pop.new.self) c.in-Calls.is)
+      (c.loop-frame.invariant.leads (was_open g.H.Host.goes g.met.H.Host.nothing c.loop-frame.host c.turn_calls.new.host c.in_ok-turn_calls-in-Calls.ensures.asks k)) (c.in_ok-turn_calls-in-Calls.ensures.goes k);
+}
+
+pub returns-in_err-turn_body-in-Body-clause-goes : goal.returns-in_err-turn_body-in-Body-clause-goes
+returns-in_err-turn_body-in-Body-clause-goes g c =
+    let p = err_from_is_err_and c.from_residual-in_err-turn_body-in-Body.result c.from_residual-in_err-turn_body-in-Body.ensures.1 in
+    rw (p.1, p.2) (fails (parts c.args.runner.now) c.args.stack.now c.loop-frame.stack (Body (row_of c.in-Body.call) c.deref.result.now.is_dependency (entered_of c.deref.result.now) ∷ c.pop.new.self) c.args.done.now c.loop-frame.done
+    c.args.host.now.entries c.loop-frame.host.entries c.turn_body.new.host.entries (tally_of c.args.tally.now) (tally_of c.loop-frame.tally) (tally_of c.loop-frame.tally)
+    c.turn_body.new.host.exhausted c.in_err-turn_body-in-Body.field-0.0 (Unit {0})
+    (c.in-Some.ensures ∙ ap (λ f. todo f ∷ c.pop.new.self) c.in-Body.is ∙ ap (λ e. Body (row_of c.in-Body.call) e.is_dependency (entered_of e) ∷ c.pop.new.self) (sym c.deref.ensures))
+    (λ k. c.loop-frame.invariant.leads (was_open g.H.Host.goes g.met.H.Host.nothing c.loop-frame.host c.turn_body.new.host c.in_err-turn_body-in-Body.ensures.asks k)) (c.in_err-turn_body-in-Body.ensures.goes (tally_of c.loop-frame.tally)))
+
+pub loop-frame-preserved-in-Body : goal.loop-frame-preserved-in-Body
+loop-frame-preserved-in-Body g c = record {
+  asked = asked_on g.H.Host.goes c.args.host.now c.loop-frame.host c.turn_body.new.host c.loop-frame.invariant.asked c.in_ok-turn_body-in-Body.ensures.asks;
+  counted = c.loop-frame.invariant.counted;
+  leads = λ k. on (parts c.args.runner.now)
+      (c.in-Some.ensures ∙ ap (λ f. todo f ∷ c.pop.new.self) c.in-Body.is ∙ ap (λ e. Body (row_of c.in-Body.call) e.is_dependency (entered_of e) ∷ c.pop.new.self) (sym c.deref.ensures))
+      (c.loop-frame.invariant.leads (was_open g.H.Host.goes g.met.H.Host.nothing c.loop-frame.host c.turn_body.new.host c.in_ok-turn_body-in-Body.ensures.asks k)) (c.in_ok-turn_body-in-Body.ensures.goes (tally_of c.loop-frame.tally) k);
+}
+
+pub loop-frame-preserved : goal.loop-frame-preserved
+loop-frame-preserved g c = record {
+  asked = c.loop-frame.invariant.asked;
+  counted = c.loop-frame.invariant.counted;
+  leads = λ k. on (parts c.args.runner.now) (c.in-Some.ensures ∙ ap (λ f. todo f ∷ c.pop.new.self) c.in-After.is) (c.loop-frame.invariant.leads k)
+      (returned (parts c.args.runner.now) (row_of c.in-After.call) c.in-After.outer c.loop-frame.done c.turn_after.new.done c.pop.new.self c.loop-frame.host.entries (tally_of c.loop-frame.tally) c.in_ok-turn_after-in-After.ensures);
+}

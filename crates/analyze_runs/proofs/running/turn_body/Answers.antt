@@ -1,0 +1,23 @@
+use Rattle.std.proofs.lemmas.Result.{err_from_is_err_and}
+use Rattle.analyze_runs.specs.Calls.{row_of, rows}
+use Rattle.analyze_runs.specs.Rest.{set_aside}
+use Rattle.analyze_runs.specs.Steps.{parts}
+use Rattle.analyze_runs.specs.Todo.{entered_of}
+use Rattle.analyze_runs.proofs.Weights.{behind}
+use Rattle.analyze_runs.proofs.Turns.{blocked, body_refused}
+use Rattle.analyze_runs.proofs.running.turn_body.Goals as goal
+
+pub returns-in_err-subsequents-clause-goes : goal.returns-in_err-subsequents-clause-goes
+returns-in_err-subsequents-clause-goes g c = λ t.
+    let p = err_from_is_err_and c.from_residual.result c.from_residual.ensures.1 in
+    rw (p.1, p.2) (body_refused (parts c.args.runner.now) (row_of c.args.call) c.args.entered.now.is_dependency (entered_of c.args.entered.now) c.args.stack.now c.args.done.now
+    c.args.host.now.entries c.leave.new.host.entries t c.leave.new.host.exhausted c.in_err-subsequents.field-0.0 (Unit {0}) c.in_err-subsequents.ensures.goes)
+
+pub returns-clause-nearer : goal.returns-clause-nearer
+returns-clause-nearer g c = behind c.args.call c.args.entered.now.is_dependency (entered_of c.args.entered.now) (set_aside c.in_ok-subsequents.subsequents.are_shared c.args.done.now) c.in_ok-subsequents.subsequents.calls
+    c.args.stack.now c.push_subsequents.new.stack c.in_ok-subsequents.ensures.below c.in_ok-push_subsequents.ensures.stack
+
+pub returns-clause-goes : goal.returns-clause-goes
+returns-clause-goes g c = λ t k. blocked (parts c.args.runner.now) (row_of c.args.call) c.args.entered.now.is_dependency (entered_of c.args.entered.now) c.in_ok-subsequents.subsequents.are_shared
+    (rows c.in_ok-subsequents.subsequents.calls) c.args.stack.now c.push_subsequents.new.stack c.args.done.now c.push_subsequents.new.done c.args.host.now.entries c.leave.new.host.entries t
+    c.in_ok-subsequents.ensures.shared c.in_ok-push_subsequents.ensures.stack c.in_ok-push_subsequents.ensures.done (c.in_ok-subsequents.ensures.goes k)

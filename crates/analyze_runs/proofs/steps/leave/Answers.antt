@@ -1,0 +1,17 @@
+use Rattle.std.proofs.Common.{sym, refl}
+use Rattle.analyze_runs.specs.Calls.{row_of, rows}
+use Rattle.analyze_runs.specs.Growth.{Tails}
+use Rattle.analyze_runs.specs.Steps.{Ends, HeadsBelow, here_ends, nowhere_ends}
+use Rattle.analyze_runs.specs.Todo.{entered_of}
+use Rattle.analyze_runs.proofs.Beginnings.{given_as}
+use Rattle.analyze_runs.proofs.steps.leave.Goals as goal
+
+pub returns-in_default-clause-goes : goal.returns-in_default-clause-goes
+returns-in_default-clause-goes g c = λ k n. nowhere_ends (sym c.in_default.ensures) refl refl
+
+pub returns-clause-goes : goal.returns-clause-goes
+returns-clause-goes g c =
+    given_as (λ behind. rows behind.calls) c.subsequents.new.host.exhausted c.subsequents.result
+    (HeadsBelow c.args.call.now.recipe (Tails c.args.runner.now c.in-Some.placed.planned.now c.in-Some.placed.context.now c.args.entered.now.is_dependency (entered_of c.args.entered.now) c.args.host.now.entries c.subsequents.new.host.entries))
+    (Ends c.args.runner.now (row_of c.args.call.now) c.args.entered.now.is_dependency (entered_of c.args.entered.now) c.args.host.now.entries c.subsequents.new.host.entries)
+    (λ r h. here_ends (sym c.in-Some.ensures) h) c.subsequents.ensures.goes

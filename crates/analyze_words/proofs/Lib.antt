@@ -1,0 +1,6 @@
+pub mod Exact
+pub mod Groups
+pub mod Invoking
+pub mod Names
+pub mod Paths
+pub mod Taken

@@ -1,0 +1,37 @@
+use Rattle.std.proofs.Common.{rules, ◌≡◌, ◌<◌, [], get_or, length, map, arith}
+use Rattle.std.proofs.lemmas.Result.{err_from_is_err_and}
+use Rattle.std.specs.String.{string_bytes}
+use Rattle.meaning_stages.specs.Lines.{line_dialogue, piece_of}
+use Rattle.evaluate_expressions.specs.Situations.{stage_at, reading_at}
+use Rattle.evaluate_expressions.proofs.LineParts.{parts_more, parts_stop, parts_end}
+use Rattle.evaluate_expressions.proofs.evaluator.Evaluator.line_text.Goals as goal
+
+pub loop-fragment-preserved : goal.loop-fragment-preserved
+loop-fragment-preserved g c =
+    let self = c.args.self.now in
+    let es = c.args.line.now.fragments.items in
+    let lt : c.loop-fragment.fragment-index < length es = omega arith in
+    let is : c.fragment-item.result ≡ get_or es c.loop-fragment.fragment-index c.fragment-item.result = search rules in
+    let more = parts_more (reading_at self) (line_dialogue (stage_at self) c.args.continued [] (map piece_of es)) (stage_at self) es c.args.host.now.entries c.loop-fragment.host.entries _ c.loop-fragment.is_trimmed (string_bytes c.loop-fragment.text) (string_bytes c.in_ok-piece.piece) c.loop-fragment.fragment-index c.fragment-item.result c.loop-fragment.invariant.fills lt is c.in_ok-piece.ensures.evaluates in
+    record { asks = search rules; fills = search (rules, more) }
+
+pub returns-in_err-piece-clause-evaluates : goal.returns-in_err-piece-clause-evaluates
+returns-in_err-piece-clause-evaluates g c =
+    let self = c.args.self.now in
+    let es = c.args.line.now.fragments.items in
+    let lt : c.loop-fragment.fragment-index < length es = omega arith in
+    let is : c.fragment-item.result ≡ get_or es c.loop-fragment.fragment-index c.fragment-item.result = search rules in
+    let p = err_from_is_err_and c.from_residual.result c.from_residual.ensures.1 in
+    rw (p.1, p.2) (parts_stop (reading_at self) (line_dialogue (stage_at self) c.args.continued [] (map piece_of es)) (stage_at self) es c.args.host.now.entries c.loop-fragment.host.entries _ c.loop-fragment.is_trimmed (string_bytes c.loop-fragment.text) c.loop-fragment.fragment-index c.fragment-item.result _ c.loop-fragment.invariant.fills lt is c.in_err-piece.ensures.evaluates)
+
+pub returns-clause-evaluates : goal.returns-clause-evaluates
+returns-clause-evaluates g c =
+    let self = c.args.self.now in
+    let es = c.args.line.now.fragments.items in
+    parts_end (reading_at self) (line_dialogue (stage_at self) c.args.continued [] (map piece_of es)) (stage_at self) es c.args.host.now.entries c.loop-fragment.host.entries c.loop-fragment.is_trimmed (string_bytes c.loop-fragment.text) c.loop-fragment.fragment-index c.loop-fragment.invariant.fills (omega arith)
+
+pub returns-in_err-piece-clause-asks : goal.returns-in_err-piece-clause-asks
+returns-in_err-piece-clause-asks g c = λ start asked. c.in_err-piece.ensures.asks start (c.loop-fragment.invariant.asks start asked)
+
+pub returns-in_err-push_str-clause-asks : goal.returns-in_err-push_str-clause-asks
+returns-in_err-push_str-clause-asks g c = λ start asked. c.in_ok-piece.ensures.asks start (c.loop-fragment.invariant.asks start asked)

@@ -1,0 +1,6 @@
+pub mod Given
+pub mod Interpreters
+pub mod Known
+pub mod Opening
+pub mod SameStage
+pub mod Settling

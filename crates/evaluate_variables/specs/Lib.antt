@@ -1,0 +1,5 @@
+pub mod Given
+pub mod Known
+pub mod Opened
+pub mod SettingValues
+pub mod Settled

@@ -1,5 +1,0 @@
-use Rattle.std.proofs.Common.{refl}
-use Rattle.justfile_evaluator.proofs.const_evaluator.ConstEvaluator.set_words.Goals as goal
-
-pub returns : goal.returns
-returns c = record { words = c.in_ok-evaluate_interpreter.field-0; settles = c.in_ok-evaluate_interpreter.ensures (λ e. cc); is = refl }

@@ -1,0 +1,6 @@
+-- The words so far are copied.
+use Rattle.std.proofs.Common.{◌≡◌, take}
+use Rattle.run_tasks.proofs.command.copied.Given as goal
+
+abbrev pub invariant-loop-word : goal.invariant-loop-word
+invariant-loop-word l = l.copies ≡ take l.word-index l.words
