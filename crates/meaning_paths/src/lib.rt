@@ -1,0 +1,4 @@
+//! Paths of modules as words: definitions, and a law on them.
+#![tactic(auto)]
+
+pub mod law;
