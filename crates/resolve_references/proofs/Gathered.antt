@@ -1,5 +1,5 @@
 -- What an expression has where its parts lie in a row or may be missing.
-use Rattle.std.proofs.Common.{◌≡◌, ◌∙◌, List, [], ◌∷◌, ◌++◌, length, map, Option, Some, None, ap, sym, refl, rules, append_assoc}
+use Rattle.std.proofs.Common.{◌≡◌, ◌∙◌, ◌∷◌, ◌++◌, length, map, Option, Some, None, refl, rules, append_assoc}
 use Rattle.std.proofs.lemmas.List.Folds.{flat_map-map}
 use Rattle.std.proofs.lemmas.List.{length-map}
 use Rattle.std.specs.Global.{Box, Vec}
@@ -8,7 +8,6 @@ use Rattle.tree_expressions.specs.declared.string_literal.StringLiteral.{StringL
 use Rattle.just_text.specs.declared.name.Name.{Name}
 use Rattle.just_text.specs.declared.token.Token.{Token}
 use Rattle.tree_expressions.specs.declared.expression.Expression.{Expression, Call as CallOf, Conditional, FormatString, Join, List as ListOf, the_lemmas}
-use Rattle.resolve_references.specs.declared.references.Reference.{Reference}
 use Rattle.resolve_references.specs.declared.references.Reference.TheVariants.{Call}
 use Rattle.resolve_references.specs.References.{references_of, references_if_there, references_in_interpolation}
 

@@ -1,1 +1,5 @@
+pub mod Faults
+pub mod Functions
+pub mod ItemReferences
+pub mod Places
 pub mod References

@@ -1,7 +1,6 @@
 -- The calls and variables of an expression.
-use Rattle.std.specs.Prelude.{ℕ, List, [], ◌∷◌, ◌++◌, length, Option, Some, None}
+use Rattle.std.specs.Prelude.{List, [], ◌∷◌, length, Option, Some, None}
 use Rattle.std.specs.Global.{Box}
-use Rattle.std.specs.List.{flat_map}
 use Rattle.tree_expressions.specs.declared.string_literal.StringLiteral.{StringLiteral}
 use Rattle.tree_expressions.specs.declared.expression.Expression.{Expression, fold-Expression}
 use Rattle.tree_expressions.specs.declared.expression.Expression.TheOpen.{Expression-F}

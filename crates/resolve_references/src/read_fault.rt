@@ -18,6 +18,10 @@ pub enum ReadFault<'src> {
 }
 
 impl<'src> From<CallFault<'src>> for ReadFault<'src> {
+    ghost use Rattle.resolve_references.specs.Faults.{fault_of_call};
+
+    ghost from_gives = { λ refused fault. fault ≡ fault_of_call refused };
+
     fn from(fault: CallFault<'src>) -> ReadFault<'src> {
         match fault {
             CallFault::UnknownFunction(name) => ReadFault::UnknownFunction(name),

@@ -1,4 +1,11 @@
 //! What expressions of a module read, by places.
+ghost use Rattle.std.specs.Prelude.{◌≡◌, ◌≢◌, ℕ, nat_eq, if◌then◌else◌, IfErr, IfOk, List, None, OnOk, Ok, Err, Some};
+ghost use Rattle.resolve_references.specs.declared.read_fault.ReadFault.TheVariants.{OutOfMemory};
+ghost use Rattle.resolve_references.specs.Functions.{call_of, function_in};
+ghost use Rattle.resolve_references.specs.Places.{place_of, place_of_called, place_of_resolved, place_of_variable, places_of, variable_in};
+ghost use Rattle.resolve_references.specs.References.{references_of};
+ghost use Rattle.std.specs.Str.{bytes_eq};
+
 use crate::functions::{Called, DefinedFunction, FunctionNames, resolve_call};
 use crate::read_fault::ReadFault;
 use crate::references::{Reference, References};
@@ -18,7 +25,12 @@ pub struct VariableResolver<'src> {
 
 impl<'src> VariableResolver<'src> {
     /// For a module with so many variables, of which none is known yet. Takes no memory.
-    pub fn new(alloc: Global, variables: usize) -> VariableResolver<'src> {
+    #[tactic(auto, unfolding(crate::specs::Places::variable_in))]
+    pub fn new(alloc: Global, variables: usize) -> VariableResolver<'src>
+        ensures variables { result.variables ≡ variables }
+        ensures none { (number : ℕ) → variable_in result number ≡ None }
+        ensures no_functions { (name : List ℕ) → function_in result.functions name ≡ None }
+    {
         VariableResolver {
             numbers: BTreeMap::new(alloc),
             functions: FunctionNames::new(alloc),
@@ -27,29 +39,44 @@ impl<'src> VariableResolver<'src> {
     }
 
     /// How many variables the module has.
-    pub fn variables(&self) -> usize {
+    pub fn variables(&self) -> usize
+        ensures { result ≡ self.now.variables }
+    {
         self.variables
     }
 
-    /// Gives the variable of this number its place.
-    pub fn add_variable(&mut self, number: Number, place: usize) -> Result<(), AllocError> {
+    /// Gives the variable of this number its place, and leaves the other variables and the functions
+    /// as they are. Refused only where memory is.
+    pub fn add_variable(&mut self, number: Number, place: usize) -> Result<(), AllocError>
+        ensures places { OnOk result ((other : ℕ) → variable_in self.new other ≡ (if nat_eq number other then Some place else variable_in self.old other)) }
+        ensures variables { self.new.variables ≡ self.old.variables }
+        ensures functions { self.new.functions ≡ self.old.functions }
+    {
         match self.numbers.insert(number, place) {
             Ok(_) => Ok(()),
             Err(_) => Err(AllocError),
         }
     }
 
-    /// Gives the function of this name its place among the functions.
+    /// Gives the function of this name its place among the functions, and leaves the other functions
+    /// and the variables as they are. Refused only where memory is.
     pub fn add_function(
         &mut self,
         name: &'src str,
         function: DefinedFunction,
-    ) -> Result<(), AllocError> {
+    ) -> Result<(), AllocError>
+        ensures functions { OnOk result ((other : List ℕ) → function_in self.new.functions other ≡ (if bytes_eq name.entry.now other then Some function else function_in self.old.functions other)) }
+        ensures variables { self.new.variables ≡ self.old.variables }
+        ensures numbers { self.new.numbers ≡ self.old.numbers }
+    {
         self.functions.insert(name, function)
     }
 
     /// The place of the variable of this number. Takes no memory.
-    pub fn variable(&self, number: Number) -> Option<usize> {
+    #[tactic(auto, unfolding(crate::specs::Places::variable_in))]
+    pub fn variable(&self, number: Number) -> Option<usize>
+        ensures { result ≡ variable_in self.now number }
+    {
         self.numbers.get(&number).copied()
     }
 
@@ -58,26 +85,42 @@ impl<'src> VariableResolver<'src> {
         &self,
         name: Name<'src>,
         number: Option<Number>,
-    ) -> Result<Option<usize>, ReadFault<'src>> {
+    ) -> Result<Option<usize>, ReadFault<'src>>
+        ensures { result ≡ place_of_variable self.now name.entry number }
+    {
         match number {
             Some(number) => Ok(self.variable(number)),
             None => Err(ReadFault::UndefinedVariable(name)),
         }
     }
 
-    /// The place of what a call calls; a built-in function has none.
+    /// The place of what is called; a built-in function has none.
+    fn called_place(&self, called: Called) -> Option<usize>
+        ensures { result ≡ place_of_called self.now.variables called }
+    {
+        match called {
+            Called::Builtin(_) => None,
+            Called::Defined(place) => self.variables.checked_add(place),
+        }
+    }
+
+    /// The place of what a call calls.
     fn call_place(
         &self,
         name: Name<'src>,
         arguments: usize,
-    ) -> Result<Option<usize>, ReadFault<'src>> {
-        match resolve_call(&self.functions, name, arguments)? {
-            Called::Builtin(_) => Ok(None),
-            Called::Defined(place) => Ok(self.variables.checked_add(place)),
+    ) -> Result<Option<usize>, ReadFault<'src>>
+        ensures { result ≡ place_of_resolved self.now.variables (call_of (function_in self.now.functions) name.entry arguments) }
+    {
+        match resolve_call(&self.functions, name, arguments) {
+            Ok(called) => Ok(self.called_place(called)),
+            Err(fault) => Err(ReadFault::from(fault)),
         }
     }
 
-    fn place(&self, reference: &Reference<'src>) -> Result<Option<usize>, ReadFault<'src>> {
+    fn place(&self, reference: &Reference<'src>) -> Result<Option<usize>, ReadFault<'src>>
+        ensures { result ≡ place_of self.now reference.now }
+    {
         match reference {
             Reference::Call { name, arguments } => self.call_place(*name, *arguments),
             Reference::Variable { name, number } => self.variable_place(*name, *number),
@@ -91,7 +134,10 @@ impl<'src> VariableResolver<'src> {
         &self,
         alloc: Global,
         references: &References<'src>,
-    ) -> Result<Vec<usize>, ReadFault<'src>> {
+    ) -> Result<Vec<usize>, ReadFault<'src>>
+        ensures ok { IfOk result (λ places. places_of self.now references.now.list.items ≡ Ok places.items) }
+        ensures err { IfErr result (λ fault. fault ≢ OutOfMemory → places_of self.now references.now.list.items ≡ Err fault) }
+    {
         let mut places = Vec::new(alloc);
         for reference in references.as_slice() {
             if let Some(place) = self.place(reference)? {
@@ -106,7 +152,10 @@ impl<'src> VariableResolver<'src> {
         &self,
         alloc: Global,
         expression: &Expression<'src>,
-    ) -> Result<Vec<usize>, ReadFault<'src>> {
+    ) -> Result<Vec<usize>, ReadFault<'src>>
+        ensures ok { IfOk result (λ places. places_of self.now (references_of expression.now) ≡ Ok places.items) }
+        ensures err { IfErr result (λ fault. fault ≢ OutOfMemory → places_of self.now (references_of expression.now) ≡ Err fault) }
+    {
         let references = References::of(alloc, expression)?;
         self.resolve_references(alloc, &references)
     }
