@@ -1,0 +1,10 @@
+//! What is found in an expression's tree is what the rules say that it names.
+#![tactic(auto)]
+
+ghost use Rattle.meaning_references.specs.Occurrences.{ReferencesAreOccurrences};
+
+/// The calls and variables that are found in an expression are those that stand in it, each once for
+/// each time that it stands there, a call before those in its arguments.
+pub fn references_are_occurrences()
+    ensures { ReferencesAreOccurrences }
+{}
