@@ -1,0 +1,4 @@
+pub mod Places
+pub mod Evaluators
+pub mod Variables
+pub mod Laws
