@@ -135,7 +135,7 @@ fn confirmed<'src, H: RunHost + Drop>(
         return Ok(Vec::new(alloc));
     }
     let priors = recipe.priors.as_slice();
-    block(alloc, host, &evaluator, runner, priors, planned.priors)
+    Ok(block(alloc, host, &evaluator, runner, priors, planned.priors)?)
 }
 
 /// Runs the recipe's body.
@@ -174,14 +174,14 @@ fn done<'src, H: RunHost + Drop>(
         return Ok(Vec::new(alloc));
     }
     let subsequents = recipe.subsequents.as_slice();
-    block(
+    Ok(block(
         alloc,
         host,
         &evaluator,
         runner,
         subsequents,
         planned.subsequents,
-    )
+    )?)
 }
 
 /// Confirms the recipe, and gives the calls before its body.
