@@ -1,0 +1,3 @@
+pub mod ItemRules
+pub mod Lists
+pub mod Settings

@@ -3,10 +3,10 @@
 use crate::definition::{Definition, Kind, definitions};
 use crate::files::FileRange;
 use crate::keep::{kept, put_all};
-use crate::rules::check_items;
+use crate::rules::check_files;
 use crate::truths::Truths;
 use just_host::Config;
-use justfile_syntax::{Alias, Expander, Item, Namepath, Os};
+use justfile_syntax::{Alias, Expander, Item, Namepath};
 use modules_compilation::{Compilation, Error, File, ModuleNode, Place, Target};
 use modules_sources::{Parsed, items_of, load_modules, load_root};
 use std::alloc::{AllocError, Global};
@@ -66,19 +66,10 @@ fn check_exports<'src>(
     Ok(())
 }
 
-/// Refuses the first item of the files of the range that breaks a rule.
-fn check_files<'src>(
-    files: &[File<'src>],
-    range: FileRange,
-    truths: &Truths,
-    os: Os,
-) -> Result<(), Error<'src>> {
-    for place in range.first..range.end {
-        if place < files.len() {
-            check_items(items_of(&files[place]), truths, os)?;
-        }
-    }
-    Ok(())
+/// The files of the range.
+fn files_of<'file, 'src>(files: &'file [File<'src>], range: FileRange) -> &'file [File<'src>] {
+    let end = range.end.min(files.len());
+    &files[range.first.min(end)..end]
 }
 
 /// What the module keeps of its definitions, where they and its files, which are those of the range,
@@ -90,8 +81,9 @@ fn kept_of<'src, 'a>(
     definitions: &[Definition<'src, 'a>],
     config: &Config,
 ) -> Result<Vec<Definition<'src, 'a>>, Error<'src>> {
-    let truths = Truths::new(files, definitions, config.unstable);
-    check_files(files, range, &truths, config.os)?;
+    let own = files_of(files, range);
+    let truths = Truths::new(own, config.os, config.unstable);
+    check_files(own, &truths, config.os)?;
     check_exports(alloc, files, definitions)?;
     kept(alloc, definitions, &truths)
 }

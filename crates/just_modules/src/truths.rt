@@ -1,9 +1,13 @@
 //! The settings that decide which files are whole.
+ghost use Rattle.std.specs.Prelude.{◌≡◌};
+ghost use Rattle.tree_attributes.specs.Settings.{value_shape};
+ghost use Rattle.tree_items.specs.Files.{item_shape};
+ghost use Rattle.just_modules.specs.Settings.{is_on, is_on_among, is_true, truths_of, turns_on};
 
-use crate::definition::{Definition, Kind};
-use justfile_syntax::{Item, Setting};
-use modules_compilation::{File, Place};
-use modules_sources::items_of;
+use just_text::Os;
+use modules_compilation::File;
+use tree_attributes::Setting;
+use tree_items::Item;
 
 /// Settings of a module that say what its files may hold.
 #[derive(Clone, Copy, Debug, PartialEq, Eq)]
@@ -16,68 +20,96 @@ pub struct Truths {
     pub unstable: bool,
 }
 
+/// Whether the value is the truth.
+fn is_true(setting: &Setting) -> bool
+    ensures { result ≡ is_true (value_shape setting.now) }
+{
+    match setting {
+        Setting::AllowDuplicateRecipes(value)
+        | Setting::AllowDuplicateVariables(value)
+        | Setting::DefaultList(value)
+        | Setting::DefaultScript(value)
+        | Setting::DotenvLoad(value)
+        | Setting::DotenvOverride(value)
+        | Setting::DotenvRequired(value)
+        | Setting::Export(value)
+        | Setting::Fallback(value)
+        | Setting::Guards(value)
+        | Setting::IgnoreComments(value)
+        | Setting::Lazy(value)
+        | Setting::Lists(value)
+        | Setting::NoCd(value)
+        | Setting::NoExitMessage(value)
+        | Setting::PositionalArguments(value)
+        | Setting::Quiet(value)
+        | Setting::ShareSubsequents(value)
+        | Setting::Unstable(value)
+        | Setting::WindowsPowershell(value) => *value,
+        Setting::DotenvCommand(_)
+        | Setting::DotenvFilename(_)
+        | Setting::DotenvPath(_)
+        | Setting::Indentation(_)
+        | Setting::MinimumVersion(_)
+        | Setting::ScriptInterpreter(_)
+        | Setting::Shell(_)
+        | Setting::Tempdir(_)
+        | Setting::WindowsShell(_)
+        | Setting::WorkingDirectory(_) => false,
+    }
+}
+
+/// Whether the item makes the setting of this name true, and is not for another operating system.
+#[tactic(auto, using(crate::proofs::Enabled::same_enabled))]
+fn turns_on(item: &Item, name: &str, os: Os) -> bool
+    ensures { result ≡ turns_on os name.now (item_shape item.now) }
+{
+    match item {
+        Item::Set(set) => {
+            set.attributes.is_enabled(os) && set.name.lexeme() == name && is_true(&set.value)
+        }
+        _ => false,
+    }
+}
+
+/// Whether one of the items does.
+fn is_on_among(items: &[Item], name: &str, os: Os) -> bool
+    ensures { result ≡ is_on_among os name.now items.now }
+{
+    items.iter().any(|item| turns_on(item, name, os))
+}
+
+/// Whether an item of the file does.
+fn is_on_in(file: &File, name: &str, os: Os) -> bool
+    ensures { result ≡ is_on_among os name.now file.now.ast.items.items }
+{
+    is_on_among(file.ast.items.as_slice(), name, os)
+}
+
+/// Whether an item of one of the files does.
+fn is_on(files: &[File], name: &str, os: Os) -> bool
+    ensures { result ≡ is_on os files.now name.now }
+{
+    for file in files {
+        if is_on_in(file, name, os) {
+            return true;
+        }
+    }
+    false
+}
+
 impl Truths {
-    /// With this setting.
-    fn with(self, setting: &Setting) -> Truths {
-        let mut truths = self;
-        match setting {
-            Setting::AllowDuplicateRecipes(value) => truths.allow_duplicate_recipes = *value,
-            Setting::AllowDuplicateVariables(value) => truths.allow_duplicate_variables = *value,
-            Setting::DefaultScript(value) => truths.default_script = *value,
-            Setting::Guards(value) => truths.guards = *value,
-            Setting::Lists(value) => truths.lists = *value,
-            Setting::Unstable(value) => truths.unstable = *value,
-            _ => {}
+    /// What the settings of a module say, whose files these are; a setting that is made twice is on
+    /// where one of the two says so. Features that may still change are asked for by `unstable`, too.
+    pub fn new(files: &[File], os: Os, unstable: bool) -> Truths
+        ensures { result ≡ truths_of os unstable files.now }
+    {
+        Truths {
+            allow_duplicate_recipes: is_on(files, "allow-duplicate-recipes", os),
+            allow_duplicate_variables: is_on(files, "allow-duplicate-variables", os),
+            default_script: is_on(files, "default-script", os),
+            guards: is_on(files, "guards", os),
+            lists: is_on(files, "lists", os),
+            unstable: unstable || is_on(files, "unstable", os),
         }
-        truths
-    }
-
-    /// With the setting that the item is; the same where it is none.
-    fn with_item(self, item: &Item) -> Truths {
-        match item {
-            Item::Set(set) => self.with(&set.value),
-            _ => self,
-        }
-    }
-
-    /// With the setting at the place among the items; the same where there is none.
-    fn with_place(self, items: &[Item], place: usize) -> Truths {
-        if place < items.len() {
-            self.with_item(&items[place])
-        } else {
-            self
-        }
-    }
-
-    /// With the setting at the place; the same where there is none.
-    fn with_set(self, files: &[File], place: Place) -> Truths {
-        if place.file < files.len() {
-            self.with_place(items_of(&files[place.file]), place.item)
-        } else {
-            self
-        }
-    }
-
-    /// What the settings among the definitions say; `unstable` holds also without a setting.
-    pub fn new<'src>(
-        files: &[File<'src>],
-        definitions: &[Definition<'src, '_>],
-        unstable: bool,
-    ) -> Truths {
-        let mut truths = Truths {
-            allow_duplicate_recipes: false,
-            allow_duplicate_variables: false,
-            default_script: false,
-            guards: false,
-            lists: false,
-            unstable: false,
-        };
-        for definition in definitions {
-            if definition.kind == Kind::Set {
-                truths = truths.with_set(files, definition.place);
-            }
-        }
-        truths.unstable = truths.unstable || unstable;
-        truths
     }
 }
