@@ -1,14 +1,13 @@
 -- How an answer for plain recipes is the call's.
-use Rattle.std.proofs.Common.{◌≡◌, List, [], true, false, Option, Result, Ok, Err, IfErr, refl, sym, ◌∙◌}
+use Rattle.std.proofs.Common.{List, [], Result, Err, IfErr, refl}
 use Rattle.just_host.specs.Record.{Record}
 use Rattle.just_host.specs.Follows.{Follows, Nothing}
 use Rattle.just_host.specs.Steps.{idle}
 use Rattle.just_host.specs.declared.entry.Entry.{Entry}
 use Rattle.run_plain.specs.Inputs.{Inputs}
 use Rattle.run_plain.specs.Setup.{Setup}
-use Rattle.run_plain.specs.Rules.{Rule, Broken, is_of_words}
-use Rattle.run_plain.specs.Goes.{Failure}
-use Rattle.run_plain.specs.Drives.{Verdict, ran_out, breaks, fails, verdict, NamesBroken, IsRefusal, IsRefused, RunsOf, IfRun, Ended}
+use Rattle.run_plain.specs.Rules.{Rule, Broken}
+use Rattle.run_plain.specs.Drives.{verdict, NamesBroken, IsRefusal, RunsOf, IfRun}
 use Rattle.run_plain.specs.Stages.{IsTold}
 use Rattle.run_plain.specs.declared.fault.Fault as plain_fault
 use Rattle.run_plain.specs.declared.fault.Fault.TheVariants as plain_faults

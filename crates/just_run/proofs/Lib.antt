@@ -1,4 +1,6 @@
+mod Again
 mod Driven
 mod Early
+mod Failed
 mod Planned
 mod Roots

@@ -1,5 +1,7 @@
+pub mod Drives
 pub mod Early
 pub mod Faulted
+pub mod Passed
 pub mod Plain
 pub mod Plans
 pub mod Requests

@@ -1,11 +1,16 @@
 -- Texts that are written or answered.
 use Rattle.std.specs.Prelude.{◌≡◌, ℕ, List, [], Option, Some, None, codes, slice_get, unwrap_or, Result, Ok, Err, if◌then◌else◌}
 use Rattle.std.specs.String.{string_bytes}
+use Rattle.std.specs.Str.{IsUtf8}
 use Rattle.just_text.specs.declared.os.Os.{Os}
 use Rattle.tree_items.specs.declared.ast.Item.{Item}
 use Rattle.tree_items.specs.Files.{file_text, item_shapes}
 use Rattle.tree_items.specs.Printable.{printable}
 use Rattle.tree_items.specs.FileIndentation.{file_indentation}
+use Rattle.parse_expressions.specs.Literals.{Expansion}
+use Rattle.justfile_syntax.specs.Reads.{Reads}
+use Rattle.semver.specs.declared.Version.{Version}
+use Rattle.meaning_printing.specs.Normal.{normal}
 use Rattle.modules_compilation.specs.declared.compilation.Compilation.{Compilation}
 use Rattle.modules_compilation.specs.declared.module_node.File.{File}
 use Rattle.modules_compilation.specs.declared.module_node.ModuleNode.{ModuleNode}
@@ -60,3 +65,10 @@ IsFormatted path None (Ok outcome) = ⊥
 IsFormatted path text (Err OutOfMemory) = Unit {0}
 IsFormatted path None (Err (NotPrintable refused)) = refused ≡ path
 IsFormatted path text (Err fault) = ⊥
+
+-- The answered text says what the file says, but for blank lines: whatever text of UTF-8 says the file's items, the answered text says their normal shape.
+abbrev pub IsReadAgain : Option File → Result Outcome Fault → Type 0
+IsReadAgain (Some file) (Ok (outcomes.Formatted path text)) =
+    (expansion : Expansion) (version : Version) (source : List ℕ) → IsUtf8 source → Reads expansion version source (item_shapes file.ast.items.items)
+    → Reads expansion version text (normal (item_shapes file.ast.items.items))
+IsReadAgain file result = Unit {0}

@@ -4,16 +4,17 @@ ghost use Rattle.justfile_syntax.specs.PlainShapes.{shape_of};
 ghost use Rattle.run_plain.specs.Inputs.{Inputs, inputs_of, reader_of};
 ghost use Rattle.run_plain.specs.Setup.{setup_of};
 ghost use Rattle.run_plain.specs.Stages.{IsRead, IsRoot};
+ghost use Rattle.just_run.specs.Drives.{Drives};
 ghost use Rattle.just_run.specs.Early.{IsEarly, IsLate};
 ghost use Rattle.just_run.specs.Plain.{IsPlain, AnswersPlain, IsWay};
 ghost use Rattle.just_run.specs.Plans.{IsKeptBy, Plans};
 ghost use Rattle.just_run.specs.Requests.{IsText};
-ghost use Rattle.just_run.specs.Writes.{IsKept};
+ghost use Rattle.just_run.specs.Writes.{IsKept, IsNoWrite, WriteFails};
 ghost use Rattle.just_run.specs.declared.outcome.Action.TheVariants.{Plan, Run};
 ghost use Rattle.just_host.specs.Asking.{Asks, IsAsked};
 
 use crate::fault::Fault;
-use crate::outcome::{Action, Outcome, Trees};
+use crate::outcome::{Action, Outcome};
 use crate::plan::{drive_plan, plan_file};
 use crate::prepared::perform_task;
 use crate::request::{Request, request_of};
@@ -42,6 +43,7 @@ fn drive_task<'src, H: RunHost + Drop, O: Out>(
     out: &mut O,
 ) -> Result<Outcome, Fault<'src>>
     ensures kept { IfErr result (λ fault. IsKept (O.written out.old) fault (O.written out.new)) }
+    ensures unfailed { WriteFails (O.failed out.old) result (O.failed out.new) }
     ensures late { IfErr result IsLate }
     ensures asks { Asks H.goes host.old host.new }
 {
@@ -62,6 +64,7 @@ fn drive_analysis<'src, H: RunHost + Drop, O: Out>(
     out: &mut O,
 ) -> Result<Outcome, Fault<'src>>
     ensures kept { IfErr result (λ fault. IsKeptBy action (O.written out.old) fault (O.written out.new)) }
+    ensures unfailed { WriteFails (O.failed out.old) result (O.failed out.new) }
     ensures planned { action ≡ Plan → Plans H.goes host.old (O.written out.old) result host.new (O.written out.new) }
     ensures early { IfErr result (λ fault. IsEarly fault host.old (O.written out.old) host.new (O.written out.new)) }
     ensures silent { IsText action → host.new ≡ host.old }
@@ -105,6 +108,7 @@ fn drive_modules<'src, H: RunHost + Drop, O: Out>(
     out: &mut O,
 ) -> Result<Outcome, Fault<'src>>
     ensures kept { IfErr result (λ fault. IsKeptBy action (O.written out.old) fault (O.written out.new)) }
+    ensures unfailed { WriteFails (O.failed out.old) result (O.failed out.new) }
     ensures planned { action ≡ Plan → Plans H.goes host.old (O.written out.old) result host.new (O.written out.new) }
     ensures early { IfErr result (λ fault. IsEarly fault host.old (O.written out.old) host.new (O.written out.new)) }
     ensures silent { IsText action → host.new ≡ host.old }
@@ -127,11 +131,18 @@ fn drive_modules<'src, H: RunHost + Drop, O: Out>(
     }
 }
 
-/// Drops the trees of all files, or leaves them.
+/// What becomes of the trees of the files at the end of a call.
+#[derive(Clone, Copy)]
+enum Trees {
+    Dropped,
+    Leaked,
+}
+
+/// Drops the trees of all files, or leaks them.
 fn part_with(compilation: Compilation, trees: Trees) {
     match trees {
         Trees::Dropped => drop(compilation),
-        Trees::Left => mem::forget(compilation),
+        Trees::Leaked => mem::forget(compilation),
     }
 }
 
@@ -148,6 +159,7 @@ fn drive_compilation<'src, H: RunHost + Drop, O: Out>(
     out: &mut O,
 ) -> Result<Outcome, Fault<'src>>
     ensures kept { IfErr result (λ fault. IsKeptBy action (O.written out.old) fault (O.written out.new)) }
+    ensures unfailed { WriteFails (O.failed out.old) result (O.failed out.new) }
     ensures planned { action ≡ Plan → Plans H.goes host.old (O.written out.old) result host.new (O.written out.new) }
     ensures early { IfErr result (λ fault. IsEarly fault host.old (O.written out.old) host.new (O.written out.new)) }
     ensures silent { IsText action → host.new ≡ host.old }
@@ -178,6 +190,7 @@ fn drive_files<'src, E: Expander, H: RunHost + Drop, O: Out>(
     out: &mut O,
 ) -> Result<Outcome, Fault<'src>>
     ensures kept { IfErr result (λ fault. IsKeptBy action (O.written out.old) fault (O.written out.new)) }
+    ensures unfailed { WriteFails (O.failed out.old) result (O.failed out.new) }
     ensures planned { action ≡ Plan → Plans H.goes host.old (O.written out.old) result host.new (O.written out.new) }
     ensures early { IfErr result (λ fault. IsEarly fault host.old (O.written out.old) host.new (O.written out.new)) }
     ensures silent { IsText action → host.new ≡ host.old }
@@ -208,6 +221,7 @@ fn run_plain<'src, H: RunHost + Drop>(
     host: &mut Recorded<H>,
 ) -> Result<Outcome, Fault<'src>>
     ensures plain { (i : Inputs) → i.words ≡ words.now → IsRead i (shape_of recipes.now) → AnswersPlain H.goes i (setup_of config.now) result host.old host.new }
+    ensures no_write { IfErr result IsNoWrite }
     ensures asks { Asks H.goes host.old host.new }
 {
     match run_file(alloc, config, recipes, words, host) {
@@ -257,6 +271,7 @@ fn drive_root<'src, E: Expander, H: RunHost + Drop, O: Out>(
     out: &mut O,
 ) -> Result<Outcome, Fault<'src>>
     ensures kept { IfErr result (λ fault. IsKeptBy action (O.written out.old) fault (O.written out.new)) }
+    ensures unfailed { WriteFails (O.failed out.old) result (O.failed out.new) }
     ensures planned { action ≡ Plan → (i : Inputs) → i.words ≡ words.now → IsRoot i root.entry.path.now (option_map shape_of root.entry.plain) → Plans H.goes host.old (O.written out.old) result host.new (O.written out.new) }
     ensures plain { action ≡ Run → (i : Inputs) → IsPlain i → i.words ≡ words.now → IsRoot i root.entry.path.now (option_map shape_of root.entry.plain) → AnswersPlain H.goes i (setup_of config.now) result host.old host.new }
     ensures unwritten { action ≡ Run → (i : Inputs) → IsPlain i → IsRoot i root.entry.path.now (option_map shape_of root.entry.plain) → O.written out.new ≡ O.written out.old }
@@ -291,25 +306,8 @@ fn drive_root<'src, E: Expander, H: RunHost + Drop, O: Out>(
     }
 }
 
-/// Does what the action and the words ask of the justfile in `sources` that `roots` name for the
-/// words' search directory.
-///
-/// A call is refused before anything is asked of the host where a rule is broken: of the files that
-/// are reached, of their modules, names and orders, or of the words. Else all modules open, parents
-/// first, and the recipes that the words name run, each after all that it depends on, none twice
-/// with the same values, up to the first command that fails; or what they would hand over up to there
-/// is written, and nothing is handed over; or the variables are written, or the one command runs. A
-/// file of plain recipes that names no other runs, or is planned, by a shorter way, to the same end.
-/// Want of memory, or of numbers for recipes and bindings, may come in the place of any answer. The
-/// trees of the files are dropped at the end or left, as `trees` says; those of plain recipes are
-/// dropped.
-///
-/// # Errors
-///
-/// `NoRootForWord`; a rule of files, modules, names and orders, or of words; `Dotenv`, `Opening`,
-/// `Evaluation`, `Code`, `Signal`, `CouldNotStart`, `NotConfirmed` and `Command` of a run; `Write`
-/// where the output takes no more; `NotPrintable`; `OutOfMemory`.
-pub fn drive<'src, E: Expander, H: RunHost + Drop, O: Out>(
+/// Reads the root file that the words name, and does what is asked of it.
+fn drive_words<'src, E: Expander, H: RunHost + Drop, O: Out>(
     alloc: Global,
     config: &Config,
     expander: &E,
@@ -329,6 +327,8 @@ pub fn drive<'src, E: Expander, H: RunHost + Drop, O: Out>(
     ensures silent { IsText action → host.new ≡ host.old }
     // Where the call is refused nothing is written, unless the output takes no more, or a run fails whose plan is written.
     ensures kept { IfErr result (λ fault. IsKeptBy action (O.written out.old) fault (O.written out.new)) }
+    // A write failed exactly where the answer is `Write`.
+    ensures unfailed { WriteFails (O.failed out.old) result (O.failed out.new) }
     // A plan hands nothing over: what is asked are questions and requests for files of variables alone, and what is written tells what a run would hand over.
     ensures planned { action ≡ Plan → Plans H.goes host.old (O.written out.old) result host.new (O.written out.new) }
     // A run of plain recipes writes nothing.
@@ -340,5 +340,82 @@ pub fn drive<'src, E: Expander, H: RunHost + Drop, O: Out>(
     let root = read_root(alloc, &words, sources, roots, expander, &config.version)?;
     drive_root(
         alloc, config, expander, sources, root, &words, action, trees, host, out,
+    )
+}
+
+/// Does what the action and the words ask of the justfile in `sources` that `roots` name for the
+/// words' search directory.
+///
+/// A call is refused before anything is asked of the host where a rule is broken: of the files that
+/// are reached, of their modules, names and orders, or of the words. Else all modules open, parents
+/// first, and the recipes that the words name run, each after all that it depends on, none twice
+/// with the same values, up to the first command that fails; or what they would hand over up to there
+/// is written, and nothing is handed over; or the variables are written, or the one command runs. A
+/// file of plain recipes that names no other runs, or is planned, by a shorter way, to the same end.
+/// Want of memory, or of numbers for recipes and bindings, may come in the place of any answer. The
+/// trees of the files are dropped at the end.
+///
+/// # Errors
+///
+/// `NoRootForWord`; a rule of files, modules, names and orders, or of words; `Dotenv`, `Opening`,
+/// `Evaluation`, `Code`, `Signal`, `CouldNotStart`, `NotConfirmed` and `Command` of a run; `Write`
+/// where the output takes no more; `NotPrintable`; `OutOfMemory`.
+pub fn drive<'src, E: Expander, H: RunHost + Drop, O: Out>(
+    alloc: Global,
+    config: &Config,
+    expander: &E,
+    sources: &'src BTreeMap<String, String>,
+    roots: &'src BTreeMap<Option<String>, String>,
+    words: &[String],
+    action: Action,
+    host: &mut Recorded<H>,
+    out: &mut O,
+) -> Result<Outcome, Fault<'src>>
+    ensures { Drives H.goes (inputs_of (reader_of (E.expansion expander.now) config.now.version) sources.now roots.now words.now) (setup_of config.now) action (record { host = host.old; written = O.written out.old; failed = O.failed out.old }) result (record { host = host.new; written = O.written out.new; failed = O.failed out.new }) }
+{
+    drive_words(
+        alloc,
+        config,
+        expander,
+        sources,
+        roots,
+        words,
+        action,
+        Trees::Dropped,
+        host,
+        out,
+    )
+}
+
+/// Does what `drive` does, for a process that ends after the call: the trees of the files are leaked,
+/// so that the system takes their memory back at once. Those of plain recipes are dropped.
+///
+/// # Errors
+///
+/// Those of `drive`.
+pub fn drive_and_leak<'src, E: Expander, H: RunHost + Drop, O: Out>(
+    alloc: Global,
+    config: &Config,
+    expander: &E,
+    sources: &'src BTreeMap<String, String>,
+    roots: &'src BTreeMap<Option<String>, String>,
+    words: &[String],
+    action: Action,
+    host: &mut Recorded<H>,
+    out: &mut O,
+) -> Result<Outcome, Fault<'src>>
+    ensures { Drives H.goes (inputs_of (reader_of (E.expansion expander.now) config.now.version) sources.now roots.now words.now) (setup_of config.now) action (record { host = host.old; written = O.written out.old; failed = O.failed out.old }) result (record { host = host.new; written = O.written out.new; failed = O.failed out.new }) }
+{
+    drive_words(
+        alloc,
+        config,
+        expander,
+        sources,
+        roots,
+        words,
+        action,
+        Trees::Leaked,
+        host,
+        out,
     )
 }

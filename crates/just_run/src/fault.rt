@@ -210,6 +210,10 @@ impl<'src> From<PlainFault<'src>> for Fault<'src> {
 }
 
 impl<'src> From<just_resolve::Error<'src>> for Fault<'src> {
+    ghost use Rattle.just_run.specs.Passed.{name_fault};
+
+    ghost from_gives = { λ fault e. e ≡ name_fault fault };
+
     fn from(error: just_resolve::Error<'src>) -> Self {
         match error {
             just_resolve::Error::OutOfMemory => Fault::OutOfMemory,
@@ -219,6 +223,10 @@ impl<'src> From<just_resolve::Error<'src>> for Fault<'src> {
 }
 
 impl<'src> From<just_modules::Error<'src>> for Fault<'src> {
+    ghost use Rattle.just_run.specs.Passed.{file_fault};
+
+    ghost from_gives = { λ fault e. e ≡ file_fault fault };
+
     fn from(error: just_modules::Error<'src>) -> Self {
         match error {
             just_modules::Error::OutOfMemory => Fault::OutOfMemory,
@@ -228,6 +236,10 @@ impl<'src> From<just_modules::Error<'src>> for Fault<'src> {
 }
 
 impl From<WordFault> for Fault<'_> {
+    ghost use Rattle.just_run.specs.Passed.{word_fault};
+
+    ghost from_gives = { λ fault e. e ≡ word_fault fault };
+
     fn from(fault: WordFault) -> Self {
         match fault {
             WordFault::OutOfMemory => Fault::OutOfMemory,
@@ -237,9 +249,9 @@ impl From<WordFault> for Fault<'_> {
 }
 
 impl<'src> From<RunFault<'src>> for Fault<'src> {
-    ghost use Rattle.just_run.specs.Plans.{IsOfRun};
+    ghost use Rattle.just_run.specs.Passed.{run_fault};
 
-    ghost from_gives = { λ _ e. IsOfRun e };
+    ghost from_gives = { λ fault e. e ≡ run_fault fault };
 
     fn from(fault: RunFault<'src>) -> Self {
         match fault {
@@ -272,9 +284,9 @@ impl<'src> From<RunFault<'src>> for Fault<'src> {
 }
 
 impl<'src> From<TaskFault<'src>> for Fault<'src> {
-    ghost use Rattle.just_run.specs.Plans.{IsOfRun};
+    ghost use Rattle.just_run.specs.Passed.{task_fault};
 
-    ghost from_gives = { λ _ e. IsOfRun e };
+    ghost from_gives = { λ fault e. e ≡ task_fault fault };
 
     fn from(fault: TaskFault<'src>) -> Self {
         match fault {

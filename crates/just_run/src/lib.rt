@@ -9,7 +9,7 @@ mod prepared;
 mod request;
 mod texts;
 
-pub use driver::drive;
+pub use driver::{drive, drive_and_leak};
 pub use fault::Fault;
 pub use just_host::{
     Answer, Collected, CommandJob, Config, Confirmation, Device, DotenvRequest, Entry, Host,
@@ -17,5 +17,5 @@ pub use just_host::{
     WriteFailed, write_all,
 };
 pub use just_value::{Override, Positional};
-pub use outcome::{Action, Outcome, Trees};
+pub use outcome::{Action, Outcome};
 pub use run_tasks::CommandFault;

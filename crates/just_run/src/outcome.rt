@@ -21,16 +21,6 @@ pub enum Action {
     List,
 }
 
-/// What becomes of the trees at the end of a call.
-#[derive(Clone, Copy, Debug, PartialEq, Eq)]
-pub enum Trees {
-    /// They are dropped.
-    Dropped,
-    /// They are left where they are, for a process that ends after the call: the system takes its
-    /// memory back at once.
-    Left,
-}
-
 /// What came of it.
 #[derive(Debug, Drop, PartialEq, Eq)]
 pub enum Outcome {

@@ -11,6 +11,7 @@ ghost use Rattle.run_plan.specs.Plans.{plan_text};
 ghost use Rattle.just_run.specs.Plain.{fault_of};
 ghost use Rattle.just_run.specs.Plans as spec;
 ghost use Rattle.just_run.specs.Plans.{IsEnd, IsKeptBy, IsPlanned, IsSent, IsWrittenPlan, Plans};
+ghost use Rattle.just_run.specs.Writes.{WriteFails};
 ghost use Rattle.just_run.specs.declared.outcome.Action.TheVariants.{Plan};
 
 use crate::fault::Fault;
@@ -54,7 +55,8 @@ fn ended<'src>(performed: Result<Performed, TaskFault<'src>>) -> Result<Outcome,
 
 /// Writes the text.
 fn send<'src, O: Out>(text: Option<String>, out: &mut O) -> Result<(), Fault<'src>>
-    ensures { (plan : List ℕ) → IfSome text (λ written. string_bytes written ≡ plan) → IsSent (O.written out.old) plan result (O.written out.new) }
+    ensures sent { (plan : List ℕ) → IfSome text (λ written. string_bytes written ≡ plan) → IsSent (O.written out.old) plan result (O.written out.new) }
+    ensures unfailed { WriteFails (O.failed out.old) result (O.failed out.new) }
 {
     let Some(text) = text else {
         return Err(Fault::OutOfMemory);
@@ -69,7 +71,8 @@ fn write_plan<'src, O: Out>(
     ended: Result<Outcome, Fault<'src>>,
     out: &mut O,
 ) -> Result<Outcome, Fault<'src>>
-    ensures { (plan : List ℕ) → IsEnd ended.entry → IfSome text (λ written. string_bytes written ≡ plan) → IsWrittenPlan (O.written out.old) plan result (O.written out.new) }
+    ensures planned { (plan : List ℕ) → IsEnd ended.entry → IfSome text (λ written. string_bytes written ≡ plan) → IsWrittenPlan (O.written out.old) plan result (O.written out.new) }
+    ensures unfailed { IsEnd ended.entry → WriteFails (O.failed out.old) result (O.failed out.new) }
 {
     let sent = send(text, out);
     sent.and(ended)
@@ -88,7 +91,8 @@ pub(crate) fn drive_plan<'src, H: RunHost + Drop, O: Out>(
     host: &mut Recorded<H>,
     out: &mut O,
 ) -> Result<Outcome, Fault<'src>>
-    ensures { IsPlanned H.goes host.old (O.written out.old) result host.new (O.written out.new) }
+    ensures planned { IsPlanned H.goes host.old (O.written out.old) result host.new (O.written out.new) }
+    ensures unfailed { WriteFails (O.failed out.old) result (O.failed out.new) }
 {
     let mut planned = Recorded::new(alloc, Planning { caller: host });
     let task = Task::Run(calls);
@@ -136,6 +140,7 @@ fn write_failed<'src, O: Out>(
 ) -> Result<Outcome, Fault<'src>>
     ensures refused { spec.breaks_rule (verdict fault.entry) ≡ true → (result ≡ Err (fault_of fault.entry)) × (O.written out.new ≡ O.written out.old) }
     ensures failed { spec.breaks_rule (verdict fault.entry) ≡ false → (plan : List ℕ) → IfSome text (λ written. string_bytes written ≡ plan) → IsWrittenPlan (O.written out.old) plan result (O.written out.new) }
+    ensures unfailed { WriteFails (O.failed out.old) result (O.failed out.new) }
 {
     let is_refused = breaks_rule(&fault);
     let fault = Fault::from(fault);
@@ -158,6 +163,7 @@ pub(crate) fn plan_file<'src, H: RunHost + Drop, O: Out>(
 ) -> Result<Outcome, Fault<'src>>
     ensures planned { (i : Inputs) → i.words ≡ words.now → IsRead i (shape_of recipes.now) → Plans H.goes host.old (O.written out.old) result host.new (O.written out.new) }
     ensures kept { IfErr result (λ fault. IsKeptBy Plan (O.written out.old) fault (O.written out.new)) }
+    ensures unfailed { WriteFails (O.failed out.old) result (O.failed out.new) }
     ensures followed { (entries : List Entry) × Follows H.goes host.old (questions entries) host.new }
 {
     let mut planned = Recorded::new(alloc, Planning { caller: host });

@@ -5,8 +5,8 @@ ghost use Rattle.just_host.specs.Out.{IsPartOf};
 ghost use Rattle.justfile_analyzer.specs.Justfiles.{place_of};
 ghost use Rattle.justfile_analyzer.specs.Listings.{listing};
 ghost use Rattle.just_run.specs.Early.{IsLate};
-ghost use Rattle.just_run.specs.Texts.{IsFormatted, answered_text, dumped_text, file_place, formatted_text, performed_outcome, performed_text, printed_text, root_file};
-ghost use Rattle.just_run.specs.Writes.{IsKept, Writes};
+ghost use Rattle.just_run.specs.Texts.{IsFormatted, IsReadAgain, answered_text, dumped_text, file_place, formatted_text, performed_outcome, performed_text, printed_text, root_file};
+ghost use Rattle.just_run.specs.Writes.{IsKept, IsNoWrite, WriteFails, Writes};
 ghost use Rattle.just_run.specs.declared.outcome.Outcome.TheVariants as outcomes;
 ghost use Rattle.just_run.specs.declared.request.RootText.TheVariants as texts;
 
@@ -17,6 +17,7 @@ use just_host::{Out, WriteFailed, write_all};
 use just_modules::{Compilation, ModuleNode};
 use justfile_analyzer::Justfile;
 use justfile_syntax::{Ast, Os, Text, print};
+use meaning_formatted::law::formatted_texts_say_the_same;
 use run_tasks::Performed;
 use std::alloc::{AllocError, Global};
 
@@ -59,7 +60,8 @@ fn printed(alloc: Global, ast: &Ast, os: Os) -> Result<Option<Text>, AllocError>
 
 /// The file's path and its text as it is formatted; refused as `NotPrintable` where there is no text.
 fn format<'src>(alloc: Global, path: &str, text: Option<Text>) -> Result<Outcome, Fault<'src>>
-    ensures { IsFormatted path.now text result }
+    ensures formatted { IsFormatted path.now text result }
+    ensures no_write { IfErr result IsNoWrite }
 {
     let path = Text::from_text(alloc, path)?;
     match text {
@@ -76,6 +78,7 @@ pub(crate) fn write_performed<'src, O: Out>(
     ensures kept { IfErr result (λ fault. IsKept (O.written out.old) fault (O.written out.new)) }
     ensures late { IfErr result IsLate }
     ensures wrote { Writes (record { written = O.written out.old; failed = O.failed out.old }) (performed_text performed) (performed_outcome performed) result (record { written = O.written out.new; failed = O.failed out.new }) }
+    ensures unfailed { WriteFails (O.failed out.old) result (O.failed out.new) }
 {
     match performed {
         Performed::Ran => Ok(Outcome::Ran),
@@ -154,6 +157,7 @@ fn write_told<'src, O: Out>(
 ) -> Result<Outcome, Fault<'src>>
     ensures kept { IfErr result (λ fault. IsKept (O.written out.old) fault (O.written out.new)) }
     ensures wrote { Writes (record { written = O.written out.old; failed = O.failed out.old }) (string_bytes text) outcome result (record { written = O.written out.new; failed = O.failed out.new }) }
+    ensures unfailed { WriteFails (O.failed out.old) result (O.failed out.new) }
 {
     write_text(out, text.as_str())?;
     Ok(outcome)
@@ -167,6 +171,7 @@ fn list<'src, O: Out>(
 ) -> Result<Outcome, Fault<'src>>
     ensures kept { IfErr result (λ fault. IsKept (O.written out.old) fault (O.written out.new)) }
     ensures wrote { Writes (record { written = O.written out.old; failed = O.failed out.old }) (listing compilation.now 0) outcomes.Listed result (record { written = O.written out.new; failed = O.failed out.new }) }
+    ensures unfailed { WriteFails (O.failed out.old) result (O.failed out.new) }
 {
     let text = root_listing(alloc, compilation)?;
     write_told(out, text, Outcome::Listed)
@@ -181,6 +186,7 @@ fn dump<'src, O: Out>(
 ) -> Result<Outcome, Fault<'src>>
     ensures kept { IfErr result (λ fault. IsKept (O.written out.old) fault (O.written out.new)) }
     ensures wrote { Writes (record { written = O.written out.old; failed = O.failed out.old }) (dumped_text os (root_file compilation.now)) outcomes.Dumped result (record { written = O.written out.new; failed = O.failed out.new }) }
+    ensures unfailed { WriteFails (O.failed out.old) result (O.failed out.new) }
 {
     let text = root_text(alloc, compilation, os)?;
     write_told(out, text, Outcome::Dumped)
@@ -193,8 +199,11 @@ fn answer<'src>(
     path: &str,
     os: Os,
 ) -> Result<Outcome, Fault<'src>>
-    ensures { IsFormatted path.now (answered_text os (root_file compilation.now)) result }
+    ensures formatted { IsFormatted path.now (answered_text os (root_file compilation.now)) result }
+    ensures again { IsReadAgain (root_file compilation.now) result }
+    ensures no_write { IfErr result IsNoWrite }
 {
+    formatted_texts_say_the_same();
     let text = root_printed(alloc, compilation, os)?;
     format(alloc, path, text)
 }
@@ -213,6 +222,8 @@ pub(crate) fn tell<'src, O: Out>(
     ensures dumped { text ≡ texts.Dump → Writes (record { written = O.written out.old; failed = O.failed out.old }) (dumped_text os (root_file compilation.now)) outcomes.Dumped result (record { written = O.written out.new; failed = O.failed out.new }) }
     ensures formatted { text ≡ texts.Format → IsFormatted path.now (answered_text os (root_file compilation.now)) result }
     ensures unwritten { text ≡ texts.Format → O.written out.new ≡ O.written out.old }
+    ensures again { text ≡ texts.Format → IsReadAgain (root_file compilation.now) result }
+    ensures unfailed { WriteFails (O.failed out.old) result (O.failed out.new) }
 {
     match text {
         RootText::List => list(alloc, compilation, out),

@@ -6,7 +6,7 @@ use crate::scripted::Scripted;
 use crate::told::told;
 use crate::way::{Telling, Way};
 use crate::whole::told_whole;
-use just_run::{Collected, Device, Entry, Fault, Out, Outcome, Recorded, Trees, drive};
+use just_run::{Collected, Device, Entry, Fault, Out, Outcome, Recorded, drive};
 use scripted_files::Unchanged;
 use std::alloc::{AllocError, Global};
 
@@ -66,7 +66,6 @@ pub(crate) fn drive_into<'g, O: Out>(
         &given.roots,
         given.words.as_slice(),
         way.action,
-        Trees::Dropped,
         host,
         out,
     )

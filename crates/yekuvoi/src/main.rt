@@ -6,7 +6,7 @@ mod switch;
 
 use anyhow::{Context, Result, bail};
 use just_lexer::Excerpt;
-use just_run::{Config, Device, Fault, Outcome, Recorded, Trees, drive};
+use just_run::{Config, Device, Fault, Outcome, Recorded, drive_and_leak};
 use just_value::Positional;
 use justfile_syntax::{Os, Text};
 use program_loader::{base_folder, clean_folder, find_root, load};
@@ -170,7 +170,7 @@ fn drive_project(
     let shell = Shell::new(rt, shown, config.base.as_str(), process::id(rt.process()));
     let mut host = Recorded::new(alloc, shell);
     let mut out = Device::new(alloc, io::writer(rt));
-    let answer = drive(
+    let answer = drive_and_leak(
         alloc,
         config,
         &environment,
@@ -178,7 +178,6 @@ fn drive_project(
         &project.roots,
         words,
         start.action,
-        Trees::Left,
         &mut host,
         &mut out,
     );

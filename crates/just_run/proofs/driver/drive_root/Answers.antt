@@ -5,6 +5,7 @@ use Rattle.justfile_syntax.specs.PlainShapes.{shape_of}
 use Rattle.run_plain.specs.Stages.{IsRoot}
 use Rattle.run_plain.specs.Setup.{setup_of}
 use Rattle.just_run.proofs.Early.{plain_is_early, plans_is_early}
+use Rattle.just_run.proofs.Failed.{answer_fails}
 use Rattle.just_run.proofs.driver.drive_root.Goals as goal
 
 pub returns-in-Run-clause-plain : goal.returns-in-Run-clause-plain
@@ -35,3 +36,6 @@ pub returns-in-Plan-clause-early : goal.returns-in-Plan-clause-early
 returns-in-Plan-clause-early g c = λ i words rooted.
     plans_is_early g.H.Host.goes c.args.host.now (g.O.Out.written c.args.out.now) c.plan_file.result c.plan_file.new.host (g.O.Out.written c.plan_file.new.out)
     (c.plan_file.ensures.planned i words (subst (IsRoot i c.args.root.path.now) (ap (option_map shape_of) c.in-Plan.ensures.1) rooted)) c.plan_file.ensures.kept
+
+pub returns-in-Run-clause-unfailed : goal.returns-in-Run-clause-unfailed
+returns-in-Run-clause-unfailed g c = answer_fails (g.O.Out.failed c.args.out.now) c.run_plain.result c.run_plain.ensures.no_write

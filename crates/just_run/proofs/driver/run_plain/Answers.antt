@@ -2,6 +2,7 @@ use Rattle.std.proofs.Common.{Ok, Err}
 use Rattle.just_host.specs.AskingLaws.{asked_then}
 use Rattle.run_plain.specs.Setup.{setup_of}
 use Rattle.just_run.proofs.Driven.{file_answers}
+use Rattle.just_run.proofs.Failed.{plain_is_no_write}
 use Rattle.just_run.proofs.driver.run_plain.Goals as goal
 
 pub returns-in-Ok-clause-plain : goal.returns-in-Ok-clause-plain
@@ -19,3 +20,6 @@ returns-in-Err-clause-plain g c = λ i words read.
 
 pub returns-in-Err-clause-asks : goal.returns-in-Err-clause-asks
 returns-in-Err-clause-asks g c = asked_then g.H.Host.goes g.met.H.Host.joins c.args.host.now c.run_file.new.host c.in-Err.ensures.followed.0 c.in-Err.ensures.followed.1
+
+pub returns-in-Err-clause-no_write : goal.returns-in-Err-clause-no_write
+returns-in-Err-clause-no_write g c = rw c.from.ensures (plain_is_no_write c.in-Err.fault)

@@ -6,8 +6,8 @@ use Rattle.just_host.specs.AskingLaws.{asked_nothing}
 use Rattle.run_plan.specs.Plans.{plan_text}
 use Rattle.just_run.proofs.plan.drive_plan.Goals as goal
 
-pub returns : goal.returns
-returns g c =
+pub returns-clause-planned : goal.returns-clause-planned
+returns-clause-planned g c =
     let run = c.perform_task-performed.ensures.asks c.new-planned.result (asked_nothing _ (λ a. (refl, idle g.H.Host.goes g.met.H.Host.nothing a.caller.now)) c.new-planned.result) in
     let step = run.followed in
     let begun = ap (λ r. r.host.caller.now) c.new-planned.ensures in
@@ -17,5 +17,8 @@ returns g c =
     record {
       entries = step.part;
       asked = search (rules, followed, named);
-      written = c.write_plan.ensures (plan_text step.part) c.ended.ensures (subst (λ l. IfSome c.text_of-text.result (λ text. string_bytes text ≡ plan_text l)) grown c.text_of-text.ensures);
+      written = c.write_plan.ensures.planned (plan_text step.part) c.ended.ensures (subst (λ l. IfSome c.text_of-text.result (λ text. string_bytes text ≡ plan_text l)) grown c.text_of-text.ensures);
     }
+
+pub returns-clause-unfailed : goal.returns-clause-unfailed
+returns-clause-unfailed g c = c.write_plan.ensures.unfailed c.ended.ensures

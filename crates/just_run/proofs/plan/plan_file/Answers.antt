@@ -21,7 +21,7 @@ returns-in-Ok-clause-kept g c =
     let step = c.run_file-ran.ensures.followed.1 in
     let grown = step.entries ∙ ap (λ r. r.entries ++ step.part) c.new-planned.ensures in
     written_is_kept (g.O.Out.written c.args.out.now) (plan_text step.part) c.write_plan.result (g.O.Out.written c.write_plan.new.out)
-    (c.write_plan.ensures (plan_text step.part) refl (subst (λ l. IfSome c.text_of-text.result (λ text. string_bytes text ≡ plan_text l)) grown c.text_of-text.ensures))
+    (c.write_plan.ensures.planned (plan_text step.part) refl (subst (λ l. IfSome c.text_of-text.result (λ text. string_bytes text ≡ plan_text l)) grown c.text_of-text.ensures))
 
 pub returns-in-Err-clause-followed : goal.returns-in-Err-clause-followed
 returns-in-Err-clause-followed g c =
@@ -51,3 +51,6 @@ returns-in-Err-clause-planned g c = λ i words read.
     (search (rules, followed, named))
     (λ broken. let same = ap (λ r. r.host.caller.now) (refused_asks_nothing i (verdict c.in-Err.fault) c.new-planned.result c.run_file-ran.new.host unasked broken) ∙ begun in search (rules, same, named))
     c.write_failed.ensures.refused (λ whole. c.write_failed.ensures.failed whole (plan_text step.part) written)
+
+pub returns-in-Ok-clause-unfailed : goal.returns-in-Ok-clause-unfailed
+returns-in-Ok-clause-unfailed g c = c.write_plan.ensures.unfailed refl

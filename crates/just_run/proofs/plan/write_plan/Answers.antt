@@ -1,5 +1,9 @@
+use Rattle.just_run.proofs.Failed.{sent_fails}
 use Rattle.just_run.proofs.Planned.{sent_is_written}
 use Rattle.just_run.proofs.plan.write_plan.Goals as goal
 
-pub returns : goal.returns
-returns g c = λ plan ended sent. rw c.and.ensures (sent_is_written (g.O.Out.written c.args.out.now) plan c.send-sent.result c.args.ended (g.O.Out.written c.send-sent.new.out) ended (c.send-sent.ensures plan sent))
+pub returns-clause-planned : goal.returns-clause-planned
+returns-clause-planned g c = λ plan ended sent. rw c.and.ensures (sent_is_written (g.O.Out.written c.args.out.now) plan c.send-sent.result c.args.ended (g.O.Out.written c.send-sent.new.out) ended (c.send-sent.ensures.sent plan sent))
+
+pub returns-clause-unfailed : goal.returns-clause-unfailed
+returns-clause-unfailed g c = λ ended. rw c.and.ensures (sent_fails (g.O.Out.failed c.args.out.now) c.send-sent.result c.args.ended (g.O.Out.failed c.send-sent.new.out) ended c.send-sent.ensures.unfailed)

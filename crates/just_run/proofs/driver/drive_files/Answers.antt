@@ -1,0 +1,6 @@
+use Rattle.just_run.specs.Passed.{file_fault}
+use Rattle.just_run.proofs.Failed.{file_is_no_write, no_write_fails}
+use Rattle.just_run.proofs.driver.drive_files.Goals as goal
+
+pub returns-in-Err-clause-unfailed : goal.returns-in-Err-clause-unfailed
+returns-in-Err-clause-unfailed g c = rw c.from.ensures (no_write_fails (g.O.Out.failed c.args.out.now) (file_fault c.in-Err.error) (file_is_no_write c.in-Err.error))

@@ -1,0 +1,41 @@
+-- What a call does.
+use Rattle.std.specs.Prelude.{◌≡◌, ℕ, List, Result, IfErr}
+use Rattle.just_host.specs.Asking.{IsAsked}
+use Rattle.just_host.specs.Record.{Record}
+use Rattle.just_host.specs.declared.entry.Entry.{Entry}
+use Rattle.run_plain.specs.Inputs.{Inputs}
+use Rattle.run_plain.specs.Setup.{Setup}
+use Rattle.just_run.specs.Early.{IsEarly}
+use Rattle.just_run.specs.Plain.{AnswersPlain, IsPlain}
+use Rattle.just_run.specs.Plans.{IsKeptBy, Plans}
+use Rattle.just_run.specs.Requests.{IsText}
+use Rattle.just_run.specs.Writes.{WriteFails}
+use Rattle.just_run.specs.declared.fault.Fault.{Fault}
+use Rattle.just_run.specs.declared.outcome.Action.{Action}
+use Rattle.just_run.specs.declared.outcome.Action.TheVariants as actions
+use Rattle.just_run.specs.declared.outcome.Outcome.{Outcome}
+
+-- what a call finds, and what it leaves: the record of the host, what was written, and how often a write failed
+pub record State (H : Type 0) : Type 0 where
+  pub host : Record H
+  pub written : List ℕ
+  pub failed : ℕ
+
+-- Whatever is asked for, of whatever files.
+pub record Drives {H : Type 0} (goes : H → List Entry → H → Type 0) (inputs : Inputs) (setup : Setup) (action : Action) (old : State H) (result : Result Outcome Fault) (new : State H) : Type 0 where
+  -- where no root file that can be read says more than plain recipes, a run is one of plain recipes
+  pub plain : action ≡ actions.Run → IsPlain inputs → AnswersPlain goes inputs setup result old.host new.host
+  -- a fault that is none of a run or of the output names a rule that is broken; then nothing was asked, handed over or written
+  pub early : IfErr result (λ fault. IsEarly fault old.host old.written new.host new.written)
+  -- where the text of the root file or the list of recipes is asked for, nothing is asked and nothing handed over
+  pub silent : IsText action → new.host ≡ old.host
+  -- where the call is refused nothing is written, unless the output takes no more, or a run fails whose plan is written
+  pub kept : IfErr result (λ fault. IsKeptBy action old.written fault new.written)
+  -- a write failed exactly where the answer is `Write`
+  pub unfailed : WriteFails old.failed result new.failed
+  -- a plan hands nothing over: what is asked are questions and requests for files of variables alone, and what is written tells what a run would hand over
+  pub planned : action ≡ actions.Plan → Plans goes old.host old.written result new.host new.written
+  -- a run of plain recipes writes nothing
+  pub unwritten : action ≡ actions.Run → IsPlain inputs → new.written ≡ old.written
+  -- the record has grown by just what was asked, and the host went along by it
+  pub asked : IsAsked goes old.host new.host
