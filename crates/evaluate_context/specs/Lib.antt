@@ -1,3 +1,4 @@
+pub mod Defaults
 pub mod Environment
 pub mod Environments
 pub mod Errors

@@ -1,6 +1,7 @@
 //! The values of a module's settings.
 ghost use Rattle.std.specs.Prelude.{◌≡◌, ◌∷◌, IfOk, map, option_map};
 ghost use Rattle.std.specs.String.{string_bytes};
+ghost use Rattle.evaluate_context.specs.Defaults.{defaults};
 ghost use Rattle.evaluate_context.specs.Shells as spec;
 
 use just_host::Config;
@@ -56,7 +57,9 @@ pub struct Settings {
 
 impl Settings {
     /// What holds where nothing is set: false, empty or none. Takes no memory.
-    pub fn new(alloc: Global) -> Settings {
+    pub fn new(alloc: Global) -> Settings
+        ensures { result ≡ defaults }
+    {
         Settings {
             allow_duplicate_recipes: false,
             allow_duplicate_variables: false,

@@ -4,5 +4,7 @@ pub mod Follows
 pub mod Steps
 pub mod Asking
 pub mod AskingLaws
+pub mod Kinds
+pub mod KindsLaws
 pub mod Out
 pub mod Failures

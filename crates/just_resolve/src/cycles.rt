@@ -1,8 +1,9 @@
 //! Orders, and the names of what stands in a cycle.
 use crate::error::Error;
 use just_text::{Name, Sequence};
-use resolve_analysis::{ModuleLists, ModuleReads, RecipeNode, evaluation_order};
+use resolve_analysis::{ModuleLists, ModuleReads, evaluation_order};
 use resolve_order::{OrderFault, order};
+use resolve_recipes::RecipeNode;
 use std::alloc::{AllocError, Global};
 
 /// The names of the recipes at these places.

@@ -6,7 +6,7 @@ ghost use Rattle.just_resolve.specs.Refusals as spec;
 
 use just_text::{Name, Namepath, Sequence, Text, Token};
 use modules_compilation::path_token;
-use resolve_analysis::DependencyFault;
+use resolve_recipes::DependencyFault;
 use resolve_references::ReadFault;
 use std::alloc::{AllocError, AllocFailed};
 

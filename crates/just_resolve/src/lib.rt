@@ -15,6 +15,7 @@ pub mod settled;
 pub use analyzer::Analyzer;
 pub use error::Error;
 pub use resolve_analysis::{
-    Analysis, KnownValues, ModuleLists, ModuleVariables, RecipeTable, ResolvedAlias,
-    ResolvedRecipe, collect_references, default_recipe, number_variables, views,
+    Analysis, KnownValues, ModuleLists, ModuleVariables, RecipeTable, ResolvedRecipe,
+    collect_references, number_variables, views,
 };
+pub use resolve_recipes::{ResolvedAlias, default_recipe};

@@ -3,7 +3,7 @@ use crate::error::Error;
 use just_text::{Number, Text};
 use just_value::Override;
 use modules_compilation::{Compilation, Place};
-use resolve_analysis::{find, find_module};
+use resolve_recipes::{find, find_module};
 use std::alloc::{AllocError, Global};
 use std::collections::BTreeMap;
 

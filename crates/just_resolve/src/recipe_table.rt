@@ -3,10 +3,10 @@ use crate::cycles::recipe_order;
 use crate::error::Error;
 use crate::recipes::resolved_recipe;
 use modules_compilation::{Compilation, Place};
-use resolve_analysis::{
-    DependencyFault, ItemPlaces, ModuleReads, RecipeNode, RecipeResolver, RecipeTable,
-    ResolvedAlias, ResolvedRecipe, all_needs, check_dependencies, ranks, recipe_nodes,
-    recipe_places, resolved_aliases, value_counts,
+use resolve_analysis::{ModuleReads, RecipeTable, ResolvedRecipe};
+use resolve_recipes::{
+    DependencyFault, ItemPlaces, RecipeNode, RecipeResolver, ResolvedAlias, all_needs,
+    check_dependencies, ranks, recipe_nodes, recipe_places, resolved_aliases, value_counts,
 };
 use resolve_references::ReadFault;
 use std::alloc::{AllocError, Global};

@@ -1,5 +1,6 @@
 //! Recipes with what they depend on and read.
-use resolve_analysis::{RecipeNode, ResolvedRecipe};
+use resolve_analysis::ResolvedRecipe;
+use resolve_recipes::RecipeNode;
 use resolve_references::{ReadFault, VariableResolver, recipe_references};
 use std::alloc::{AllocError, Global};
 use tree_items::{Recipe, UnresolvedDependency};

@@ -3,7 +3,8 @@ use analyze_words::{Callable, Meaning, Menu, Menus, Slot};
 use evaluate_context::Settings;
 use just_text::Text;
 use modules_compilation::{Compilation, ModuleNode, Place};
-use resolve_analysis::{RecipeTable, ResolvedAlias, ResolvedRecipe, default_recipe};
+use resolve_analysis::{RecipeTable, ResolvedRecipe};
+use resolve_recipes::{ResolvedAlias, default_recipe, find_recipe};
 use std::alloc::{AllocError, Global};
 use std::collections::BTreeSet;
 use tree_items::{Parameter, ParameterKind};
@@ -130,7 +131,7 @@ fn put_recipes<'a, 'src>(
     node: &ModuleNode<'src>,
 ) -> Result<(), AllocError> {
     for name in wanted {
-        if let Some(place) = compilation.find_recipe(node, name) {
+        if let Some(place) = find_recipe(compilation, node, name) {
             put_recipe(table, menu, place)?;
         }
     }

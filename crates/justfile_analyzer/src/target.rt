@@ -2,7 +2,8 @@
 use evaluate_context::AssignmentRef;
 use just_text::Number;
 use modules_compilation::ModuleNode;
-use resolve_analysis::{ModuleLists, find_submodule};
+use resolve_analysis::ModuleLists;
+use resolve_recipes::find_submodule;
 
 /// What is evaluated.
 #[derive(Clone, Copy, Debug)]

@@ -1,8 +1,7 @@
 //! The recipes of all modules in their order, and what aliases stand for.
-use crate::aliases::ResolvedAlias;
-use crate::item_places::ItemPlaces;
 use just_text::Name;
 use modules_compilation::Place;
+use resolve_recipes::{ItemPlaces, ResolvedAlias};
 
 /// A recipe, and the places of what it depends on and reads.
 #[derive(Drop)]

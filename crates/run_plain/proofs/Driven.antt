@@ -1,5 +1,5 @@
 -- How each stage's answer is the call's.
-use Rattle.std.proofs.Common.{inr, None, ◌≡◌, ℕ, true, false, List, Option, Some, Err, refl, sym, ◌∙◌, subst, ap}
+use Rattle.std.proofs.Common.{inr, None, ◌≡◌, ℕ, true, false, map, List, Option, Some, Err, refl, sym, ◌∙◌, subst, ap}
 use Rattle.just_text.specs.declared.compile_error.CompileError.{CompileError}
 use Rattle.just_text.specs.declared.compile_error.CompileErrorKind.{CompileErrorKind}
 use Rattle.just_text.specs.declared.compile_error.CompileErrorKind.TheVariants as kinds
@@ -9,14 +9,18 @@ use Rattle.tree_items.specs.Files.{ItemShape}
 use Rattle.justfile_syntax.specs.Laws.{FaultsSayNothing, SaysAtMostOne}
 use Rattle.justfile_syntax.specs.Reads.{Reads, IsSyntaxFault, IsRefusal}
 use Rattle.just_host.specs.Record.{Record}
-use Rattle.run_plain.specs.Goes.{Failure}
+use Rattle.just_host.specs.declared.entry.Entry.{Entry}
+use Rattle.run_plain.specs.Setup.{Setup}
+use Rattle.run_plain.specs.Order.{PlannedShape, name_at}
+use Rattle.run_plain.specs.Goes.{Failure, Runs, IsBegun}
 use Rattle.run_plain.specs.Ran.{IfRan}
-use Rattle.run_plain.specs.Inputs.{Inputs, IsNotPlain, ReadsPlain}
+use Rattle.run_plain.specs.Inputs.{Inputs, IsNotPlain, ReadsPlain, Says, invoked}
 use Rattle.run_plain.specs.Rules.{syntax, no_root_for_word, missing_root, not_yet, redefinition, unknown_dependency, circular_recipe, unknown_override, unknown_recipe, unknown_module, no_recipes}
-use Rattle.run_plain.specs.Drives.{Verdict, ran_out, breaks, fails, syntax_verdict, verdict, NamesBroken, IsRefused, Ended}
+use Rattle.run_plain.specs.Drives.{Verdict, ran_out, breaks, fails, syntax_verdict, verdict, NamesBroken, IsRefused, BeginsRunOf, Ended}
 use Rattle.run_plain.specs.Faulted.{by_run, by_syntax, by_kind}
 use Rattle.run_plain.specs.Stages.{IsTold, IsTurnedAway, IsRead, IsRoot, Stands}
 use Rattle.run_plain.specs.Rooted.{IsMissing}
+use Rattle.run_plain.proofs.Completed.{begun_as}
 use Rattle.run_plain.specs.declared.run.RunFault.{RunFault}
 use Rattle.run_plain.specs.declared.run.RunFault.TheVariants as faults
 
@@ -143,3 +147,11 @@ pub root_told : (one : SaysAtMostOne) (faults : FaultsSayNothing) (i : Inputs) (
     → Reads i.reader.expansion i.reader.version text items → plain ≡ plain_of items → IsRoot i path plain
 root_told one faults i path text items (Some recipes) rooted there reads plain = is_read one faults i path text items recipes rooted there reads (sym plain)
 root_told one faults i path text items None rooted there reads plain = (rooted, (text, there, record { items = items; reads = reads; other = sym plain }))
+
+-- the calls have the names that the words name, also as they are read again
+pub named_again : (o order : List PlannedShape) (p places : List ℕ) (w words : List (List ℕ)) (rs recipes : List RecipeShape) → o ≡ order → p ≡ places → map (name_at order) places ≡ invoked words recipes → words ≡ w → recipes ≡ rs → map (name_at o) p ≡ invoked w rs
+named_again o order p places w words rs recipes a b named c d = ap (λ x. map (name_at x) p) a ∙ ap (map (name_at order)) b ∙ named ∙ ap (λ x. invoked x recipes) c ∙ ap (invoked w) d
+
+-- a run of the recipes that the words name begins one of what the root file says
+pub run_begins : (i : Inputs) (s : Setup) (recipes : List RecipeShape) (names : List (List ℕ)) (old new : List Entry) → Says i recipes → names ≡ invoked i.words.arguments recipes → IsBegun (Runs recipes s names old) new → BeginsRunOf i s old new
+run_begins i s recipes names old new says named begun = inr (begun_as (λ end failure ran. (recipes, says, subst (λ ns. Runs recipes s ns old end failure) named ran)) begun)

@@ -6,6 +6,8 @@ pub mod Owed
 pub mod OrderPlaces
 pub mod StackTurns
 pub mod Once
+pub mod Completed
+pub mod Begun
 pub mod Places
 pub mod Naming
 pub mod Listing

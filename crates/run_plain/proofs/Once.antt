@@ -89,11 +89,11 @@ not_done name done e m = let f : true ≡ false = sym (done_from_in name done m)
 
 module _ (recipes : List RecipeShape) (s : Setup) (order : List PlannedShape) (is : IsOrder recipes order) where
   -- the name of a recipe before place b
-  record Below (b : ℕ) (name : List ℕ) : Type 0 where
-    place : ℕ
-    before : place < b
-    there : place < length order
-    named : name_at order place ≡ name
+  pub record Below (b : ℕ) (name : List ℕ) : Type 0 where
+    pub place : ℕ
+    pub before : place < b
+    pub there : place < length order
+    pub named : name_at order place ≡ name
 
   below_later : (a b : ℕ) (name : List ℕ) → a < b → Below a name → Below b name
   below_later a b name lt h = record { place = h.place; before = omega (arith, h.before); there = h.there; named = h.named }
@@ -107,7 +107,7 @@ module _ (recipes : List RecipeShape) (s : Setup) (order : List PlannedShape) (i
   pick P deps false h = h
 
   -- what a recipe depends on stands before it
-  priors_below : (i : ℕ) (name : List ℕ) (recipe : RecipeShape) → i < length order → name_at order i ≡ name → recipe_named recipes name ≡ Some recipe → AllByRecursion (Below i) (priors_of s recipe)
+  pub priors_below : (i : ℕ) (name : List ℕ) (recipe : RecipeShape) → i < length order → name_at order i ≡ name → recipe_named recipes name ≡ Some recipe → AllByRecursion (Below i) (priors_of s recipe)
   priors_below i name recipe lt named known =
       let (p, at) = place_there order i lt in
       let same : Some p.shape ≡ Some recipe = sym (is.known i p at) ∙ ap (recipe_named recipes) (sym (ap name_or_empty at) ∙ named) ∙ known in
@@ -174,10 +174,10 @@ module _ (recipes : List RecipeShape) (s : Setup) (order : List PlannedShape) (i
       let at : Below b name = lie.0 in
       cut_short name b done done' (entries p) f None at m (enters p at.place (priors_below at.place name x at.there at.named k))
 
+  pub named_below : (places : List ℕ) → AllByRecursion (λ j. j < length order) places → AllByRecursion (Below (length order)) (map (name_at order) places)
+  named_below [] h = tt
+  named_below (j ∷ js) h = (record { place = j; before = h.0; there = h.0; named = refl }, named_below js h.1)
+
   pub runs_once : (calls : List ℕ) (old new : List Entry) (failure : Option Failure) → All (λ i. i < length order) calls → RunOf recipes s (map (name_at order) calls) old new failure → Runs recipes s (map (name_at order) calls) old new failure
   runs_once calls old new failure lie (done, run) =
       record { done = done; run = run; once = (enters run (length order) (named_below calls (recursion_from_All _ calls lie))).once }
-    where
-      named_below : (places : List ℕ) → AllByRecursion (λ j. j < length order) places → AllByRecursion (Below (length order)) (map (name_at order) places)
-      named_below [] h = tt
-      named_below (j ∷ js) h = (record { place = j; before = h.0; there = h.0; named = refl }, named_below js h.1)

@@ -1,5 +1,5 @@
 -- What a call answers.
-use Rattle.std.specs.Prelude.{◌≡◌, List, true, false, Option, Some, None, Result, Ok, Err, map}
+use Rattle.std.specs.Prelude.{◌≡◌, ◌⊎◌, List, true, false, Option, Some, None, Result, Ok, Err, map}
 use Rattle.justfile_syntax.specs.PlainShapes.{RecipeShape, name_text}
 use Rattle.just_text.specs.declared.compile_error.CompileErrorKind.{CompileErrorKind}
 use Rattle.just_text.specs.declared.compile_error.CompileErrorKind.TheVariants.{NumbersUsed}
@@ -7,7 +7,7 @@ use Rattle.just_host.specs.Record.{Record}
 use Rattle.run_plain.specs.Setup.{Setup}
 use Rattle.run_plain.specs.Inputs.{Inputs, Says, invoked}
 use Rattle.run_plain.specs.Rules.{Rule, no_root_for_word, missing_root, syntax, redefinition, unknown_dependency, circular_recipe, unknown_override, unknown_recipe, unknown_module, no_recipes, is_of_words, Broken}
-use Rattle.run_plain.specs.Goes.{Failure, by_code, by_signal, not_started, Runs}
+use Rattle.run_plain.specs.Goes.{Failure, by_code, by_signal, not_started, Runs, IsBegun}
 use Rattle.just_host.specs.declared.entry.Entry.{Entry}
 use Rattle.run_plain.specs.declared.outcome.Outcome.{Outcome}
 use Rattle.run_plain.specs.declared.outcome.Outcome.TheVariants.{Ran}
@@ -63,6 +63,10 @@ IsRefusal (Err fault) = IsRefused (verdict fault)
 -- a run of what the arguments name, over what the root file says
 abbrev pub RunsOf : Inputs → Setup → List Entry → List Entry → Option Failure → Type 0
 RunsOf i s old new failure = (recipes : List RecipeShape) × Says i recipes × Runs recipes s (invoked i.words.arguments recipes) old new failure
+
+-- nothing was recorded, or the beginning of such a run
+abbrev pub BeginsRunOf : Inputs → Setup → List Entry → List Entry → Type 0
+BeginsRunOf i s old new = (new ≡ old) ⊎ IsBegun (RunsOf i s old) new
 
 abbrev pub Ended : {H : Type 0} → Record H → Verdict → (Option Failure → Type 0) → Type 0
 Ended log ran_out P = Unit {0}

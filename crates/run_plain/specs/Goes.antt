@@ -96,3 +96,9 @@ pub record Runs (recipes : List RecipeShape) (s : Setup) (names : List (List ℕ
   pub done : List (List ℕ)
   pub run : Goes recipes s [] old names done new failure
   pub once : each_once (entries run) ≡ true
+
+-- what is recorded so far is the beginning of what such a run records, however it goes on and ends
+pub record IsBegun (IsRun : List Entry → Option Failure → Type 0) (log : List Entry) : Type 0 where
+  pub rest : List Entry
+  pub failure : Option Failure
+  pub run : IsRun (log ++ rest) failure

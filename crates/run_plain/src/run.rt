@@ -4,11 +4,10 @@ ghost use Rattle.std.specs.List.{All};
 ghost use Rattle.std.specs.String.{string_bytes};
 ghost use Rattle.justfile_syntax.specs.PlainShapes.{RecipeShape, name_text, line_text, recipe_shape};
 ghost use Rattle.run_plain.specs.Setup.{setup_of, shell_words, shows};
-ghost use Rattle.run_plain.specs.Goes.{Hands, LineGoes, Lines, Goes, Runs};
+ghost use Rattle.run_plain.specs.Goes.{Hands, LineGoes, Lines, Runs, IsBegun};
 ghost use Rattle.run_plain.specs.Order.{IsRanked, IsOrder, planned_shape, name_at};
 ghost use Rattle.run_plain.specs.Ran.{IfRan};
-ghost use Rattle.just_host.specs.Follows.{Follows};
-ghost use Rattle.just_host.specs.declared.entry.Entry.{Entry};
+ghost use Rattle.just_host.specs.Kinds.{AsksWork};
 ghost use Rattle.run_plain.specs.declared.run.RunFault.TheVariants.{OutOfMemory};
 
 use crate::order::Planned;
@@ -115,7 +114,8 @@ fn hand_over<'src, H: RunHost + Drop>(
     host: &mut Recorded<H>,
 ) -> Result<(), RunFault<'src>>
     ensures goes { IfRan host.new result (Hands setup.now.dry_run setup.now (name_text recipe.entry) command.now host.old.entries host.new.entries) }
-    ensures followed { (piece : List Entry) × Follows H.goes host.old piece host.new }
+    ensures begun { IsBegun (Hands setup.now.dry_run setup.now (name_text recipe.entry) command.now host.old.entries) host.new.entries }
+    ensures asks { AsksWork setup.now.dry_run H.goes host.old host.new }
 {
     if setup.config.dry_run {
         return Ok(());
@@ -137,7 +137,8 @@ fn run_line<'src, H: RunHost + Drop>(
     host: &mut Recorded<H>,
 ) -> Result<(), RunFault<'src>>
     ensures goes { IfRan host.new result (LineGoes setup.now (name_text recipe.entry) line.now host.old.entries host.new.entries) }
-    ensures followed { (piece : List Entry) × Follows H.goes host.old piece host.new }
+    ensures begun { IsBegun (LineGoes setup.now (name_text recipe.entry) line.now host.old.entries) host.new.entries }
+    ensures asks { AsksWork setup.now.dry_run H.goes host.old host.new }
 {
     if line.is_empty() {
         return Ok(());
@@ -156,7 +157,8 @@ fn run_body<'src, H: RunHost + Drop>(
     host: &mut Recorded<H>,
 ) -> Result<(), RunFault<'src>>
     ensures goes { IfRan host.new result (Lines setup.now (name_text recipe.entry) host.old.entries (map line_text lines.now) host.new.entries) }
-    ensures followed { (piece : List Entry) × Follows H.goes host.old piece host.new }
+    ensures begun { IsBegun (Lines setup.now (name_text recipe.entry) host.old.entries (map line_text lines.now)) host.new.entries }
+    ensures asks { AsksWork setup.now.dry_run H.goes host.old host.new }
 {
     for line in lines {
         run_line(setup, recipe, line.lexeme(), host)?;
@@ -189,8 +191,11 @@ pub fn run<'src, H: RunHost + Drop>(
     // What is recorded, and how it ends, is a run of these recipes that enters none twice.
     ensures goes { (recipes : List RecipeShape) → IsOrder recipes (map planned_shape order.now)
         → IfRan host.new result (Runs recipes (setup_of config.now) (map (name_at (map planned_shape order.now)) calls.now) host.old.entries host.new.entries) }
-    // The record tells what became of the host.
-    ensures followed { (piece : List Entry) × Follows H.goes host.old piece host.new }
+    // However it ends, also where memory runs out, what is recorded begins such a run.
+    ensures begun { (recipes : List RecipeShape) → IsOrder recipes (map planned_shape order.now)
+        → IsBegun (Runs recipes (setup_of config.now) (map (name_at (map planned_shape order.now)) calls.now) host.old.entries) host.new.entries }
+    // The record tells what became of the host, to which no command is handed over in a dry run.
+    ensures asks { AsksWork config.now.dry_run H.goes host.old host.new }
 {
     let setup = make_setup(alloc, config)?;
     let mut done = vec![in alloc; false; order.len()]?;

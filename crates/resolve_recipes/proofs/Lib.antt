@@ -1,0 +1,10 @@
+pub mod Searching
+pub mod Fronted
+pub mod Pieces
+pub mod Named
+pub mod Counting
+pub mod Earliest
+pub mod Standing
+pub mod Resolving
+pub mod Disabled
+pub mod Needing

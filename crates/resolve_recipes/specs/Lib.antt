@@ -1,0 +1,11 @@
+pub mod Fronts
+pub mod Named
+pub mod Leading
+pub mod Counts
+pub mod Standing
+pub mod Nodes
+pub mod Refusals
+pub mod Resolving
+pub mod Disabled
+pub mod Aliases
+pub mod Defaults
