@@ -6,39 +6,41 @@ use Rattle.just_host.specs.Record.{Record}
 use Rattle.just_host.specs.Follows.{Nothing}
 use Rattle.just_host.specs.Asking.{Asks}
 use Rattle.just_host.specs.AskingLaws.{asked_nothing}
+use Rattle.just_host.specs.Kinds.{Only}
+use Rattle.just_host.specs.KindsLaws.{every, only_nothing}
+use Rattle.just_host.specs.Steps as steps
+use Rattle.evaluate_context.specs.declared.context.ExecutionContext.{ExecutionContext}
 use Rattle.justfile_evaluator.specs.declared.fault.RunFault.{RunFault}
 use Rattle.meaning_dialogues.specs.Faults.{memory}
 use Rattle.meaning_runs.specs.Failures.{Failure, evaluation}
 use Rattle.meaning_runs.specs.Parts.{Parts, is_met, Joins}
 use Rattle.meaning_runs.specs.Goes.{over, again, entered, not_begun, prior_failed, not_ended, subsequent_failed}
 use Rattle.meaning_runs.specs.Tallies as runs
-use Rattle.analyze_runs.specs.Calls.{CallRow, row_of, rows}
+use Rattle.analyze_calls.specs.Calls.{CallRow, row_of, rows}
 use Rattle.justfile_evaluator.specs.Ended.{failure_of}
-use Rattle.analyze_runs.specs.Growth.{Grew}
+use Rattle.analyze_calls.specs.Asked.{AsksIn, AsksUser}
+use Rattle.analyze_calls.specs.Entered.{EnteredRow}
 use Rattle.analyze_runs.specs.Ran.{IfRan, IfTurned}
 use Rattle.analyze_runs.specs.Rest.{Rest, finished, went, stopped, block_went, block_failed, block_stopped, back, Leads, HasRun, set_aside, restored}
 use Rattle.analyze_runs.specs.Tallies.{met_one, entered_one, tally_of}
-use Rattle.analyze_runs.specs.Todo.{Todo, EnteredRow, Calls, Body, After}
-use Rattle.analyze_runs.specs.declared.call.Call.{Call}
+use Rattle.analyze_runs.specs.Todo.{Todo, Calls, Body, After}
+use Rattle.analyze_calls.specs.declared.call.Call.{Call}
 use Rattle.analyze_runs.specs.declared.tally.Tally.{Tally}
 
--- what is asked after what was asked
-pub asked_on : {H : Type 0} (goes : H → List Entry → H → Type 0) (a b c : Record H) → Asks goes a b → Asks goes b c → Asks goes a c
-asked_on goes a b c first second = λ start asked. second start (first start asked)
+module _ {H : Type 0} (goes : H → List Entry → H → Type 0) (contexts : List ExecutionContext) where
+  -- where nothing is handed over, that is so whatever the contexts are
+  pub user_in : (a b : Record H) → AsksUser goes a b → AsksIn contexts goes a b
+  user_in a b asks = λ kinds questions user work. asks kinds questions user
 
--- a record that can still grow could grow before
-pub was_open : {H : Type 0} (goes : H → List Entry → H → Type 0) → Nothing goes → (a b : Record H) → Asks goes a b → b.exhausted ≡ false → a.exhausted ≡ false
-was_open goes nothing a b asks e = by (a.exhausted) refl
-  where
-    by : (x : Bool) → a.exhausted ≡ x → a.exhausted ≡ false
-    by false f = f
-    by true f = let s = (asks a (asked_nothing goes nothing a)).followed.stays f in sym (ap (λ r. r.exhausted) s) ∙ e
+  -- what is asked after what was asked
+  pub asked_on : (a b c : Record H) → AsksIn contexts goes a b → AsksIn contexts goes b c → AsksIn contexts goes a c
+  asked_on a b c first second = λ kinds questions user work start asked. second kinds questions user work start (first kinds questions user work start asked)
 
--- what is asked lets the record grow
-pub grown : {H : Type 0} (goes : H → List Entry → H → Type 0) → Nothing goes → (a b : Record H) → Asks goes a b → Grew a.entries b.entries
-grown goes nothing a b asks =
-    let asked = asks a (asked_nothing goes nothing a) in
-    record { piece = asked.followed.part; entries = asked.followed.entries }
+  -- a record that can still grow could grow before
+  pub was_open : Nothing goes → (a b : Record H) → AsksIn contexts goes a b → b.exhausted ≡ false → a.exhausted ≡ false
+  was_open nothing a b asks e =
+      let all : Asks (Only every goes) a b = asks every (record { asked = λ q r. refl }) (record { shown = λ t. refl; confirmed = λ p r. refl }) (λ context there dry. record { lines = λ k r. refl; scripts = λ k r. refl }) in
+      steps.was_open a b (all a (asked_nothing (Only every goes) (only_nothing every goes nothing) a)).followed.stays e
 
 -- what is restored after subsequents: what they did where they share it, and else what was done before
 after_set_aside : (shared : Bool) (done done2 : List CallRow) → restored (set_aside shared done) done2 ≡ cond shared done2 done

@@ -5,10 +5,11 @@ use Rattle.std.proofs.lemmas.List.Elements.{recursion_from_All}
 use Rattle.std.proofs.Math.Nat.{one-le-pow, pow-le-pow_right, mul-le-mul_left, pow-succ'}
 use Rattle.std.proofs.Common.{Bool, true}
 use Rattle.std.specs.Prelude.{Option}
-use Rattle.analyze_runs.specs.Calls.{CallRow, rows, row_of}
-use Rattle.analyze_runs.specs.Todo.{Todo, EnteredRow, Calls, Body, After}
+use Rattle.analyze_calls.specs.Calls.{CallRow, rows, row_of}
+use Rattle.analyze_calls.specs.Entered.{EnteredRow}
+use Rattle.analyze_runs.specs.Todo.{Todo, Calls, Body, After}
 use Rattle.analyze_runs.specs.Weight.{most, base, weight_of, weight, AreBelow}
-use Rattle.analyze_runs.specs.declared.call.Call.{Call}
+use Rattle.analyze_calls.specs.declared.call.Call.{Call}
 
 least : 1 ≤ base
 least = omega arith

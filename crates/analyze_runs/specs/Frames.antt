@@ -1,5 +1,6 @@
-use Rattle.analyze_runs.specs.Calls.{row_of, rows}
-use Rattle.analyze_runs.specs.Todo.{Todo, Calls, Body, After, entered_of}
+use Rattle.analyze_calls.specs.Calls.{row_of, rows}
+use Rattle.analyze_calls.specs.Entered.{entered_of}
+use Rattle.analyze_runs.specs.Todo.{Todo, Calls, Body, After}
 use Rattle.analyze_runs.specs.declared.frame.Frame.{Frame}
 use Rattle.analyze_runs.specs.declared.frame.Frame.TheVariants.{Calls as CallsFrame, Body as BodyFrame, After as AfterFrame}
 

@@ -5,11 +5,6 @@ use Rattle.meaning_dialogues.specs.Faults.{memory}
 use Rattle.meaning_runs.specs.Failures.{Failure, evaluation}
 use Rattle.justfile_evaluator.specs.Ended.{failure_of}
 
--- P holds of what was given, seen so, or of the failure, where memory sufficed
-abbrev pub IfGiven : {A B : Type 0} → (A → B) → Bool → Result A RunFault → (Result B Failure → Type 0) → Type 0
-IfGiven view exhausted (Ok a) P = exhausted ≡ false → P (Ok (view a))
-IfGiven view exhausted (Err fault) P = exhausted ≡ false → failure_of fault ≢ evaluation memory → P (Err (failure_of fault))
-
 -- P holds of how it ended, where memory sufficed
 abbrev pub IfRan : Bool → Result (Unit {0}) RunFault → (Option Failure → Type 0) → Type 0
 IfRan exhausted (Ok done) P = exhausted ≡ false → P None

@@ -5,8 +5,9 @@ use Rattle.meaning_runs.specs.Failures.{Failure}
 use Rattle.meaning_runs.specs.Parts.{Parts, Joins}
 use Rattle.meaning_runs.specs.Goes.{Goes}
 use Rattle.meaning_runs.specs.Tallies.{Tally}
-use Rattle.analyze_runs.specs.Calls.{CallRow}
-use Rattle.analyze_runs.specs.Todo.{Todo, EnteredRow, Calls, Body, After}
+use Rattle.analyze_calls.specs.Calls.{CallRow}
+use Rattle.analyze_calls.specs.Entered.{EnteredRow}
+use Rattle.analyze_runs.specs.Todo.{Todo, Calls, Body, After}
 
 -- what is set aside as subsequents begin: nothing where they share what was done
 abbrev pub set_aside : Bool → List CallRow → Option (List CallRow)

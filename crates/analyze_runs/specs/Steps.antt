@@ -6,14 +6,15 @@ use Rattle.just_host.specs.declared.entry.Entry.{Entry}
 use Rattle.evaluate_context.specs.declared.context.ExecutionContext.{ExecutionContext}
 use Rattle.meaning_runs.specs.Failures.{Failure}
 use Rattle.meaning_runs.specs.Parts.{Parts}
-use Rattle.analyze_runs.specs.Calls.{CallRow, row_of, rows, same_call}
-use Rattle.analyze_runs.specs.Placed.{placed_in}
-use Rattle.analyze_runs.specs.Growth.{Binds, Heads, Tails}
-use Rattle.analyze_runs.specs.Todo.{EnteredRow, entered_of}
-use Rattle.analyze_runs.specs.declared.call.Call.{Call}
-use Rattle.analyze_runs.specs.declared.frame.Entered.{Entered}
-use Rattle.analyze_runs.specs.declared.plan.Planned.{Planned}
-use Rattle.analyze_runs.specs.declared.plan.Runner.{Runner}
+use Rattle.analyze_calls.specs.Calls.{CallRow, row_of, rows, same_call}
+use Rattle.analyze_calls.specs.Placed.{placed_in}
+use Rattle.analyze_calls.specs.Around.{Heads, Tails}
+use Rattle.analyze_calls.specs.Binding.{Binds}
+use Rattle.analyze_calls.specs.Entered.{EnteredRow, entered_of}
+use Rattle.analyze_calls.specs.declared.call.Call.{Call}
+use Rattle.analyze_calls.specs.declared.enter.Entered.{Entered}
+use Rattle.analyze_calls.specs.declared.plan.Planned.{Planned}
+use Rattle.analyze_calls.specs.declared.plan.Runner.{Runner}
 
 -- whether the calls after its body run among those done: as its module's setting says
 abbrev pub shares_of : Option (Planned × ExecutionContext) → Bool
@@ -43,9 +44,9 @@ pub data HeadsBelow (place : ℕ) (Gives : Result (List CallRow) Failure → Typ
 pub data BeginsAt (runner : Runner) (planned : Planned) (context : ExecutionContext) (call : CallRow) (flag : Bool) (old new : List Entry) : Result (EnteredRow × List CallRow) Failure → Type 0 where
   unbound : {failure : Failure} → Binds planned context flag call.groups old new (Err failure) → BeginsAt runner planned context call flag old new (Err failure)
   headless : {mid : List Entry} {entered : EnteredRow} {failure : Failure} → Binds planned context flag call.groups old mid (Ok entered)
-      → HeadsBelow call.recipe (Heads runner planned context flag entered mid new) (Err failure) → BeginsAt runner planned context call flag old new (Err failure)
+      → HeadsBelow call.recipe (Heads planned context flag entered runner mid new) (Err failure) → BeginsAt runner planned context call flag old new (Err failure)
   begins : {mid : List Entry} {entered : EnteredRow} {priors : List CallRow} → Binds planned context flag call.groups old mid (Ok entered)
-      → HeadsBelow call.recipe (Heads runner planned context flag entered mid new) (Ok priors) → BeginsAt runner planned context call flag old new (Ok (entered, priors))
+      → HeadsBelow call.recipe (Heads planned context flag entered runner mid new) (Ok priors) → BeginsAt runner planned context call flag old new (Ok (entered, priors))
 
 -- a call begins by its recipe; one of no recipe fails
 pub data Begins (runner : Runner) (call : CallRow) (flag : Bool) (old new : List Entry) (result : Result (EnteredRow × List CallRow) Failure) : Type 0 where
@@ -55,7 +56,7 @@ pub data Begins (runner : Runner) (call : CallRow) (flag : Bool) (old new : List
 -- it ends by its body, and the calls after that
 pub data Ends (runner : Runner) (call : CallRow) (flag : Bool) (entered : EnteredRow) (old new : List Entry) (result : Result (List CallRow) Failure) : Type 0 where
   here_ends : {planned : Planned} {context : ExecutionContext} → placed_in runner call.recipe ≡ Some (planned, context)
-      → HeadsBelow call.recipe (Tails runner planned context flag entered old new) result → Ends runner call flag entered old new result
+      → HeadsBelow call.recipe (Tails planned context flag entered runner old new) result → Ends runner call flag entered old new result
   nowhere_ends : {failure : Failure} → placed_in runner call.recipe ≡ None → new ≡ old → result ≡ Err failure → Ends runner call flag entered old new result
 
 abbrev pub begun : Entered × List Call → EnteredRow × List CallRow

@@ -1,8 +1,8 @@
 use Rattle.std.specs.Prelude.{List, ℕ, [], ◌∷◌, ◌+◌, ◌*◌, ◌^◌, ◌<◌, length}
 use Rattle.std.specs.List.{All}
-use Rattle.analyze_runs.specs.Calls.{CallRow}
+use Rattle.analyze_calls.specs.Calls.{CallRow}
 use Rattle.analyze_runs.specs.Todo.{Todo, Calls, Body, After}
-use Rattle.analyze_runs.specs.declared.call.Call.{Call}
+use Rattle.analyze_calls.specs.declared.call.Call.{Call}
 
 -- more calls than a list can hold
 abbrev pub most : ℕ

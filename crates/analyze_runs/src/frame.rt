@@ -1,19 +1,5 @@
 //! Parts of a run.
-use crate::call::{Call, Done, Pending};
-use just_host::Pair;
-use just_value::Scope;
-
-/// What a recipe was entered with.
-#[derive(Drop)]
-pub(crate) struct Entered<'m, 'src> {
-    /// The parameters' frame.
-    pub(crate) scope: Scope<'m, 'src>,
-    /// What its `env` attributes give to commands.
-    pub(crate) env: Vec<Pair>,
-    /// Its parameters' values as words.
-    pub(crate) positional: Vec<String>,
-    pub(crate) is_dependency: bool,
-}
+use analyze_calls::{Call, Done, Entered, Pending};
 
 /// The calls after a body, and whether they share the table in which its recipe runs.
 #[derive(Drop)]

@@ -1,7 +1,9 @@
 //! The loop over what is still to do.
 ghost use Rattle.std.specs.Prelude.{◌≡◌, ◌<◌, ◌∷◌, [], true, false, cond, OnOk, Some};
-ghost use Rattle.analyze_runs.specs.Calls.{row_of, rows, same_call};
-ghost use Rattle.analyze_runs.specs.Todo.{Calls, Body, After, entered_of};
+ghost use Rattle.analyze_calls.specs.Calls.{row_of, rows, same_call};
+ghost use Rattle.analyze_calls.specs.Asked.{AsksIn, AsksUser};
+ghost use Rattle.analyze_calls.specs.Entered.{entered_of};
+ghost use Rattle.analyze_runs.specs.Todo.{Calls, Body, After};
 ghost use Rattle.analyze_runs.specs.Tallies.{HasCounted, tally_of};
 ghost use Rattle.analyze_runs.specs.Ran.{IfRan, IfTurned};
 ghost use Rattle.analyze_runs.specs.Rest.{Rest, Leads, HasRun};
@@ -10,14 +12,12 @@ ghost use Rattle.analyze_runs.specs.Steps.{parts};
 ghost use Rattle.analyze_runs.specs.Weight.{weight};
 ghost use Rattle.meaning_runs.specs.Parts.{Joins};
 ghost use Rattle.meaning_runs.specs.Tallies as runs;
-ghost use Rattle.just_host.specs.Asking.{Asks};
 
-use crate::call::{Call, Done, Pending};
-use crate::frame::{Entered, Frame, Subsequents};
-use crate::plan::Runner;
+use crate::frame::{Frame, Subsequents};
 use crate::stack::Stack;
 use crate::steps::{enter, leave};
 use crate::tally::Tally;
+use analyze_calls::{Call, Done, Entered, Pending, Runner};
 use just_host::{Recorded, RunHost};
 use justfile_evaluator::RunFault;
 use std::alloc::{AllocError, Global};
@@ -52,7 +52,7 @@ fn turn_calls<'m, 'src, H: RunHost + Drop>(
 ) -> Result<(), RunFault<'src>>
     ensures nearer { OnOk result (weight stack.new < weight (Calls are_dependencies (rows pending) ∷ stack.old)) }
     ensures counted { HasCounted tally.old tally.new }
-    ensures asks { Asks H.goes host.old host.new }
+    ensures asks { AsksUser H.goes host.old host.new }
     // What the stack does from here on, it did with these calls on it; a failure ends the run.
     ensures goes { IfTurned host.new.exhausted result
         (Leads (parts runner.now) (Calls are_dependencies (rows pending) ∷ stack.old) done.now host.old.entries (tally_of tally.old) stack.new done.now host.new.entries (tally_of tally.new))
@@ -128,7 +128,7 @@ fn turn_body<'m, 'src, H: RunHost + Drop>(
     entered: &Entered<'m, 'src>,
 ) -> Result<(), RunFault<'src>>
     ensures nearer { OnOk result (weight stack.new < weight (Body (row_of call) entered.now.is_dependency (entered_of entered.now) ∷ stack.old)) }
-    ensures asks { Asks H.goes host.old host.new }
+    ensures asks { AsksIn runner.now.contexts.now H.goes host.old host.new }
     // What the stack does from here on, it did with this body on it, for every tally; a failure ends the run.
     ensures goes { (t : runs.Tally) → IfTurned host.new.exhausted result
         (Leads (parts runner.now) (Body (row_of call) entered.now.is_dependency (entered_of entered.now) ∷ stack.old) done.old host.old.entries t stack.new done.new host.new.entries t)
@@ -155,7 +155,7 @@ fn run_stack<'m, 'src, H: RunHost + Drop>(
     tally: &mut Tally,
 ) -> Result<(), RunFault<'src>>
     ensures counted { HasCounted tally.old tally.new }
-    ensures asks { Asks H.goes host.old host.new }
+    ensures asks { AsksIn runner.now.contexts.now H.goes host.old host.new }
     ensures goes { IfRan host.new.exhausted result (Rest (parts runner.now) stack.old done.old host.old.entries (tally_of tally.old) host.new.entries (tally_of tally.new)) }
 {
     while let Some(frame) = stack.pop() {
@@ -199,7 +199,7 @@ pub fn run_calls<'m, 'src, H: RunHost + Drop>(
 ) -> Result<(), RunFault<'src>>
     // No number falls, and no more calls are entered than met.
     ensures counted { HasCounted tally.old tally.new }
-    ensures asks { Asks H.goes host.old host.new }
+    ensures asks { AsksIn runner.now.contexts.now H.goes host.old host.new }
     // Where memory suffices, the record and the tally grow by a run of the calls with nothing done at first.
     ensures goes { IfRan host.new.exhausted result (HasRun (parts runner.now) (rows calls.items) host.old.entries (tally_of tally.old) host.new.entries (tally_of tally.new)) }
 {

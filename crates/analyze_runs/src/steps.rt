@@ -1,20 +1,20 @@
 //! How a call begins and how it ends.
 ghost use Rattle.std.specs.Prelude.{◌≡◌, ◌<◌, true, false, IfOk, IfErr};
 ghost use Rattle.std.specs.Option.{option_map};
-ghost use Rattle.analyze_runs.specs.Calls.{row_of, rows};
-ghost use Rattle.analyze_runs.specs.Ran.{IfGiven};
-ghost use Rattle.analyze_runs.specs.Growth.{Heads, Tails};
+ghost use Rattle.analyze_calls.specs.Calls.{row_of, rows};
+ghost use Rattle.analyze_calls.specs.Ran.{IfGiven, ended_as};
+ghost use Rattle.analyze_calls.specs.Around.{Heads, Tails};
+ghost use Rattle.analyze_calls.specs.Asked.{AsksIn, AsksUser};
+ghost use Rattle.analyze_calls.specs.Binding.{Binds};
+ghost use Rattle.analyze_calls.specs.Entered.{entered_of};
 ghost use Rattle.analyze_runs.specs.Steps.{Begins, Ends, BeginsAt, HeadsBelow, begun, shares_at};
-ghost use Rattle.analyze_runs.specs.Placed.{placed_in};
+ghost use Rattle.analyze_calls.specs.Placed.{placed_in};
 ghost use Rattle.analyze_runs.specs.Steps as spec;
-ghost use Rattle.analyze_runs.specs.Todo.{entered_of};
 ghost use Rattle.analyze_runs.specs.Weight.{AreBelow};
-ghost use Rattle.just_host.specs.Asking.{Asks};
+ghost use Rattle.just_host.specs.Kinds.{AsksQuestions, AsksWork};
 
-use crate::call::{Call, Pending};
-use crate::enter::{begin, end, entered};
-use crate::frame::{Entered, Subsequents};
-use crate::plan::{Placed, Runner};
+use crate::frame::Subsequents;
+use analyze_calls::{Call, Entered, Pending, Placed, Runner, begin, end, enter_recipe};
 use just_host::{Recorded, RunHost};
 use just_value::Value;
 use justfile_evaluator::RunFault;
@@ -70,10 +70,11 @@ fn boxed<'m, 'src, H: RunHost + Drop>(
     groups: &[Value],
     is_dependency: bool,
 ) -> Result<Box<Entered<'m, 'src>>, RunFault<'src>>
-    ensures asks { Asks H.goes host.old host.new }
+    ensures asks { AsksQuestions H.goes host.old host.new }
     ensures flag { IfOk result (λ e. e.value.is_dependency ≡ is_dependency) }
+    ensures binds { Binds placed.now.planned.now placed.now.context.now is_dependency groups.now host.old.entries host.new.entries (ended_as (λ e. entered_of e.value) result) }
 {
-    let entered = entered(alloc, host, placed, groups, is_dependency)?;
+    let entered = enter_recipe(alloc, host, placed, groups, is_dependency)?;
     Ok(Box::new(alloc, entered)?)
 }
 
@@ -87,8 +88,8 @@ fn priors<'m, 'src, H: RunHost + Drop>(
     place: usize,
 ) -> Result<Pending, RunFault<'src>>
     ensures below { IfOk result (AreBelow place) }
-    ensures asks { Asks H.goes host.old host.new }
-    ensures heads { IfGiven (λ p. rows p) host.new.exhausted result (HeadsBelow place (Heads runner.now placed.now.planned.now placed.now.context.now entered.now.is_dependency (entered_of entered.now) host.old.entries host.new.entries)) }
+    ensures asks { AsksUser H.goes host.old host.new }
+    ensures heads { IfGiven (λ p. rows p) host.new.exhausted result (HeadsBelow place (Heads placed.now.planned.now placed.now.context.now entered.now.is_dependency (entered_of entered.now) runner.now host.old.entries host.new.entries)) }
 {
     let calls = begin(alloc, host, runner, placed, entered)?;
     ranked(alloc, calls, place)
@@ -104,7 +105,7 @@ fn enter_placed<'m, 'src, H: RunHost + Drop>(
     is_dependency: bool,
 ) -> Result<(Box<Entered<'m, 'src>>, Pending), RunFault<'src>>
     ensures below { IfOk result (λ r. AreBelow call.now.recipe r.1) }
-    ensures asks { Asks H.goes host.old host.new }
+    ensures asks { AsksUser H.goes host.old host.new }
     ensures flag { IfOk result (λ r. r.0.value.is_dependency ≡ is_dependency) }
     ensures goes { IfGiven (λ r. begun (r.0.value, r.1)) host.new.exhausted result (BeginsAt runner.now placed.now.planned.now placed.now.context.now (row_of call.now) is_dependency host.old.entries host.new.entries) }
 {
@@ -123,7 +124,7 @@ pub(crate) fn enter<'m, 'src, H: RunHost + Drop>(
     is_dependency: bool,
 ) -> Result<(Box<Entered<'m, 'src>>, Pending), RunFault<'src>>
     ensures below { IfOk result (λ r. AreBelow call.now.recipe r.1) }
-    ensures asks { Asks H.goes host.old host.new }
+    ensures asks { AsksUser H.goes host.old host.new }
     ensures flag { IfOk result (λ r. r.0.value.is_dependency ≡ is_dependency) }
     ensures goes { IfGiven (λ r. begun (r.0.value, r.1)) host.new.exhausted result (Begins runner.now (row_of call.now) is_dependency host.old.entries host.new.entries) }
 {
@@ -143,9 +144,9 @@ fn subsequents<'m, 'src, H: RunHost + Drop>(
     place: usize,
 ) -> Result<Subsequents, RunFault<'src>>
     ensures below { IfOk result (λ behind. AreBelow place behind.calls) }
-    ensures asks { Asks H.goes host.old host.new }
+    ensures asks { AsksWork placed.now.context.now.config.now.dry_run H.goes host.old host.new }
     ensures shared { IfOk result (λ behind. behind.are_shared ≡ placed.now.context.now.module.now.settings.now.share_subsequents) }
-    ensures goes { IfGiven (λ behind. rows behind.calls) host.new.exhausted result (HeadsBelow place (Tails runner.now placed.now.planned.now placed.now.context.now entered.now.is_dependency (entered_of entered.now) host.old.entries host.new.entries)) }
+    ensures goes { IfGiven (λ behind. rows behind.calls) host.new.exhausted result (HeadsBelow place (Tails placed.now.planned.now placed.now.context.now entered.now.is_dependency (entered_of entered.now) runner.now host.old.entries host.new.entries)) }
 {
     let brought = end(alloc, host, runner, placed, entered)?;
     let calls = ranked(alloc, brought, place)?;
@@ -164,7 +165,7 @@ pub(crate) fn leave<'m, 'src, H: RunHost + Drop>(
     entered: &Entered<'m, 'src>,
 ) -> Result<Subsequents, RunFault<'src>>
     ensures below { IfOk result (λ behind. AreBelow call.now.recipe behind.calls) }
-    ensures asks { Asks H.goes host.old host.new }
+    ensures asks { AsksIn runner.now.contexts.now H.goes host.old host.new }
     ensures shared { IfOk result (λ behind. behind.are_shared ≡ shares_at runner.now (row_of call.now)) }
     ensures goes { IfGiven (λ behind. rows behind.calls) host.new.exhausted result (Ends runner.now (row_of call.now) entered.now.is_dependency (entered_of entered.now) host.old.entries host.new.entries) }
 {

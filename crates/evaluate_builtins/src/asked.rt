@@ -6,7 +6,7 @@ ghost use Rattle.std.specs.String.{string_bytes};
 ghost use Rattle.evaluate_builtins.specs.Builtins.{text_told};
 ghost use Rattle.evaluate_builtins.specs.Named.{IsNamed};
 ghost use Rattle.evaluate_functions.specs.Functions.{Answers};
-ghost use Rattle.just_host.specs.Asking.{Asks};
+ghost use Rattle.just_host.specs.Kinds.{AsksQuestions};
 ghost use Rattle.just_host.specs.Faults.{fault_text};
 ghost use Rattle.just_host.specs.declared.entry.Entry.TheVariants.{Asked};
 ghost use Rattle.meaning_dialogues.specs.Answers as answers;
@@ -20,7 +20,7 @@ use std::alloc::{AllocError, Global};
 
 /// The host's answer.
 fn ask<H: Host + Drop>(host: &mut Recorded<H>, question: &Question) -> Result<Answer, AllocError>
-    ensures asks { Asks H.goes host.old host.new }
+    ensures asks { AsksQuestions H.goes host.old host.new }
     ensures kept { IfOk result (λ answer. host.new.entries ≡ host.old.entries ++ Asked question.now answer ∷ []) }
 {
     let answer = host.ask(question);
@@ -78,7 +78,7 @@ pub fn ask_text<H: Host + Drop>(
     host: &mut Recorded<H>,
     question: &Question,
 ) -> Result<Result<Text, HostFault>, AllocError>
-    ensures asks { Asks H.goes host.old host.new }
+    ensures asks { AsksQuestions H.goes host.old host.new }
     ensures answered { IfOk result (IsAnswered question.now answers.text_in host.old.entries host.new.entries) }
 {
     let answer = ask(host, question)?;
@@ -91,7 +91,7 @@ pub fn ask_optional<H: Host + Drop>(
     host: &mut Recorded<H>,
     question: &Question,
 ) -> Result<Result<Option<Text>, HostFault>, AllocError>
-    ensures asks { Asks H.goes host.old host.new }
+    ensures asks { AsksQuestions H.goes host.old host.new }
     ensures answered { IfOk result (IsAnswered question.now answers.optional_in host.old.entries host.new.entries) }
 {
     let answer = ask(host, question)?;
@@ -104,7 +104,7 @@ pub fn ask_truth<H: Host + Drop>(
     host: &mut Recorded<H>,
     question: &Question,
 ) -> Result<Result<bool, HostFault>, AllocError>
-    ensures asks { Asks H.goes host.old host.new }
+    ensures asks { AsksQuestions H.goes host.old host.new }
     ensures answered { IfOk result (IsAnswered question.now answers.truth_in host.old.entries host.new.entries) }
 {
     let answer = ask(host, question)?;

@@ -8,7 +8,7 @@ ghost use Rattle.evaluate_builtins.specs.Sites.{called, standing_of};
 ghost use Rattle.evaluate_context.specs.Environment as surrounding;
 ghost use Rattle.evaluate_context.specs.Refusals.{seen};
 ghost use Rattle.evaluate_context.specs.Surroundings.{surroundings_of};
-ghost use Rattle.just_host.specs.Asking.{Asks};
+ghost use Rattle.just_host.specs.Kinds.{AsksQuestions};
 ghost use Rattle.just_text.specs.Tokens.{lexeme};
 ghost use Rattle.meaning_dialogues.specs.Dialogue.{Evaluates, Reading};
 
@@ -35,7 +35,7 @@ pub fn call_builtin<'src, H: Host + Drop>(
     function: Function,
     arguments: &[Value],
 ) -> Result<Value, Error<'src>>
-    ensures asks { Asks H.goes host.old host.new }
+    ensures asks { AsksQuestions H.goes host.old host.new }
     ensures evaluates { (reading : Reading) → Evaluates reading (called site.now function arguments.now) host.old.entries host.new.entries (seen result) }
 {
     let lists = site.context.module.settings.lists;
@@ -159,7 +159,7 @@ fn asked_answer<H: Host + Drop>(
     function: Function,
     arguments: &[Value],
 ) -> Option<Result<Value, FunctionFault>>
-    ensures asks { Asks H.goes host.old host.new }
+    ensures asks { AsksQuestions H.goes host.old host.new }
     ensures leads { (name : List ℕ) (reading : Reading) → LeadsAny name reading (asked_of (surroundings_of site.now.context.now) (standing_of site.now) name function arguments.now) host.old.entries host.new.entries result }
 {
     if let Some((folder, words)) = folder_of(function) {
@@ -182,7 +182,7 @@ fn answered<H: Host + Drop>(
     request: Request,
     arguments: &[Value],
 ) -> Result<Value, FunctionFault>
-    ensures asks { Asks H.goes host.old host.new }
+    ensures asks { AsksQuestions H.goes host.old host.new }
     ensures evaluates { (name : List ℕ) (reading : Reading) → Evaluates reading (requested (surroundings_of site.now.context.now) (standing_of site.now) name request arguments.now) host.old.entries host.new.entries (spec.named name result) }
 {
     let context = site.context;
@@ -205,7 +205,7 @@ fn environment<H: Host + Drop>(
     site: &CallSite,
     arguments: &[Value],
 ) -> Result<Value, FunctionFault>
-    ensures asks { Asks H.goes host.old host.new }
+    ensures asks { AsksQuestions H.goes host.old host.new }
     ensures evaluates { (name : List ℕ) (reading : Reading) → Evaluates reading (environment_dialogue name (map surrounding.variable site.now.context.now.dotenv.now.entries) arguments.now) host.old.entries host.new.entries (spec.named name result) }
 {
     let dotenv = site.context.dotenv;

@@ -5,7 +5,7 @@ ghost use Rattle.evaluate_builtins.specs.Commands.{command_question, printed_in,
 ghost use Rattle.evaluate_context.specs.Environments.{IsEnvironmentIn};
 ghost use Rattle.evaluate_context.specs.Shells.{shell_words};
 ghost use Rattle.evaluate_context.specs.Surroundings.{job_of, standing_in, surroundings_of};
-ghost use Rattle.just_host.specs.Asking.{Asks};
+ghost use Rattle.just_host.specs.Kinds.{AsksQuestions};
 ghost use Rattle.just_host.specs.declared.host.HostFault.TheVariants.{Memory};
 ghost use Rattle.meaning_dialogues.specs.Answers as answers;
 ghost use Rattle.meaning_dialogues.specs.Answers.{IsAnswered};
@@ -115,7 +115,7 @@ pub fn command_output<H: Host + Drop>(
     command: &str,
     positional: &[String],
 ) -> Result<Result<Text, HostFault>, AllocError>
-    ensures asks { Asks H.goes host.old host.new }
+    ensures asks { AsksQuestions H.goes host.old host.new }
     ensures answered { IfOk result (IsAnswered (command_question context.now env.now scope.now command.now (map string_bytes positional.now)) printed_in host.old.entries host.new.entries) }
 {
     let job = expression_job(alloc, context, env, scope, command, positional)?;
@@ -134,7 +134,7 @@ pub fn run_command<H: Host + Drop>(
     command: &str,
     positional: &[String],
 ) -> Result<Text, HostFault>
-    ensures asks { Asks H.goes host.old host.new }
+    ensures asks { AsksQuestions H.goes host.old host.new }
     ensures answered { (result ≡ Err Memory) ⊎ IsAnswered (command_question context.now env.now scope.now command.now (map string_bytes positional.now)) printed_in host.old.entries host.new.entries result }
 {
     match command_output(alloc, host, context, env, scope, command, positional) {

@@ -5,7 +5,7 @@ ghost use Rattle.evaluate_builtins.specs.Named.{IsNamed, named};
 ghost use Rattle.evaluate_context.specs.Surroundings.{surroundings_of};
 ghost use Rattle.evaluate_functions.specs.Functions.{Answers};
 ghost use Rattle.evaluate_functions.specs.Values.{boolean as boolean_of};
-ghost use Rattle.just_host.specs.Asking.{Asks};
+ghost use Rattle.just_host.specs.Kinds.{AsksQuestions};
 ghost use Rattle.just_host.specs.Faults.{fault_text};
 ghost use Rattle.just_host.specs.declared.host.Question.TheVariants.{Canonicalize, Read, Which};
 ghost use Rattle.just_value.specs.Paths as paths;
@@ -38,7 +38,7 @@ pub(crate) fn read<H: Host + Drop>(
     context: &ExecutionContext,
     path: &str,
 ) -> Result<Value, FunctionFault>
-    ensures asks { Asks H.goes host.old host.new }
+    ensures asks { AsksQuestions H.goes host.old host.new }
     ensures evaluates { (name : List ℕ) (reading : Reading) → Evaluates reading (at_path name Read (codes "reading") (surroundings_of context.now) path.now) host.old.entries host.new.entries (named name result) }
 {
     let question = Question::Read(placed(alloc, context, path)?);
@@ -53,7 +53,7 @@ pub(crate) fn canonicalize<H: Host + Drop>(
     context: &ExecutionContext,
     path: &str,
 ) -> Result<Value, FunctionFault>
-    ensures asks { Asks H.goes host.old host.new }
+    ensures asks { AsksQuestions H.goes host.old host.new }
     ensures evaluates { (name : List ℕ) (reading : Reading) → Evaluates reading (at_path name Canonicalize (codes "canonicalizing") (surroundings_of context.now) path.now) host.old.entries host.new.entries (named name result) }
 {
     let question = Question::Canonicalize(placed(alloc, context, path)?);
@@ -90,7 +90,7 @@ pub(crate) fn path_exists<H: Host + Drop>(
     context: &ExecutionContext,
     path: &str,
 ) -> Result<Value, FunctionFault>
-    ensures asks { Asks H.goes host.old host.new }
+    ensures asks { AsksQuestions H.goes host.old host.new }
     ensures evaluates { (name : List ℕ) (reading : Reading) → Evaluates reading (exists_dialogue name (surroundings_of context.now) path.now) host.old.entries host.new.entries (named name result) }
 {
     let lists = context.module.settings.lists;
@@ -146,7 +146,7 @@ pub(crate) fn which<H: Host + Drop>(
     context: &ExecutionContext,
     program: &str,
 ) -> Result<Value, FunctionFault>
-    ensures asks { Asks H.goes host.old host.new }
+    ensures asks { AsksQuestions H.goes host.old host.new }
     ensures evaluates { (name : List ℕ) (reading : Reading) → Evaluates reading (program_dialogue name (surroundings_of context.now) program.now (Ok [])) host.old.entries host.new.entries (named name result) }
 {
     let question = program_question(alloc, context, program)?;
@@ -176,7 +176,7 @@ pub(crate) fn require<H: Host + Drop>(
     context: &ExecutionContext,
     program: &str,
 ) -> Result<Value, FunctionFault>
-    ensures asks { Asks H.goes host.old host.new }
+    ensures asks { AsksQuestions H.goes host.old host.new }
     ensures evaluates { (name : List ℕ) (reading : Reading) → Evaluates reading (program_dialogue name (surroundings_of context.now) program.now (Err (function_failed name (codes "could not find executable " ++ ticked program.now)))) host.old.entries host.new.entries (named name result) }
 {
     let question = program_question(alloc, context, program)?;

@@ -4,7 +4,7 @@ ghost use Rattle.evaluate_builtins.specs.Builtins.{machine_fact, machine_folder,
 ghost use Rattle.evaluate_builtins.specs.Facts as spec;
 ghost use Rattle.evaluate_builtins.specs.Named.{IsNamed, named};
 ghost use Rattle.evaluate_functions.specs.Functions.{Answers};
-ghost use Rattle.just_host.specs.Asking.{Asks};
+ghost use Rattle.just_host.specs.Kinds.{AsksQuestions};
 ghost use Rattle.meaning_dialogues.specs.Dialogue.{Evaluates, Reading};
 ghost use Rattle.meaning_dialogues.specs.Faults.{function_failed};
 
@@ -51,7 +51,7 @@ pub(crate) fn folder_answer<H: Host + Drop>(
     fact: MachineFact,
     words: &str,
 ) -> Result<Value, FunctionFault>
-    ensures asks { Asks H.goes host.old host.new }
+    ensures asks { AsksQuestions H.goes host.old host.new }
     ensures evaluates { (name : List ℕ) (reading : Reading) → Evaluates reading (machine_folder name fact words.now) host.old.entries host.new.entries (named name result) }
 {
     let answer = ask_optional(alloc, host, &Question::Fact(fact))?;
@@ -86,7 +86,7 @@ pub(crate) fn fact_answer<H: Host + Drop>(
     host: &mut Recorded<H>,
     fact: MachineFact,
 ) -> Result<Value, FunctionFault>
-    ensures asks { Asks H.goes host.old host.new }
+    ensures asks { AsksQuestions H.goes host.old host.new }
     ensures evaluates { (name : List ℕ) (reading : Reading) → Evaluates reading (machine_fact name fact) host.old.entries host.new.entries (named name result) }
 {
     let answer = ask_text(alloc, host, &Question::Fact(fact))?;

@@ -6,7 +6,7 @@ ghost use Rattle.evaluate_builtins.specs.Named.{named};
 ghost use Rattle.evaluate_builtins.specs.Sites.{standing_of};
 ghost use Rattle.evaluate_context.specs.Surroundings.{surroundings_of};
 ghost use Rattle.evaluate_functions.specs.Functions.{first_text};
-ghost use Rattle.just_host.specs.Asking.{Asks};
+ghost use Rattle.just_host.specs.Kinds.{AsksQuestions};
 ghost use Rattle.meaning_dialogues.specs.Dialogue.{Evaluates, Reading};
 
 use crate::asked::text_answer;
@@ -25,7 +25,7 @@ pub(crate) fn shell<H: Host + Drop>(
     site: &CallSite,
     arguments: &[Value],
 ) -> Result<Value, FunctionFault>
-    ensures asks { Asks H.goes host.old host.new }
+    ensures asks { AsksQuestions H.goes host.old host.new }
     ensures evaluates { (name : List ℕ) (reading : Reading) → Evaluates reading (shell_dialogue name (surroundings_of site.now.context.now) (standing_of site.now) arguments.now (surroundings_of site.now.context.now).dry_run) host.old.entries host.new.entries (named name result) }
 {
     if site.context.config.dry_run {

@@ -7,7 +7,7 @@ ghost use Rattle.evaluate_builtins.specs.Named.{IsNamed, named};
 ghost use Rattle.evaluate_builtins.specs.Variables.{Finds, IsAskedFor, IsLookedUp, default_told};
 ghost use Rattle.evaluate_context.specs.Environment as environment;
 ghost use Rattle.evaluate_functions.specs.Functions.{Answers};
-ghost use Rattle.just_host.specs.Asking.{Asks};
+ghost use Rattle.just_host.specs.Kinds.{AsksQuestions};
 ghost use Rattle.just_text.specs.Counts.{counted};
 ghost use Rattle.just_value.specs.Lists.{list_text};
 ghost use Rattle.meaning_dialogues.specs.Dialogue.{Ends, Evaluates, Reading};
@@ -31,7 +31,7 @@ pub(crate) fn variable<H: Host + Drop>(
     names: &Value,
     default: Option<&Value>,
 ) -> Result<Value, FunctionFault>
-    ensures asks { Asks H.goes host.old host.new }
+    ensures asks { AsksQuestions H.goes host.old host.new }
     ensures evaluates { (name : List ℕ) (reading : Reading) → Evaluates reading (first_variable name (map environment.variable dotenv.now.entries) (Ends (default_told name names.now (option_map (λ value. value.now) default.entry))) names.now) host.old.entries host.new.entries (named name result) }
 {
     for name in names.elements() {
@@ -78,7 +78,7 @@ fn looked_up<H: Host + Drop>(
     dotenv: &BTreeMap<String, String>,
     name: &str,
 ) -> Result<Option<Text>, FunctionFault>
-    ensures asks { Asks H.goes host.old host.new }
+    ensures asks { AsksQuestions H.goes host.old host.new }
     ensures leads { IsLookedUp (map environment.variable dotenv.now.entries) name.now host.old.entries host.new.entries result }
 {
     match in_files(dotenv, name) {
@@ -107,7 +107,7 @@ fn in_environment<H: Host + Drop>(
     host: &mut Recorded<H>,
     name: &str,
 ) -> Result<Option<Text>, FunctionFault>
-    ensures asks { Asks H.goes host.old host.new }
+    ensures asks { AsksQuestions H.goes host.old host.new }
     ensures leads { IsAskedFor name.now host.old.entries host.new.entries result }
 {
     let question = Question::Environment(Text::from_text(alloc, name)?);

@@ -12,7 +12,7 @@ ghost use Rattle.evaluate_context.specs.Refusals.{seen, seen_as};
 ghost use Rattle.evaluate_expressions.specs.Failures.{seen_above, seen_above_as};
 ghost use Rattle.evaluate_expressions.specs.Known.{TermKnownBy, BodiesKnownBy};
 ghost use Rattle.evaluate_expressions.specs.Situations.{stage_at, reading_at, running_stage, is_non_const, defined_at, builtin_at, called_builtin, calls_in};
-ghost use Rattle.just_host.specs.Asking.{Asks};
+ghost use Rattle.just_host.specs.Kinds.{AsksQuestions};
 ghost use Rattle.meaning_dialogues.specs.Calls as calls;
 ghost use Rattle.meaning_dialogues.specs.Calls.{DefinedFunction, const_stage, function_named, read_in, reading_in_frames};
 ghost use Rattle.meaning_dialogues.specs.Dialogue.{Evaluates};
@@ -216,7 +216,7 @@ impl<'run, 'src> Evaluator<'run, 'src> {
         contents: &Text,
         token: &Token<'src>,
     ) -> Result<Value, Failure<'src>>
-        ensures asks { Asks H.goes host.old host.new }
+        ensures asks { AsksQuestions H.goes host.old host.new }
         ensures evaluates { Evaluates (reading_at self.now) (dialogue (stage_at self.now) (terms.command contents.now (lexeme token.now))) host.old.entries host.new.entries (seen_above result) }
     {
         let Stage::Run(context) = self.stage else {
@@ -248,7 +248,7 @@ impl<'run, 'src> Evaluator<'run, 'src> {
         name: &Name<'src>,
         values: &[Value],
     ) -> Result<Value, Failure<'src>>
-        ensures asks { Asks H.goes host.old host.new }
+        ensures asks { AsksQuestions H.goes host.old host.new }
         ensures evaluates { Evaluates (reading_at self.now) (builtin_at self.now.stage self.now (lexeme name.now.token) name.now.token.path.now function values.now) host.old.entries host.new.entries (seen_above result) }
     {
         let Stage::Run(context) = self.stage else {
@@ -275,7 +275,7 @@ impl<'run, 'src> Evaluator<'run, 'src> {
         host: &mut Recorded<H>,
         expression: &Expression<'src>,
     ) -> Result<Value, Error<'src>>
-        ensures asks { Asks H.goes host.old host.new }
+        ensures asks { AsksQuestions H.goes host.old host.new }
         ensures evaluates { Evaluates (reading_at self.now) (dialogue (stage_at self.now) (term_of expression.now)) host.old.entries host.new.entries (seen result) }
         ensures known { (reached : DefinedFunction → Bool) → BodiesKnownBy self.now reached → TermKnownBy self.now reached (term_of expression.now) → NotInternal (seen result) }
     {
@@ -297,7 +297,7 @@ impl<'run, 'src> Evaluator<'run, 'src> {
         host: &mut Recorded<H>,
         expression: &Expression<'src>,
     ) -> Result<Value, Failure<'src>>
-        ensures asks { Asks H.goes host.old host.new }
+        ensures asks { AsksQuestions H.goes host.old host.new }
         ensures evaluates { Evaluates (reading_at self.now) (dialogue (stage_at self.now) (term_of expression.now)) host.old.entries host.new.entries (seen_above result) }
     {
         if memory.levels == 0 {
@@ -374,7 +374,7 @@ impl<'run, 'src> Evaluator<'run, 'src> {
         lhs: &Expression<'src>,
         rhs: &Expression<'src>,
     ) -> Result<Value, Failure<'src>>
-        ensures asks { Asks H.goes host.old host.new }
+        ensures asks { AsksQuestions H.goes host.old host.new }
         ensures evaluates { Evaluates (reading_at self.now) (dialogue (stage_at self.now) (terms.both (term_of lhs.now) (term_of rhs.now))) host.old.entries host.new.entries (seen_above result) }
     {
         let value = self.evaluate(memory, host, lhs)?;
@@ -396,7 +396,7 @@ impl<'run, 'src> Evaluator<'run, 'src> {
         lhs: &Expression<'src>,
         rhs: &Expression<'src>,
     ) -> Result<Value, Failure<'src>>
-        ensures asks { Asks H.goes host.old host.new }
+        ensures asks { AsksQuestions H.goes host.old host.new }
         ensures evaluates { Evaluates (reading_at self.now) (dialogue (stage_at self.now) (terms.either (term_of lhs.now) (term_of rhs.now))) host.old.entries host.new.entries (seen_above result) }
     {
         let value = self.evaluate(memory, host, lhs)?;
@@ -417,7 +417,7 @@ impl<'run, 'src> Evaluator<'run, 'src> {
         host: &mut Recorded<H>,
         operand: &Expression<'src>,
     ) -> Result<Value, Failure<'src>>
-        ensures asks { Asks H.goes host.old host.new }
+        ensures asks { AsksQuestions H.goes host.old host.new }
         ensures evaluates { Evaluates (reading_at self.now) (dialogue (stage_at self.now) (terms.negation (term_of operand.now))) host.old.entries host.new.entries (seen_above result) }
     {
         let value = self.evaluate(memory, host, operand)?;
@@ -435,7 +435,7 @@ impl<'run, 'src> Evaluator<'run, 'src> {
         condition: &Expression<'src>,
         name: &Name<'src>,
     ) -> Result<Value, Failure<'src>>
-        ensures asks { Asks H.goes host.old host.new }
+        ensures asks { AsksQuestions H.goes host.old host.new }
         ensures evaluates { Evaluates (reading_at self.now) (dialogue (stage_at self.now) (terms.assertion_alone (term_of condition.now))) host.old.entries host.new.entries (seen_above result) }
     {
         let value = self.evaluate(memory, host, condition)?;
@@ -457,7 +457,7 @@ impl<'run, 'src> Evaluator<'run, 'src> {
         message: &Expression<'src>,
         name: &Name<'src>,
     ) -> Result<Value, Failure<'src>>
-        ensures asks { Asks H.goes host.old host.new }
+        ensures asks { AsksQuestions H.goes host.old host.new }
         ensures evaluates { Evaluates (reading_at self.now) (dialogue (stage_at self.now) (terms.assertion (term_of condition.now) (term_of message.now))) host.old.entries host.new.entries (seen_above result) }
     {
         let value = self.evaluate(memory, host, condition)?;
@@ -478,7 +478,7 @@ impl<'run, 'src> Evaluator<'run, 'src> {
         message: &Expression<'src>,
         name: &Name<'src>,
     ) -> Result<Value, Failure<'src>>
-        ensures asks { Asks H.goes host.old host.new }
+        ensures asks { AsksQuestions H.goes host.old host.new }
         ensures evaluates { Evaluates (reading_at self.now) (spec.failing (dialogue (stage_at self.now) (term_of message.now))) host.old.entries host.new.entries (seen_above result) }
     {
         let message = self.evaluate(memory, host, message)?;
@@ -497,7 +497,7 @@ impl<'run, 'src> Evaluator<'run, 'src> {
         then: &Expression<'src>,
         otherwise: &Expression<'src>,
     ) -> Result<Value, Failure<'src>>
-        ensures asks { Asks H.goes host.old host.new }
+        ensures asks { AsksQuestions H.goes host.old host.new }
         ensures evaluates { Evaluates (reading_at self.now) (dialogue (stage_at self.now) (terms.choice (term_of condition.now) (term_of then.now) (term_of otherwise.now))) host.old.entries host.new.entries (seen_above result) }
     {
         if self.evaluate_condition(memory, host, condition)? {
@@ -518,7 +518,7 @@ impl<'run, 'src> Evaluator<'run, 'src> {
         condition: &Expression<'src>,
         then: &Expression<'src>,
     ) -> Result<Value, Failure<'src>>
-        ensures asks { Asks H.goes host.old host.new }
+        ensures asks { AsksQuestions H.goes host.old host.new }
         ensures evaluates { Evaluates (reading_at self.now) (dialogue (stage_at self.now) (terms.choice_alone (term_of condition.now) (term_of then.now))) host.old.entries host.new.entries (seen_above result) }
     {
         if self.evaluate_condition(memory, host, condition)? {
@@ -538,7 +538,7 @@ impl<'run, 'src> Evaluator<'run, 'src> {
         host: &mut Recorded<H>,
         condition: &Expression<'src>,
     ) -> Result<bool, Failure<'src>>
-        ensures asks { Asks H.goes host.old host.new }
+        ensures asks { AsksQuestions H.goes host.old host.new }
         ensures evaluates { Evaluates (reading_at self.now) (spec.holding (dialogue (stage_at self.now) (term_of condition.now))) host.old.entries host.new.entries (seen_above result) }
     {
         let Expression::Comparison {
@@ -567,7 +567,7 @@ impl<'run, 'src> Evaluator<'run, 'src> {
         rhs: &Expression<'src>,
         token: &Token<'src>,
     ) -> Result<Value, Failure<'src>>
-        ensures asks { Asks H.goes host.old host.new }
+        ensures asks { AsksQuestions H.goes host.old host.new }
         ensures evaluates { Evaluates (reading_at self.now) (dialogue (stage_at self.now) (terms.comparison operator (term_of lhs.now) (term_of rhs.now))) host.old.entries host.new.entries (seen_above result) }
     {
         let truth = self.evaluate_comparison(memory, host, lhs, operator, rhs, token)?;
@@ -587,7 +587,7 @@ impl<'run, 'src> Evaluator<'run, 'src> {
         rhs: &Expression<'src>,
         token: &Token<'src>,
     ) -> Result<bool, Failure<'src>>
-        ensures asks { Asks H.goes host.old host.new }
+        ensures asks { AsksQuestions H.goes host.old host.new }
         ensures evaluates { Evaluates (reading_at self.now) (spec.comparing operator (dialogue (stage_at self.now) (term_of lhs.now)) (dialogue (stage_at self.now) (term_of rhs.now))) host.old.entries host.new.entries (seen_above result) }
     {
         let sides = self.evaluate_sides(memory, host, lhs, rhs)?;
@@ -607,7 +607,7 @@ impl<'run, 'src> Evaluator<'run, 'src> {
         rhs: &Expression<'src>,
         token: &Token<'src>,
     ) -> Result<Value, Failure<'src>>
-        ensures asks { Asks H.goes host.old host.new }
+        ensures asks { AsksQuestions H.goes host.old host.new }
         ensures evaluates { Evaluates (reading_at self.now) (dialogue (stage_at self.now) (terms.paired operator (term_of lhs.now) (term_of rhs.now))) host.old.entries host.new.entries (seen_above result) }
     {
         let sides = self.evaluate_sides(memory, host, lhs, rhs)?;
@@ -625,7 +625,7 @@ impl<'run, 'src> Evaluator<'run, 'src> {
         rhs: &Expression<'src>,
         token: &Token<'src>,
     ) -> Result<Value, Failure<'src>>
-        ensures asks { Asks H.goes host.old host.new }
+        ensures asks { AsksQuestions H.goes host.old host.new }
         ensures evaluates { Evaluates (reading_at self.now) (dialogue (stage_at self.now) (terms.rooted (term_of rhs.now))) host.old.entries host.new.entries (seen_above result) }
     {
         let right = self.evaluate(memory, host, rhs)?;
@@ -643,7 +643,7 @@ impl<'run, 'src> Evaluator<'run, 'src> {
         lhs: &Expression<'src>,
         rhs: &Expression<'src>,
     ) -> Result<Value, Failure<'src>>
-        ensures asks { Asks H.goes host.old host.new }
+        ensures asks { AsksQuestions H.goes host.old host.new }
         ensures evaluates { Evaluates (reading_at self.now) (dialogue (stage_at self.now) (terms.appended (term_of lhs.now) (term_of rhs.now))) host.old.entries host.new.entries (seen_above result) }
     {
         let Sides { mut left, right } = self.evaluate_sides(memory, host, lhs, rhs)?;
@@ -662,7 +662,7 @@ impl<'run, 'src> Evaluator<'run, 'src> {
         lhs: &Expression<'src>,
         rhs: &Expression<'src>,
     ) -> Result<Sides, Failure<'src>>
-        ensures asks { Asks H.goes host.old host.new }
+        ensures asks { AsksQuestions H.goes host.old host.new }
         ensures evaluates { Evaluates (reading_at self.now) (spec.sides (dialogue (stage_at self.now) (term_of lhs.now)) (dialogue (stage_at self.now) (term_of rhs.now))) host.old.entries host.new.entries (seen_above_as (λ s. (s.left, s.right)) result) }
     {
         let left = self.evaluate(memory, host, lhs)?;
@@ -680,7 +680,7 @@ impl<'run, 'src> Evaluator<'run, 'src> {
         host: &mut Recorded<H>,
         elements: &[Expression<'src>],
     ) -> Result<Value, Failure<'src>>
-        ensures asks { Asks H.goes host.old host.new }
+        ensures asks { AsksQuestions H.goes host.old host.new }
         ensures evaluates { Evaluates (reading_at self.now) (dialogue (stage_at self.now) (terms.listing (terms_of elements.now))) host.old.entries host.new.entries (seen_above result) }
     {
         let mut list = Value::new(memory.alloc);
@@ -703,7 +703,7 @@ impl<'run, 'src> Evaluator<'run, 'src> {
         start: &StringLiteral<'src>,
         expressions: &[(Expression<'src>, StringLiteral<'src>)],
     ) -> Result<Value, Failure<'src>>
-        ensures asks { Asks H.goes host.old host.new }
+        ensures asks { AsksQuestions H.goes host.old host.new }
         ensures evaluates { Evaluates (reading_at self.now) (dialogue (stage_at self.now) (terms.format start.now.cooked (written start.now) start.now.kind.tripled (holes_of expressions.now))) host.old.entries host.new.entries (seen_above result) }
     {
         let mut text = String::from_str(memory.alloc, start.cooked.as_str())?;
@@ -725,7 +725,7 @@ impl<'run, 'src> Evaluator<'run, 'src> {
         name: &Name<'src>,
         arguments: &[Expression<'src>],
     ) -> Result<Value, Failure<'src>>
-        ensures asks { Asks H.goes host.old host.new }
+        ensures asks { AsksQuestions H.goes host.old host.new }
         ensures evaluates { Evaluates (reading_at self.now) (dialogue (stage_at self.now) (terms.call (lexeme name.now.token) name.now.token.path.now (terms_of arguments.now))) host.old.entries host.new.entries (seen_above result) }
     {
         let Stage::Run(context) = self.stage else {
@@ -751,7 +751,7 @@ impl<'run, 'src> Evaluator<'run, 'src> {
         arguments: &[Expression<'src>],
     ) -> Result<Value, Failure<'src>>
         requires runs { self.now.stage ≡ Stage.Run context }
-        ensures asks { Asks H.goes host.old host.new }
+        ensures asks { AsksQuestions H.goes host.old host.new }
         ensures evaluates { Evaluates (reading_at self.now) (calls.call_defined (calls_in context.now self.now.module_scope.now self.now.is_dependency self.now.recipe self.now.calls_left) (defined_of function.now) (spec.dialogues (stage_at self.now) (terms_of arguments.now))) host.old.entries host.new.entries (seen_above result) }
     {
         if self.calls_left == 0 {
@@ -788,7 +788,7 @@ impl<'run, 'src> Evaluator<'run, 'src> {
         host: &mut Recorded<H>,
         expressions: &[Expression<'src>],
     ) -> Result<Vec<Value>, Failure<'src>>
-        ensures asks { Asks H.goes host.old host.new }
+        ensures asks { AsksQuestions H.goes host.old host.new }
         ensures evaluates { Evaluates (reading_at self.now) (spec.row (spec.dialogues (stage_at self.now) (terms_of expressions.now))) host.old.entries host.new.entries (seen_above_as (λ v. v.items) result) }
     {
         let mut values = Vec::new(memory.alloc);
@@ -809,7 +809,7 @@ impl<'run, 'src> Evaluator<'run, 'src> {
         name: &Name<'src>,
         arguments: &[Expression<'src>],
     ) -> Result<Value, Failure<'src>>
-        ensures asks { Asks H.goes host.old host.new }
+        ensures asks { AsksQuestions H.goes host.old host.new }
         ensures evaluates { Evaluates (reading_at self.now) (called_builtin self.now (function_of (lexeme name.now.token)) (lexeme name.now.token) name.now.token.path.now (spec.dialogues (stage_at self.now) (terms_of arguments.now))) host.old.entries host.new.entries (seen_above result) }
     {
         let Some(function) = Function::get(name.lexeme()) else {
@@ -832,7 +832,7 @@ impl<'run, 'src> Evaluator<'run, 'src> {
         name: &Name<'src>,
         arguments: &[Expression<'src>],
     ) -> Result<Vec<Value>, Failure<'src>>
-        ensures asks { Asks H.goes host.old host.new }
+        ensures asks { AsksQuestions H.goes host.old host.new }
         ensures evaluates { Evaluates (reading_at self.now) (calls.arguments (takes_text function) (lexeme name.now.token) 0 (spec.dialogues (stage_at self.now) (terms_of arguments.now))) host.old.entries host.new.entries (seen_above_as (λ v. v.items) result) }
     {
         let mut values = Vec::new(memory.alloc);
@@ -853,7 +853,7 @@ impl<'run, 'src> Evaluator<'run, 'src> {
         expression: &Expression<'src>,
         context: StringContext<'src>,
     ) -> Result<String, Error<'src>>
-        ensures asks { Asks H.goes host.old host.new }
+        ensures asks { AsksQuestions H.goes host.old host.new }
         ensures evaluates { Evaluates (reading_at self.now) (text_dialogue (text_place context.entry) (dialogue (stage_at self.now) (term_of expression.now))) host.old.entries host.new.entries (seen_as string_bytes result) }
         ensures known { (reached : DefinedFunction → Bool) → BodiesKnownBy self.now reached → TermKnownBy self.now reached (term_of expression.now) → NotInternal (seen_as string_bytes result) }
     {
@@ -869,7 +869,7 @@ impl<'run, 'src> Evaluator<'run, 'src> {
         expression: &Expression<'src>,
         context: StringContext<'src>,
     ) -> Result<String, Error<'src>>
-        ensures asks { Asks H.goes host.old host.new }
+        ensures asks { AsksQuestions H.goes host.old host.new }
         ensures evaluates { Evaluates (reading_at self.now) (text_dialogue (text_place context.entry) (dialogue (stage_at self.now) (term_of expression.now))) host.old.entries host.new.entries (seen_as string_bytes result) }
     {
         let value = self.evaluate_value(alloc, host, expression)?;

@@ -6,7 +6,7 @@ ghost use Rattle.evaluate_context.specs.Refusals.{seen_as};
 ghost use Rattle.evaluate_expressions.specs.Interpreters.{words_of};
 ghost use Rattle.evaluate_expressions.specs.Known.{BodiesKnownBy, TermsKnownBy};
 ghost use Rattle.evaluate_expressions.specs.Situations.{stage_at, reading_at};
-ghost use Rattle.just_host.specs.Asking.{Asks};
+ghost use Rattle.just_host.specs.Kinds.{AsksQuestions};
 ghost use Rattle.meaning_dialogues.specs.Calls.{DefinedFunction};
 ghost use Rattle.meaning_dialogues.specs.Dialogue.{Evaluates};
 ghost use Rattle.meaning_dialogues.specs.Evaluation.{dialogues, interpreter_dialogue, interpreter_words};
@@ -33,7 +33,7 @@ impl<'run, 'src> Evaluator<'run, 'src> {
         interpreter: &Interpreter<Expression<'src>>,
         setting: Name<'src>,
     ) -> Result<Interpreter<Text>, Error<'src>>
-        ensures asks { Asks H.goes host.old host.new }
+        ensures asks { AsksQuestions H.goes host.old host.new }
         ensures evaluates { Evaluates (reading_at self.now) (interpreter_dialogue (lexeme setting.entry.token) (dialogues (stage_at self.now) (terms_of (interpreter.now.command ∷ interpreter.now.arguments.items)))) host.old.entries host.new.entries (seen_as words_of result) }
         ensures known { (reached : DefinedFunction → Bool) → BodiesKnownBy self.now reached → TermsKnownBy self.now reached (terms_of (interpreter.now.command ∷ interpreter.now.arguments.items)) → NotInternal (seen_as words_of result) }
     {
@@ -48,7 +48,7 @@ impl<'run, 'src> Evaluator<'run, 'src> {
         interpreter: &Interpreter<Expression<'src>>,
         setting: Name<'src>,
     ) -> Result<Interpreter<Text>, Error<'src>>
-        ensures asks { Asks H.goes host.old host.new }
+        ensures asks { AsksQuestions H.goes host.old host.new }
         ensures evaluates { Evaluates (reading_at self.now) (interpreter_dialogue (lexeme setting.entry.token) (dialogues (stage_at self.now) (terms_of (interpreter.now.command ∷ interpreter.now.arguments.items)))) host.old.entries host.new.entries (seen_as words_of result) }
     {
         let mut words = self.evaluate_value(alloc, host, &interpreter.command)?;

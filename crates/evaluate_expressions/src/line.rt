@@ -4,7 +4,7 @@ ghost use Rattle.std.specs.String.{string_bytes};
 ghost use Rattle.evaluate_context.specs.Refusals.{seen_as};
 ghost use Rattle.evaluate_expressions.specs.Known.{BodiesKnownBy, LineKnownBy};
 ghost use Rattle.evaluate_expressions.specs.Situations.{stage_at, reading_at};
-ghost use Rattle.just_host.specs.Asking.{Asks};
+ghost use Rattle.just_host.specs.Kinds.{AsksQuestions};
 ghost use Rattle.meaning_dialogues.specs.Calls.{DefinedFunction};
 ghost use Rattle.meaning_dialogues.specs.Dialogue.{Evaluates};
 ghost use Rattle.meaning_soundness.specs.Endings.{NotInternal};
@@ -38,7 +38,7 @@ impl<'run, 'src> Evaluator<'run, 'src> {
         fragment: &Fragment<'src>,
         is_trimmed: bool,
     ) -> Result<String, Error<'src>>
-        ensures asks { Asks H.goes host.old host.new }
+        ensures asks { AsksQuestions H.goes host.old host.new }
         ensures evaluates { Evaluates (reading_at self.now) (piece_dialogue (stage_at self.now) is_trimmed (piece_of fragment.now)) host.old.entries host.new.entries (seen_as string_bytes result) }
     {
         match fragment {
@@ -59,7 +59,7 @@ impl<'run, 'src> Evaluator<'run, 'src> {
         line: &Line<'src>,
         continued: bool,
     ) -> Result<String, Error<'src>>
-        ensures asks { Asks H.goes host.old host.new }
+        ensures asks { AsksQuestions H.goes host.old host.new }
         ensures evaluates { Evaluates (reading_at self.now) (line_dialogue (stage_at self.now) continued [] (map piece_of line.now.fragments.items)) host.old.entries host.new.entries (seen_as string_bytes result) }
         ensures known { (reached : DefinedFunction → Bool) → BodiesKnownBy self.now reached → LineKnownBy self.now reached (map piece_of line.now.fragments.items) → NotInternal (seen_as string_bytes result) }
     {
@@ -74,7 +74,7 @@ impl<'run, 'src> Evaluator<'run, 'src> {
         line: &Line<'src>,
         continued: bool,
     ) -> Result<String, Error<'src>>
-        ensures asks { Asks H.goes host.old host.new }
+        ensures asks { AsksQuestions H.goes host.old host.new }
         ensures evaluates { Evaluates (reading_at self.now) (line_dialogue (stage_at self.now) continued [] (map piece_of line.now.fragments.items)) host.old.entries host.new.entries (seen_as string_bytes result) }
     {
         let mut text = String::new(alloc);

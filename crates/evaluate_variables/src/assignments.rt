@@ -1,6 +1,6 @@
 //! The variables of a module.
 ghost use Rattle.std.specs.Prelude.{◌≡◌, ◌≢◌, ◌∷◌, ◌||◌, [], Err, IfErr};
-ghost use Rattle.just_host.specs.Asking.{Asks};
+ghost use Rattle.just_host.specs.Kinds.{AsksQuestions};
 ghost use Rattle.evaluate_context.specs.Refusals.{seen};
 ghost use Rattle.meaning_dialogues.specs.Dialogue.{Evaluates};
 ghost use Rattle.meaning_dialogues.specs.Faults.{memory};
@@ -26,7 +26,7 @@ fn assigned_value<'src, H: Host + Drop>(
     scope: &Scope<'_, 'src>,
     assignment: &Assignment<'src>,
 ) -> Result<Value, Error<'src>>
-    ensures asks { Asks H.goes host.old host.new }
+    ensures asks { AsksQuestions H.goes host.old host.new }
     ensures evaluates { Evaluates (opening_reading scope.now) (assigned_dialogue (overridden context.now.overrides.now assignment.now.number) (opening_stage context.now scope.now) (term_of assignment.now.value)) host.old.entries host.new.entries (seen result) }
 {
     if let Some(text) = context.overrides.get(&assignment.number) {
@@ -62,7 +62,7 @@ fn open_assignment<'src, H: Host + Drop>(
     references: Option<&BTreeSet<Number>>,
     assignment: &Assignment<'src>,
 ) -> Result<(), Error<'src>>
-    ensures asks { Asks H.goes host.old host.new }
+    ensures asks { AsksQuestions H.goes host.old host.new }
     ensures around { scope.new.outer ≡ scope.old.outer }
     ensures opens { seen result ≢ Err memory → Opens context.now scope.old.outer (reads references.entry) (assigned assignment.entry ∷ []) scope.old.own host.old.entries scope.new.own host.new.entries (refusal result) }
 {
@@ -88,7 +88,7 @@ fn open_place<'src, H: Host + Drop>(
     references: Option<&BTreeSet<Number>>,
     place: usize,
 ) -> Result<(), Error<'src>>
-    ensures asks { Asks H.goes host.old host.new }
+    ensures asks { AsksQuestions H.goes host.old host.new }
     ensures around { scope.new.outer ≡ scope.old.outer }
     ensures opens { seen result ≢ Err memory → Opens context.now scope.old.outer (reads references.entry) (ordered context.now.module.now.assignments.now (place ∷ [])) scope.old.own host.old.entries scope.new.own host.new.entries (refusal result) }
 {
@@ -110,7 +110,7 @@ pub fn open_assignments<'src, H: Host + Drop>(
     scope: &mut Scope<'_, 'src>,
     references: Option<&BTreeSet<Number>>,
 ) -> Result<(), Error<'src>>
-    ensures asks { Asks H.goes host.old host.new }
+    ensures asks { AsksQuestions H.goes host.old host.new }
     ensures around { scope.new.outer ≡ scope.old.outer }
     ensures opens { seen result ≢ Err memory → Opens context.now scope.old.outer (reads references.entry) (ordered context.now.module.now.assignments.now context.now.module.now.evaluation_order.now) scope.old.own host.old.entries scope.new.own host.new.entries (refusal result) }
 {
@@ -128,7 +128,7 @@ pub fn evaluate_assignments<'a, 'src, H: Host + Drop>(
     context: &ExecutionContext<'a, 'src>,
     references: Option<&BTreeSet<Number>>,
 ) -> Result<Scope<'a, 'src>, Error<'src>>
-    ensures asks { Asks H.goes host.old host.new }
+    ensures asks { AsksQuestions H.goes host.old host.new }
     ensures opens { OpensFrame context.now (reads references.entry) host.old.entries host.new.entries result }
     ensures known { VariablesKnown context.now (reads references.entry) → IfErr result IsProper }
 {
@@ -142,7 +142,7 @@ fn open_frame<'a, 'src, H: Host + Drop>(
     context: &ExecutionContext<'a, 'src>,
     references: Option<&BTreeSet<Number>>,
 ) -> Result<Scope<'a, 'src>, Error<'src>>
-    ensures asks { Asks H.goes host.old host.new }
+    ensures asks { AsksQuestions H.goes host.old host.new }
     ensures opens { OpensFrame context.now (reads references.entry) host.old.entries host.new.entries result }
 {
     let mut scope = context.scope.child(alloc)?;

@@ -6,7 +6,7 @@ ghost use Rattle.std.specs.String.{string_bytes};
 ghost use Rattle.just_text.specs.Tokens.{lexeme};
 ghost use Rattle.tree_attribute_sets.specs.Sets.{items_of};
 ghost use Rattle.tree_items.specs.declared.recipe.Parameter as declared;
-ghost use Rattle.just_host.specs.Asking.{Asks};
+ghost use Rattle.just_host.specs.Kinds.{AsksQuestions};
 ghost use Rattle.just_value.specs.Frames.{Rebinds, value_binding};
 ghost use Rattle.just_value.specs.Values.{joined};
 ghost use Rattle.evaluate_context.specs.Refusals.{fault_of, seen, seen_as};
@@ -84,7 +84,7 @@ fn env_pair<'src, H: Host + Drop>(
     value: &Expression<'src>,
     name: Name<'src>,
 ) -> Result<Option<Pair>, Error<'src>>
-    ensures asks { Asks H.goes host.old host.new }
+    ensures asks { AsksQuestions H.goes host.old host.new }
     ensures evaluates { Evaluates (reading_at evaluator.now) (pair_dialogue (stage_at evaluator.now) (term_of key.now) (term_of value.now)) host.old.entries host.new.entries (seen_as option_to_list result) }
 {
     let context = StringContext::EnvKey(name.token);
@@ -110,7 +110,7 @@ fn attribute_pair<'src, H: Host + Drop>(
     scope: &Scope<'_, 'src>,
     item: &AttributeItem<'src>,
 ) -> Result<Option<Pair>, Error<'src>>
-    ensures asks { Asks H.goes host.old host.new }
+    ensures asks { AsksQuestions H.goes host.old host.new }
     ensures evaluates { Evaluates (reading_for site.now scope.now) (attribute_dialogue (stage_for site.now env.now scope.now) (env_term item.now.attribute)) host.old.entries host.new.entries (seen_as option_to_list result) }
 {
     let Attribute::Env { key, value } = &item.attribute else {
@@ -129,7 +129,7 @@ fn attribute_pairs<'src, H: Host + Drop, D>(
     scope: &Scope<'_, 'src>,
     recipe: &Recipe<'src, D>,
 ) -> Result<Vec<Pair>, Error<'src>>
-    ensures asks { Asks H.goes host.old host.new }
+    ensures asks { AsksQuestions H.goes host.old host.new }
     ensures evaluates { Evaluates (reading_for site.now scope.now) (env_dialogue (λ pairs. stage_for site.now pairs scope.now) [] (env_terms (items_of recipe.now.attributes))) host.old.entries host.new.entries (seen_as (λ env. env.items) result) }
 {
     let mut env = Vec::new(alloc);
@@ -174,7 +174,7 @@ fn default_value<'src, H: Host + Drop>(
     parameter: &Parameter<'src>,
     recipe: Name<'src>,
 ) -> Result<Value, Error<'src>>
-    ensures asks { Asks H.goes host.old host.new }
+    ensures asks { AsksQuestions H.goes host.old host.new }
     ensures evaluates { Evaluates (reading_at evaluator.now) (default_dialogue (stage_at evaluator.now) is_dependency (lexeme recipe.entry.token) (formal_of parameter.now) (formal_of parameter.now).default) host.old.entries host.new.entries (seen result) }
 {
     if let Some(default) = &parameter.default {
@@ -199,7 +199,7 @@ fn given_value<'src, H: Host + Drop>(
     parameter: &Parameter<'src>,
     group: &Value,
 ) -> Result<Value, Error<'src>>
-    ensures asks { Asks H.goes host.old host.new }
+    ensures asks { AsksQuestions H.goes host.old host.new }
     ensures evaluates { Evaluates (reading_at evaluator.now) (given_dialogue (stage_at evaluator.now) is_dependency [] group.now (formal_of parameter.now).value is_dependency) host.old.entries host.new.entries (seen result) }
 {
     if is_dependency {
@@ -223,7 +223,7 @@ fn parameter_value<'src, H: Host + Drop>(
     parameter: &Parameter<'src>,
     group: &Value,
 ) -> Result<Value, Error<'src>>
-    ensures asks { Asks H.goes host.old host.new }
+    ensures asks { AsksQuestions H.goes host.old host.new }
     ensures evaluates { Evaluates (reading_for site.now scope.now) (parameter_dialogue (stage_for site.now env.now scope.now) site.now.is_dependency (lexeme site.now.recipe.token) (formal_of parameter.now) group.now) host.old.entries host.new.entries (seen result) }
 {
     let evaluator = site.evaluator(env, scope);
@@ -340,7 +340,7 @@ fn bind_parameters<'src, H: Host + Drop, F: Fn(&Parameter, usize) -> bool>(
     check: &F,
 ) -> Result<Vec<String>, Error<'src>>
     requires { F.IsAlwaysCallable check.now }
-    ensures asks { Asks H.goes host.old host.new }
+    ensures asks { AsksQuestions H.goes host.old host.new }
     ensures around { scope.new.outer ≡ scope.old.outer }
     ensures evaluates { (may : declared.Parameter → ℕ → Bool) (counts : Formal → ℕ → Bool) → AlwaysReturns F.Fn (λ a r. r ≡ may a.0.now a.1.0) check.now → AreCounted may counts parameters.now → HasValues scope.old.own empty → GivenParameters site.now env.now counts parameters.now groups.now scope.old host.old.entries host.new.entries scope.new result }
 {
@@ -371,7 +371,7 @@ pub fn evaluate_parameters<'src, H: Host + Drop, D, F: Fn(&Parameter, usize) -> 
     check: &F,
 ) -> Result<BoundParameters, Error<'src>>
     requires { F.IsAlwaysCallable check.now }
-    ensures asks { Asks H.goes host.old host.new }
+    ensures asks { AsksQuestions H.goes host.old host.new }
     ensures around { scope.new.outer ≡ scope.old.outer }
     ensures evaluates { (may : declared.Parameter → ℕ → Bool) (counts : Formal → ℕ → Bool) → AlwaysReturns F.Fn (λ a r. r ≡ may a.0.now a.1.0) check.now → AreCounted may counts recipe.now.parameters.items → HasValues scope.old.own empty → BoundRecipe context.now is_dependency recipe.now counts groups.now scope.old host.old.entries host.new.entries scope.new result }
     ensures known { (may : declared.Parameter → ℕ → Bool) (counts : Formal → ℕ → Bool) → AlwaysReturns F.Fn (λ a r. r ≡ may a.0.now a.1.0) check.now → AreCounted may counts recipe.now.parameters.items → HasValues scope.old.own empty → ParametersKnown context.now recipe.now groups.now scope.old → IfErr result IsProper }
@@ -400,7 +400,7 @@ fn bind_recipe<'src, H: Host + Drop, D, F: Fn(&Parameter, usize) -> bool>(
     check: &F,
 ) -> Result<BoundParameters, Error<'src>>
     requires { F.IsAlwaysCallable check.now }
-    ensures asks { Asks H.goes host.old host.new }
+    ensures asks { AsksQuestions H.goes host.old host.new }
     ensures around { scope.new.outer ≡ scope.old.outer }
     ensures evaluates { (may : declared.Parameter → ℕ → Bool) (counts : Formal → ℕ → Bool) → AlwaysReturns F.Fn (λ a r. r ≡ may a.0.now a.1.0) check.now → AreCounted may counts recipe.now.parameters.items → HasValues scope.old.own empty → BoundRecipe context.now is_dependency recipe.now counts groups.now scope.old host.old.entries host.new.entries scope.new result }
 {

@@ -57,10 +57,10 @@ abbrev pub in_interpreter : Interpreter Expression → List ListFeature
 in_interpreter i = in_expression i.command ++ flat_map in_expression i.arguments.items
 
 abbrev pub in_attribute : Attribute → List ListFeature
-in_attribute (Arg options) = in_option options.value
+in_attribute (Arg options) = in_option options.value.value
 in_attribute (Confirm prompt) = in_option prompt
-in_attribute (Env key value) = in_expression key ++ in_expression value
-in_attribute (Script (Some interpreter)) = in_interpreter interpreter
+in_attribute (Env key value) = in_expression key ++ in_expression value.value
+in_attribute (Script (Some interpreter)) = in_interpreter interpreter.value
 in_attribute other = []
 
 abbrev pub in_attribute_item : AttributeItem → List ListFeature

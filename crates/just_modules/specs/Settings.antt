@@ -6,6 +6,7 @@ use Rattle.tree_attributes.specs.Settings.{ValueShape, truth}
 use Rattle.tree_items.specs.Files.{ItemShape, item_shape, set_item}
 use Rattle.tree_items.specs.declared.ast.Item.{Item}
 use Rattle.modules_compilation.specs.declared.module_node.File.{File}
+use Rattle.modules_definitions.specs.declared.keep.Allowed.{Allowed}
 use Rattle.just_modules.specs.declared.truths.Truths.{Truths}
 use Rattle.meaning_worlds.specs.Sources.{enabled}
 
@@ -36,3 +37,7 @@ truths_of os unstable files = record {
   lists = is_on os files (codes "lists");
   unstable = unstable || is_on os files (codes "unstable");
 }
+
+-- what they let a module define twice
+abbrev pub allowed_by : Truths → Allowed
+allowed_by truths = record { duplicate_recipes = truths.allow_duplicate_recipes; duplicate_variables = truths.allow_duplicate_variables }

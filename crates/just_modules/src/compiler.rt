@@ -1,13 +1,12 @@
 //! From texts to modules.
+ghost use Rattle.modules_definitions.specs.Keeping.{AreInOrder};
 
-use crate::definition::{Definition, Kind, definitions};
-use crate::files::FileRange;
-use crate::keep::{kept, put_all};
 use crate::rules::check_files;
 use crate::truths::Truths;
 use just_host::Config;
 use justfile_syntax::{Alias, Expander, Item, Namepath};
 use modules_compilation::{Compilation, Error, File, ModuleNode, Place, Target};
+use modules_definitions::{Definition, FileRange, Kind, definitions, kept, put_all};
 use modules_sources::{Parsed, items_of, load_modules, load_root};
 use std::alloc::{AllocError, Global};
 use std::collections::{BTreeMap, BTreeSet};
@@ -80,12 +79,14 @@ fn kept_of<'src, 'a>(
     range: FileRange,
     definitions: &[Definition<'src, 'a>],
     config: &Config,
-) -> Result<Vec<Definition<'src, 'a>>, Error<'src>> {
+) -> Result<Vec<Definition<'src, 'a>>, Error<'src>>
+    requires { AreInOrder definitions.now }
+{
     let own = files_of(files, range);
     let truths = Truths::new(own, config.os, config.unstable);
     check_files(own, &truths, config.os)?;
     check_exports(alloc, files, definitions)?;
-    kept(alloc, definitions, &truths)
+    kept(alloc, definitions, truths.allowed())
 }
 
 /// What the module at the place keeps; nothing where there is no module.

@@ -2,9 +2,6 @@
 #![tactic(auto)]
 
 pub mod compiler;
-mod definition;
-mod files;
-mod keep;
 mod lists;
 mod rules;
 mod truths;

@@ -2,10 +2,11 @@
 ghost use Rattle.std.specs.Prelude.{◌≡◌};
 ghost use Rattle.tree_attributes.specs.Settings.{value_shape};
 ghost use Rattle.tree_items.specs.Files.{item_shape};
-ghost use Rattle.just_modules.specs.Settings.{is_on, is_on_among, is_true, truths_of, turns_on};
+ghost use Rattle.just_modules.specs.Settings.{allowed_by, is_on, is_on_among, is_true, truths_of, turns_on};
 
 use just_text::Os;
 use modules_compilation::File;
+use modules_definitions::Allowed;
 use tree_attributes::Setting;
 use tree_items::Item;
 
@@ -110,6 +111,16 @@ impl Truths {
             guards: is_on(files, "guards", os),
             lists: is_on(files, "lists", os),
             unstable: unstable || is_on(files, "unstable", os),
+        }
+    }
+
+    /// What the module may define twice.
+    pub fn allowed(&self) -> Allowed
+        ensures { result ≡ allowed_by self.now }
+    {
+        Allowed {
+            duplicate_recipes: self.allow_duplicate_recipes,
+            duplicate_variables: self.allow_duplicate_variables,
         }
     }
 }

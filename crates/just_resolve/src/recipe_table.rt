@@ -190,6 +190,17 @@ fn table_of_nodes<'src, 'a>(
     resolved_table(alloc, compilation, &resolver, nodes, reads)
 }
 
+/// The same of the recipes of a list. It doesn't change them: a list that a function owns is borrowed so, as
+/// borrowing it to be read takes the check too many steps.
+fn table_of_list<'src, 'a>(
+    alloc: Global,
+    compilation: &'a Compilation<'src>,
+    nodes: &mut [RecipeNode<'src, 'a>],
+    reads: &[ModuleReads<'src>],
+) -> Result<Box<RecipeTable<'src>>, Error<'src>> {
+    table_of_nodes(alloc, compilation, &*nodes, reads)
+}
+
 /// The recipes that are kept, each after those that it depends on, and what aliases stand for; the
 /// modules read this. Refused where a dependency names no recipe, or one that takes another number of
 /// values, also one of a recipe that is disabled; where a dependency or an alias names a module; where
@@ -200,6 +211,7 @@ pub fn recipe_table<'src, 'a>(
     compilation: &'a Compilation<'src>,
     reads: &[ModuleReads<'src>],
 ) -> Result<Box<RecipeTable<'src>>, Error<'src>> {
-    let nodes = recipe_nodes(alloc, compilation)?;
-    table_of_nodes(alloc, compilation, nodes.as_slice(), reads)
+    let mut nodes = recipe_nodes(alloc, compilation)?;
+    let nodes = nodes.as_mut_slice();
+    table_of_list(alloc, compilation, nodes, reads)
 }

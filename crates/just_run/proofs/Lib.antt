@@ -1,3 +1,4 @@
+mod Added
 mod Again
 mod Driven
 mod Early

@@ -1,11 +1,13 @@
 -- What a call does.
-use Rattle.std.specs.Prelude.{◌≡◌, ℕ, List, Result, IfErr}
+use Rattle.std.specs.Prelude.{◌≡◌, ℕ, Bool, List, Result, IfErr}
 use Rattle.just_host.specs.Asking.{IsAsked}
+use Rattle.just_host.specs.Kinds.{Only}
 use Rattle.just_host.specs.Record.{Record}
 use Rattle.just_host.specs.declared.entry.Entry.{Entry}
 use Rattle.run_plain.specs.Inputs.{Inputs}
 use Rattle.run_plain.specs.Setup.{Setup}
 use Rattle.just_run.specs.Early.{IsEarly}
+use Rattle.just_run.specs.Kinds.{MayAdd}
 use Rattle.just_run.specs.Plain.{AnswersPlain, IsPlain}
 use Rattle.just_run.specs.Plans.{IsKeptBy, Plans}
 use Rattle.just_run.specs.Requests.{IsText}
@@ -37,5 +39,5 @@ pub record Drives {H : Type 0} (goes : H → List Entry → H → Type 0) (input
   pub planned : action ≡ actions.Plan → Plans goes old.host old.written result new.host new.written
   -- a run of plain recipes writes nothing
   pub unwritten : action ≡ actions.Run → IsPlain inputs → new.written ≡ old.written
-  -- the record has grown by just what was asked, and the host went along by it
-  pub asked : IsAsked goes old.host new.host
+  -- the record has grown by just what was asked, by entries alone that the action may add, and the host went along by it
+  pub asked : (kinds : Entry → Bool) → MayAdd action setup.dry_run kinds → IsAsked (Only kinds goes) old.host new.host

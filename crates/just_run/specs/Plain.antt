@@ -2,11 +2,12 @@
 use Rattle.std.specs.Prelude.{◌≡◌, ℕ, List, Option, Some, None, Result, Ok, Err, IfErr}
 use Rattle.just_host.specs.Record.{Record}
 use Rattle.just_host.specs.Follows.{Follows}
+use Rattle.just_host.specs.Kinds.{AsksWork}
 use Rattle.just_host.specs.declared.entry.Entry.{Entry}
 use Rattle.run_plain.specs.Inputs.{Inputs}
 use Rattle.run_plain.specs.Setup.{Setup}
 use Rattle.run_plain.specs.Rules.{Rule, Broken, not_yet}
-use Rattle.run_plain.specs.Drives.{verdict, NamesBroken, IsRefusal, RunsOf, IfRun}
+use Rattle.run_plain.specs.Drives.{verdict, NamesBroken, IsRefusal, RunsOf, BeginsRunOf, IfRun}
 use Rattle.run_plain.specs.declared.fault.Fault as plain_fault
 use Rattle.run_plain.specs.declared.fault.Fault.TheVariants as plain_faults
 use Rattle.run_plain.specs.declared.outcome.Outcome as plain_outcome
@@ -43,12 +44,15 @@ answer_of (Err fault) = Err (fault_of fault)
 
 -- A rule that is named is broken, a rule of words only where no other is, and then nothing was asked; where a rule is
 -- broken, one is named, unless memory ran out; otherwise record and answer are a run of what the words name, which enters no
--- recipe twice. The record has exactly what was asked, however the call ended.
+-- recipe twice. However the call ended, also where memory ran out, what was recorded is nothing or the beginning of such a run,
+-- no command is handed over in a dry run, and the record has exactly what was asked.
 pub record AnswersPlain {H : Type 0} (goes : H → List Entry → H → Type 0) (i : Inputs) (s : Setup) (result : Result Outcome Fault) (old new : Record H) : Type 0 where
   pub answer : Result plain_outcome.Outcome plain_fault.Fault
   pub told : result ≡ answer_of answer
   pub refused : IfErr answer (λ fault. NamesBroken i (verdict fault) old new)
   pub complete : (rule : Rule) → Broken i rule → IsRefusal answer
   pub runs : IfRun new answer (RunsOf i s old.entries new.entries)
+  pub begun : BeginsRunOf i s old.entries new.entries
+  pub asks : AsksWork s.dry_run goes old new
   pub piece : List Entry
   pub followed : Follows goes old piece new

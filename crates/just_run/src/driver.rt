@@ -1,5 +1,5 @@
 //! The whole: from texts and words to what is done.
-ghost use Rattle.std.specs.Prelude.{◌≡◌, IfErr, option_map};
+ghost use Rattle.std.specs.Prelude.{◌≡◌, Bool, IfErr, option_map};
 ghost use Rattle.justfile_syntax.specs.PlainShapes.{shape_of};
 ghost use Rattle.run_plain.specs.Inputs.{Inputs, inputs_of, reader_of};
 ghost use Rattle.run_plain.specs.Setup.{setup_of};
@@ -11,7 +11,11 @@ ghost use Rattle.just_run.specs.Plans.{IsKeptBy, Plans};
 ghost use Rattle.just_run.specs.Requests.{IsText};
 ghost use Rattle.just_run.specs.Writes.{IsKept, IsNoWrite, WriteFails};
 ghost use Rattle.just_run.specs.declared.outcome.Action.TheVariants.{Plan, Run};
-ghost use Rattle.just_host.specs.Asking.{Asks, IsAsked};
+ghost use Rattle.just_host.specs.Asking.{IsAsked};
+ghost use Rattle.just_host.specs.Kinds.{Only};
+ghost use Rattle.just_host.specs.declared.entry.Entry.{Entry};
+ghost use Rattle.just_run.specs.Kinds.{AsksFor, MayAdd};
+ghost use Rattle.run_tasks.specs.Kinds as tasks;
 
 use crate::fault::Fault;
 use crate::outcome::{Action, Outcome};
@@ -45,7 +49,7 @@ fn drive_task<'src, H: RunHost + Drop, O: Out>(
     ensures kept { IfErr result (λ fault. IsKept (O.written out.old) fault (O.written out.new)) }
     ensures unfailed { WriteFails (O.failed out.old) result (O.failed out.new) }
     ensures late { IfErr result IsLate }
-    ensures asks { Asks H.goes host.old host.new }
+    ensures asks { tasks.AsksFor task.entry config.now.dry_run H.goes host.old host.new }
 {
     let performed = perform_task(alloc, compilation, analysis, config, root, host, task)?;
     write_performed(performed, out)
@@ -68,7 +72,7 @@ fn drive_analysis<'src, H: RunHost + Drop, O: Out>(
     ensures planned { action ≡ Plan → Plans H.goes host.old (O.written out.old) result host.new (O.written out.new) }
     ensures early { IfErr result (λ fault. IsEarly fault host.old (O.written out.old) host.new (O.written out.new)) }
     ensures silent { IsText action → host.new ≡ host.old }
-    ensures asks { Asks H.goes host.old host.new }
+    ensures asks { AsksFor action config.now.dry_run H.goes host.old host.new }
 {
     let words = words.arguments.as_slice();
     match request_of(alloc, compilation, analysis, action, words)? {
@@ -112,7 +116,7 @@ fn drive_modules<'src, H: RunHost + Drop, O: Out>(
     ensures planned { action ≡ Plan → Plans H.goes host.old (O.written out.old) result host.new (O.written out.new) }
     ensures early { IfErr result (λ fault. IsEarly fault host.old (O.written out.old) host.new (O.written out.new)) }
     ensures silent { IsText action → host.new ≡ host.old }
-    ensures asks { Asks H.goes host.old host.new }
+    ensures asks { AsksFor action config.now.dry_run H.goes host.old host.new }
 {
     let overrides = words.overrides.as_slice();
     match Analyzer::analyze(alloc, compilation, config, overrides) {
@@ -163,7 +167,7 @@ fn drive_compilation<'src, H: RunHost + Drop, O: Out>(
     ensures planned { action ≡ Plan → Plans H.goes host.old (O.written out.old) result host.new (O.written out.new) }
     ensures early { IfErr result (λ fault. IsEarly fault host.old (O.written out.old) host.new (O.written out.new)) }
     ensures silent { IsText action → host.new ≡ host.old }
-    ensures asks { Asks H.goes host.old host.new }
+    ensures asks { AsksFor action config.now.dry_run H.goes host.old host.new }
 {
     match number_variables(alloc, &mut compilation) {
         Ok(()) => {
@@ -194,7 +198,7 @@ fn drive_files<'src, E: Expander, H: RunHost + Drop, O: Out>(
     ensures planned { action ≡ Plan → Plans H.goes host.old (O.written out.old) result host.new (O.written out.new) }
     ensures early { IfErr result (λ fault. IsEarly fault host.old (O.written out.old) host.new (O.written out.new)) }
     ensures silent { IsText action → host.new ≡ host.old }
-    ensures asks { Asks H.goes host.old host.new }
+    ensures asks { AsksFor action config.now.dry_run H.goes host.old host.new }
 {
     match Compiler::compile_parsed(alloc, config, expander, sources, path, parsed) {
         Ok(compilation) => drive_compilation(
@@ -222,7 +226,7 @@ fn run_plain<'src, H: RunHost + Drop>(
 ) -> Result<Outcome, Fault<'src>>
     ensures plain { (i : Inputs) → i.words ≡ words.now → IsRead i (shape_of recipes.now) → AnswersPlain H.goes i (setup_of config.now) result host.old host.new }
     ensures no_write { IfErr result IsNoWrite }
-    ensures asks { Asks H.goes host.old host.new }
+    ensures asks { AsksFor Run config.now.dry_run H.goes host.old host.new }
 {
     match run_file(alloc, config, recipes, words, host) {
         Ok(_) => Ok(Outcome::Ran),
@@ -277,7 +281,7 @@ fn drive_root<'src, E: Expander, H: RunHost + Drop, O: Out>(
     ensures unwritten { action ≡ Run → (i : Inputs) → IsPlain i → IsRoot i root.entry.path.now (option_map shape_of root.entry.plain) → O.written out.new ≡ O.written out.old }
     ensures early { (i : Inputs) → i.words ≡ words.now → IsRoot i root.entry.path.now (option_map shape_of root.entry.plain) → IfErr result (λ fault. IsEarly fault host.old (O.written out.old) host.new (O.written out.new)) }
     ensures silent { IsText action → host.new ≡ host.old }
-    ensures asks { Asks H.goes host.old host.new }
+    ensures asks { AsksFor action config.now.dry_run H.goes host.old host.new }
 {
     let Root {
         path,
@@ -333,8 +337,8 @@ fn drive_words<'src, E: Expander, H: RunHost + Drop, O: Out>(
     ensures planned { action ≡ Plan → Plans H.goes host.old (O.written out.old) result host.new (O.written out.new) }
     // A run of plain recipes writes nothing.
     ensures unwritten { action ≡ Run → IsPlain (inputs_of (reader_of (E.expansion expander.now) config.now.version) sources.now roots.now words.now) → O.written out.new ≡ O.written out.old }
-    // Whatever is asked for: the record has grown by just what was asked, and the host went along by it.
-    ensures asked { IsAsked H.goes host.old host.new }
+    // Whatever is asked for: the record has grown by just what was asked, by entries that the action may add alone, and the host went along by it.
+    ensures asked { (kinds : Entry → Bool) → MayAdd action config.now.dry_run kinds → IsAsked (Only kinds H.goes) host.old host.new }
 {
     let words = Positional::from_values(alloc, words)?;
     let root = read_root(alloc, &words, sources, roots, expander, &config.version)?;

@@ -1,5 +1,6 @@
 //! What a task needs of a resolved justfile.
-ghost use Rattle.just_host.specs.Asking.{Asks};
+ghost use Rattle.std.specs.Prelude.{◌≡◌};
+ghost use Rattle.run_tasks.specs.Kinds.{AsksFor};
 
 use analyze_runs::{Planned, Tally};
 use just_host::{Config, Recorded, RunHost};
@@ -134,7 +135,9 @@ fn context_of<'a>(
     config: &'a Config,
     overrides: &'a BTreeMap<Number, String>,
     root: &'a str,
-) -> TaskContext<'a> {
+) -> TaskContext<'a>
+    ensures { result.config.now ≡ config.now }
+{
     TaskContext {
         config,
         overrides,
@@ -153,7 +156,7 @@ fn perform_planned<'l, 'src, H: RunHost + Drop>(
     host: &mut Recorded<H>,
     task: Task,
 ) -> Result<Performed, TaskFault<'src>>
-    ensures asks { Asks H.goes host.old host.new }
+    ensures asks { AsksFor task.entry context.now.config.now.dry_run H.goes host.old host.new }
 {
     let mut tally = Tally::new();
     perform(alloc, host, context, modules, &*recipes, task, &mut tally)
@@ -169,7 +172,7 @@ fn perform_over<'src, H: RunHost + Drop>(
     host: &mut Recorded<H>,
     task: Task,
 ) -> Result<Performed, TaskFault<'src>>
-    ensures asks { Asks H.goes host.old host.new }
+    ensures asks { AsksFor task.entry context.now.config.now.dry_run H.goes host.old host.new }
 {
     let mut recipes = plan(alloc, &*compilation, &*recipes)?;
     let recipes = recipes.as_mut_slice();
@@ -185,7 +188,7 @@ fn perform_prepared<'src, H: RunHost + Drop>(
     host: &mut Recorded<H>,
     task: Task,
 ) -> Result<Performed, TaskFault<'src>>
-    ensures asks { Asks H.goes host.old host.new }
+    ensures asks { AsksFor task.entry context.now.config.now.dry_run H.goes host.old host.new }
 {
     let values = &analysis.values;
     let views = views(alloc, analysis.modules, &analysis.variables, values)?;
@@ -211,7 +214,7 @@ pub(crate) fn perform_task<'src, H: RunHost + Drop>(
     host: &mut Recorded<H>,
     task: Task,
 ) -> Result<Performed, TaskFault<'src>>
-    ensures asks { Asks H.goes host.old host.new }
+    ensures asks { AsksFor task.entry config.now.dry_run H.goes host.old host.new }
 {
     let prepared = prepare(
         alloc,

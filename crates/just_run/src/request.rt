@@ -1,7 +1,7 @@
 //! What the action and the words ask of a resolved justfile.
 ghost use Rattle.std.specs.Prelude.{◌≡◌, IfOk};
-ghost use Rattle.just_run.specs.Requests.{IsFor, IsNoPlan};
-ghost use Rattle.just_run.specs.declared.outcome.Action.TheVariants.{Plan};
+ghost use Rattle.just_run.specs.Requests.{IsFor};
+ghost use Rattle.just_run.specs.declared.outcome.Action.TheVariants.{Command, Evaluate, Plan, Run};
 ghost use Rattle.just_run.specs.declared.request.Request.TheVariants as requests;
 
 use crate::outcome::Action;
@@ -91,7 +91,7 @@ fn called<'src>(
 
 /// A run of the calls; the list of recipes where there are none.
 fn run_request<'w>(calls: Vec<Call>) -> Request<'w>
-    ensures { IsNoPlan result }
+    ensures { IsFor Run result }
 {
     if calls.is_empty() {
         return Request::Text(RootText::List);
@@ -134,7 +134,7 @@ fn values_request<'w, 'src>(
     lists: &[ModuleLists<'src, '_>],
     words: &'w [Text],
 ) -> Result<Request<'w>, WordFault>
-    ensures { IfOk result IsNoPlan }
+    ensures { IfOk result (IsFor Evaluate) }
 {
     let target = target(alloc, modules, lists, words)?;
     Ok(Request::Task(Task::Evaluate(target)))
@@ -142,7 +142,7 @@ fn values_request<'w, 'src>(
 
 /// The command that the words are.
 fn command_request<'w>(words: &'w [Text]) -> Result<Request<'w>, WordFault>
-    ensures { IfOk result IsNoPlan }
+    ensures { IfOk result (IsFor Command) }
 {
     if words.is_empty() {
         return Err(WordFault::MissingCommand);

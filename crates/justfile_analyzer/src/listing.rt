@@ -164,6 +164,17 @@ fn push_modules(text: &mut String, names: &[&str]) -> Result<(), AllocError>
     Ok(())
 }
 
+/// The rows of these recipes.
+fn rows_of<'a, 'src>(
+    alloc: Global,
+    compilation: &'a Compilation<'src>,
+    recipes: Vec<RecipeRef<'a, 'src>>,
+) -> Result<Vec<Row<'a>>, AllocError>
+    ensures { IfOk result (λ rows. map spec.listed rows.items ≡ map (spec.listed_recipe compilation.now) (map lent recipes.entry.items)) }
+{
+    rows(alloc, compilation, recipes.as_slice())
+}
+
 /// The recipes of the list.
 fn module_rows<'a, 'src>(
     alloc: Global,
@@ -173,7 +184,7 @@ fn module_rows<'a, 'src>(
     ensures { IfOk result (λ rows. map spec.listed rows.items ≡ spec.listed_recipes compilation.now «module») }
 {
     let recipes = public_recipes(alloc, compilation, module)?;
-    rows(alloc, compilation, recipes.as_slice())
+    rows_of(alloc, compilation, recipes)
 }
 
 /// The names of these modules.

@@ -3,6 +3,7 @@ use Rattle.std.proofs.Common.{◌≡◌, ◌≢◌, ℕ, ◌+◌, ◌<◌, ◌�
 use Rattle.std.proofs.lemmas.Grind.{flat_map-append}
 use Rattle.std.proofs.lemmas.List.{drop_all, take_all, take_more}
 use Rattle.std.specs.List.{flat_map}
+use Rattle.std.specs.Global.{Box}
 use Rattle.std.specs.Option.{option_map}
 use Rattle.std.specs.String.{string_bytes}
 use Rattle.just_text.specs.Tokens.{lexeme}
@@ -99,8 +100,9 @@ named_written : (o : Option AttributeItem) (recipe : Name) (a : Attribute) → (
 named_written (Some item) recipe a w e = w item refl
 named_written None recipe a w e = absurd (cc)
 
-script_given : (o : Option Attribute) (i : Interpreter Expression) → interpreter_at o ≡ Some i → o ≡ Some (Script (Some i))
-script_given (Some (Script given)) i e = ap (λ g. Some (Script g)) e
+script_given : (o : Option Attribute) (i : Interpreter Expression) → interpreter_at o ≡ Some i → (boxed : Box (Interpreter Expression)) × (o ≡ Some (Script (Some boxed))) × (boxed.value ≡ i)
+script_given (Some (Script (Some boxed))) i e = (boxed, refl, cc)
+script_given (Some (Script None)) i e = absurd (cc)
 script_given (Some other) i e = absurd (cc)
 script_given None i e = absurd (cc)
 
@@ -121,14 +123,14 @@ module _ (b : NamedBody) (site : Site) (evaluator : Evaluator) (texts : List (Li
       → GivesWords (reading_at evaluator) (interpreter_dialogue (lexeme (script_name site.attributes.now site.name).token) (dialogues (stage_at evaluator) (terms_of (i.command ∷ i.arguments.items)))) old new r → Evaluates b.reading (words_of b texts) old new (seen r)
   words_named i old new (Ok words) named g =
       let given = script_given (attribute_in ScriptKind site.attributes.now) i named in
-      let spelled = named_written (find (is_of ScriptKind) (items_of site.attributes.now)) site.name (Script (Some i)) is.interpreter.written given in
+      let spelled = named_written (find (is_of ScriptKind) (items_of site.attributes.now)) site.name (Script (Some given.0)) is.interpreter.written given.1 in
       let h = subst (λ n. Evaluates (reading_at evaluator) (interpreter_dialogue n (dialogues (stage_at evaluator) (terms_of (i.command ∷ i.arguments.items)))) old new (Ok g.0)) spelled g.1 in
-      rw g.2 (words_written b.configuration b.scene b.name b.recipe b.flag b.bound b.reading b.recipe.script (interpreter_shape i) texts old new g.0 (sym is.site.recipe.script ∙ ap script_shape given) (is.interpreter.by_name i named old new (Ok g.0) h))
+      rw g.2 (words_written b.configuration b.scene b.name b.recipe b.flag b.bound b.reading b.recipe.script (interpreter_shape i) texts old new g.0 (sym is.site.recipe.script ∙ ap script_shape given.1 ∙ ap (λ v. Some (Some (interpreter_shape v))) given.2) (is.interpreter.by_name i named old new (Ok g.0) h))
   words_named i old new (Err error) named g =
       let given = script_given (attribute_in ScriptKind site.attributes.now) i named in
-      let spelled = named_written (find (is_of ScriptKind) (items_of site.attributes.now)) site.name (Script (Some i)) is.interpreter.written given in
+      let spelled = named_written (find (is_of ScriptKind) (items_of site.attributes.now)) site.name (Script (Some given.0)) is.interpreter.written given.1 in
       let h = subst (λ n. Evaluates (reading_at evaluator) (interpreter_dialogue n (dialogues (stage_at evaluator) (terms_of (i.command ∷ i.arguments.items)))) old new (Err (fault_of error))) spelled g in
-      words_stop b.configuration b.scene b.name b.recipe b.flag b.bound b.reading b.recipe.script (interpreter_shape i) texts old new (fault_of error) (sym is.site.recipe.script ∙ ap script_shape given) (is.interpreter.by_name i named old new (Err (fault_of error)) h)
+      words_stop b.configuration b.scene b.name b.recipe b.flag b.bound b.reading b.recipe.script (interpreter_shape i) texts old new (fault_of error) (sym is.site.recipe.script ∙ ap script_shape given.1 ∙ ap (λ v. Some (Some (interpreter_shape v))) given.2) (is.interpreter.by_name i named old new (Err (fault_of error)) h)
 
   -- where none does
   pub words_default : (words : List (List ℕ)) (old : List Entry) → interpreter_in site.attributes.now ≡ None → words ≡ plain_words site.manner.has_shebang (set_interpreter site) texts → Evaluates b.reading (words_of b texts) old old (Ok words)

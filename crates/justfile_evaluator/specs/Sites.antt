@@ -54,7 +54,7 @@ extension_in attributes = extension_text (attribute_in ExtensionKind attributes)
 
 -- what an attribute says of a script: whether it is one, and which interpreter it names
 abbrev pub script_shape : Option Attribute → Option (Option InterpreterShape)
-script_shape (Some (Script given)) = Some (option_map interpreter_shape given)
+script_shape (Some (Script given)) = Some (option_map (λ i. interpreter_shape i.value) given)
 script_shape (Some other) = None
 script_shape None = None
 
@@ -63,7 +63,7 @@ script_in attributes = script_shape (attribute_in ScriptKind attributes)
 
 -- the interpreter that an attribute names
 abbrev pub interpreter_at : Option Attribute → Option (Interpreter Expression)
-interpreter_at (Some (Script given)) = given
+interpreter_at (Some (Script given)) = option_map (λ i. i.value) given
 interpreter_at (Some other) = None
 interpreter_at None = None
 

@@ -3,7 +3,7 @@ ghost use Rattle.std.specs.Prelude.{◌≡◌, ◌++◌, ◌∷◌, ◌-◌, len
 ghost use Rattle.std.specs.String.{string_bytes};
 ghost use Rattle.just_text.specs.Tokens.{lexeme};
 ghost use Rattle.tree_items.specs.Lines.{is_byte, pieces_of, sigils_of};
-ghost use Rattle.just_host.specs.Asking.{Asks};
+ghost use Rattle.just_host.specs.Kinds.{AsksQuestions, AsksWork};
 ghost use Rattle.just_host.specs.Follows.{Follows};
 ghost use Rattle.just_host.specs.declared.entry.Entry.TheVariants.{Show};
 ghost use Rattle.meaning_bodies.specs.Left.{added};
@@ -245,7 +245,7 @@ fn hand_over<'src, H: RunHost + Drop>(
     site: &Site<'_, 'src>,
     progress: &mut Progress,
 ) -> Result<bool, RunFault<'src>>
-    ensures asks { Asks H.goes host.old host.new }
+    ensures asks { AsksWork false H.goes host.old host.new }
     ensures command { progress.new.command ≡ progress.old.command }
     ensures held { IsHeld site.now progress.old → IsHeld site.now progress.new }
     ensures performs { (b : NamedBody) → IsSiteOf b site.now → IsHeld site.now progress.old → IsMarked progress.old.command → Performs b.reading (spec.handed b progress.old.command) host.old host.new (next_of result) }
@@ -258,7 +258,7 @@ fn hand_over<'src, H: RunHost + Drop>(
 
 /// Shows a command where it is to be shown.
 fn show<H: RunHost + Drop>(host: &mut Recorded<H>, site: &Site, command: &str, is_quiet: bool)
-    ensures asks { Asks H.goes host.old host.new }
+    ensures asks { AsksWork site.now.context.now.config.now.dry_run H.goes host.old host.new }
     ensures shown { shows_in site.now.manner site.now.context.now.config.now is_quiet ≡ true → Follows H.goes host.old (Show command.now ∷ []) host.new }
     ensures hidden { shows_in site.now.manner site.now.context.now.config.now is_quiet ≡ false → host.new ≡ host.old }
 {
@@ -276,7 +276,7 @@ fn run_line<'src, H: RunHost + Drop>(
     site: &Site<'_, 'src>,
     progress: &mut Progress,
 ) -> Result<bool, RunFault<'src>>
-    ensures asks { Asks H.goes host.old host.new }
+    ensures asks { AsksWork site.now.context.now.config.now.dry_run H.goes host.old host.new }
     ensures command { progress.new.command ≡ progress.old.command }
     ensures held { IsHeld site.now progress.old → IsHeld site.now progress.new }
     ensures performs { (b : NamedBody) → IsSiteOf b site.now → IsHeld site.now progress.old → IsMarked progress.old.command → Performs b.reading (spec.run b progress.old.command) host.old host.new (next_of result) }
@@ -301,7 +301,7 @@ fn read_line<'src, H: RunHost + Drop>(
     line: &Line<'src>,
     guards: bool,
 ) -> Result<(), Error<'src>>
-    ensures asks { Asks H.goes host.old host.new }
+    ensures asks { AsksQuestions H.goes host.old host.new }
     ensures reads { (b : NamedBody) → guards ≡ b.scene.row.guards → MeansLine b evaluator.now line.now → IsSound command.old → Reads b command.old (pieces_of line.now) command.new host.old host.new result }
 {
     let text = evaluator.evaluate_line(alloc, host, line, command.is_open)?;
@@ -329,7 +329,7 @@ fn turn_line<'src, H: RunHost + Drop>(
     progress: &mut Progress,
     line: &Line<'src>,
 ) -> Result<bool, RunFault<'src>>
-    ensures asks { Asks H.goes host.old host.new }
+    ensures asks { AsksWork site.now.context.now.config.now.dry_run H.goes host.old host.new }
     ensures held { IsHeld site.now progress.old → IsHeld site.now progress.new }
     ensures turns { (b : NamedBody) → IsSiteOf b site.now → MeansLine b evaluator.now line.now → IsHeld site.now progress.old → Turns b progress.old.command (pieces_of line.now) progress.new.command host.old host.new result }
 {
@@ -352,7 +352,7 @@ fn run_lines<'src, H: RunHost + Drop>(
     site: &Site<'_, 'src>,
     body: &[Line<'src>],
 ) -> Result<(), RunFault<'src>>
-    ensures asks { Asks H.goes host.old host.new }
+    ensures asks { AsksWork site.now.context.now.config.now.dry_run H.goes host.old host.new }
     ensures performs { (b : NamedBody) → IsBodyOf b site.now evaluator.now body.now → Performs b.reading (lines_of b) host.old host.new (ended result) }
 {
     let mut progress = Progress::new(alloc);
@@ -376,7 +376,7 @@ pub fn run_body<'src, H: RunHost + Drop>(
     site: &Site<'_, 'src>,
     body: &[Line<'src>],
 ) -> Result<(), RunFault<'src>>
-    ensures asks { Asks H.goes host.old host.new }
+    ensures asks { AsksWork site.now.context.now.config.now.dry_run H.goes host.old host.new }
     ensures performs { (b : NamedBody) → IsBodyOf b site.now evaluator.now body.now → Performs b.reading (task_of b) host.old host.new (ended result) }
 {
     if site.manner.is_script {

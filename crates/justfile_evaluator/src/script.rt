@@ -4,7 +4,7 @@ ghost use Rattle.std.specs.Str.{chars, encode_utf8_all, trim};
 ghost use Rattle.std.specs.String.{string_bytes};
 ghost use Rattle.just_text.specs.Tokens.{lexeme};
 ghost use Rattle.tree_items.specs.Lines.{no_sigils};
-ghost use Rattle.just_host.specs.Asking.{Asks};
+ghost use Rattle.just_host.specs.Kinds.{AsksQuestions, AsksWork};
 ghost use Rattle.just_host.specs.Follows.{Follows};
 ghost use Rattle.just_host.specs.declared.entry.Entry.TheVariants.{Show};
 ghost use Rattle.evaluate_context.specs.Refusals.{seen, seen_as};
@@ -54,7 +54,7 @@ fn script_line<'src, H: RunHost + Drop>(
     evaluator: &Evaluator<'_, 'src>,
     line: &Line<'src>,
 ) -> Result<Text, Error<'src>>
-    ensures asks { Asks H.goes host.old host.new }
+    ensures asks { AsksQuestions H.goes host.old host.new }
     ensures evaluates { Evaluates (reading_at evaluator.now) (line_dialogue (stage_at evaluator.now) false [] (map piece_of line.now.fragments.items)) host.old.entries host.new.entries (seen result) }
 {
     let text = evaluator.evaluate_line(alloc, host, line, false)?;
@@ -68,7 +68,7 @@ fn script_lines<'src, H: RunHost + Drop>(
     evaluator: &Evaluator<'_, 'src>,
     body: &[Line<'src>],
 ) -> Result<Vec<Text>, Error<'src>>
-    ensures asks { Asks H.goes host.old host.new }
+    ensures asks { AsksQuestions H.goes host.old host.new }
     ensures evaluates { (b : NamedBody) (site : declared.Site) → IsBodyOf b site evaluator.now body.now → Evaluates b.reading (texts_of b) host.old.entries host.new.entries (seen_as (λ texts. texts.items) result) }
 {
     let mut lines = Vec::new(alloc);
@@ -145,7 +145,7 @@ fn written_words<'src, H: RunHost + Drop>(
     interpreter: &Interpreter<Expression<'src>>,
     name: Name<'src>,
 ) -> Result<Sequence<Text>, Error<'src>>
-    ensures asks { Asks H.goes host.old host.new }
+    ensures asks { AsksQuestions H.goes host.old host.new }
     ensures evaluates { GivesWords (reading_at evaluator.now) (interpreter_dialogue (lexeme name.entry.token) (dialogues (stage_at evaluator.now) (terms_of (interpreter.now.command ∷ interpreter.now.arguments.items)))) host.old.entries host.new.entries result }
 {
     let words = evaluator.evaluate_interpreter(alloc, host, interpreter, name)?;
@@ -159,7 +159,7 @@ fn interpreter_at<'a, 'src>(
     ensures { option_map (λ interpreter. interpreter.now) result ≡ sites.interpreter_at (Some attribute.now) }
 {
     match attribute {
-        Attribute::Script(given) => given.as_ref(),
+        Attribute::Script(Some(interpreter)) => Some(interpreter),
         _ => None,
     }
 }
@@ -208,7 +208,7 @@ fn interpreter<'src, H: RunHost + Drop>(
     site: &Site<'_, 'src>,
     lines: &[Text],
 ) -> Result<Sequence<Text>, Error<'src>>
-    ensures asks { Asks H.goes host.old host.new }
+    ensures asks { AsksQuestions H.goes host.old host.new }
     ensures evaluates { (b : NamedBody) → IsScriptOf b site.now evaluator.now lines.now → Evaluates b.reading (words_of b lines.now) host.old.entries host.new.entries (seen result) }
 {
     match interpreter_in(site.attributes) {
@@ -318,7 +318,7 @@ fn show<H: RunHost + Drop>(
     site: &Site,
     lines: &[Text],
 ) -> Result<(), AllocError>
-    ensures asks { Asks H.goes host.old host.new }
+    ensures asks { AsksWork site.now.context.now.config.now.dry_run H.goes host.old host.new }
     ensures shown { shows_script_in site.now ≡ true → IfOk result (λ _. Follows H.goes host.old (Show (in_lines lines.now) ∷ []) host.new) }
     ensures hidden { shows_script_in site.now ≡ false → host.new ≡ host.old }
 {
@@ -348,7 +348,7 @@ pub(crate) fn run_script<'src, H: RunHost + Drop>(
     site: &Site<'_, 'src>,
     body: &[Line<'src>],
 ) -> Result<(), RunFault<'src>>
-    ensures asks { Asks H.goes host.old host.new }
+    ensures asks { AsksWork site.now.context.now.config.now.dry_run H.goes host.old host.new }
     ensures performs { (b : NamedBody) → IsBodyOf b site.now evaluator.now body.now → Performs b.reading (script_of b) host.old host.new (ended result) }
 {
     let lines = script_lines(alloc, host, evaluator, body)?;
@@ -367,7 +367,7 @@ fn hand_over<'src, H: RunHost + Drop>(
     site: &Site<'_, 'src>,
     lines: Vec<Text>,
 ) -> Result<(), RunFault<'src>>
-    ensures asks { Asks H.goes host.old host.new }
+    ensures asks { AsksWork false H.goes host.old host.new }
     ensures performs { (b : NamedBody) → IsScriptOf b site.now evaluator.now lines.items → Performs b.reading (handed_of b false lines.items) host.old host.new (ended result) }
 {
     let words = interpreter(alloc, host, evaluator, site, lines.as_slice())?;

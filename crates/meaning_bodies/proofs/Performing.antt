@@ -5,8 +5,9 @@ use Rattle.just_host.specs.declared.entry.Entry.TheVariants.{Show}
 use Rattle.just_host.specs.declared.host.Status.{Status}
 use Rattle.just_host.specs.Record.{Record}
 use Rattle.just_host.specs.Follows.{Follows, Nothing}
-use Rattle.just_host.specs.Asking.{Asks as AsksHost}
 use Rattle.just_host.specs.AskingLaws.{asked_nothing}
+use Rattle.just_host.specs.Kinds.{AsksQuestions, AsksWork, Only}
+use Rattle.just_host.specs.KindsLaws.{every, every_question, every_work, only_nothing}
 use Rattle.just_host.specs.Steps.{was_open}
 use Rattle.meaning_dialogues.specs.Faults.{Fault, memory}
 use Rattle.meaning_dialogues.specs.Dialogue.{Dialogue, Evaluates, Reading}
@@ -21,8 +22,11 @@ use Rattle.meaning_bodies.proofs.Orders.{leads_then, leads_stops}
 
 module _ {H : Type 0} (goes : H → List Entry → H → Type 0) where
   -- what was asked of a record that can still grow was asked of one that could
-  pub open_asked : Nothing goes → (old new : Record H) → AsksHost goes old new → WasOpen old new
-  open_asked nothing old new asks = was_open old new (asks old (asked_nothing goes nothing old)).followed.stays
+  pub open_asked : Nothing goes → (old new : Record H) → AsksQuestions goes old new → WasOpen old new
+  open_asked nothing old new asks = was_open old new (every_question goes old new asks old (asked_nothing (Only every goes) (only_nothing every goes nothing) old)).followed.stays
+
+  pub open_worked : Nothing goes → (dry : Bool) (old new : Record H) → AsksWork dry goes old new → WasOpen old new
+  open_worked nothing dry old new asks = was_open old new (every_work goes old new dry asks old (asked_nothing (Only every goes) (only_nothing every goes nothing) old)).followed.stays
 
   pub open_followed : (old new : Record H) (piece : List Entry) → Follows goes old piece new → WasOpen old new
   open_followed old new piece f = was_open old new f.stays

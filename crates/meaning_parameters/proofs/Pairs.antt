@@ -1,5 +1,6 @@
 -- The pairs of `env` attributes, one after another.
 use Rattle.std.proofs.Common.{◌≡◌, ◌≢◌, ℕ, List, [], ◌∷◌, ◌++◌, Option, Some, None, Result, Ok, Err, refl, sym, ap, ◌∙◌, subst, append-nil}
+use Rattle.std.specs.Global.{Box}
 use Rattle.std.specs.List.{cons_option}
 use Rattle.just_host.specs.declared.entry.Entry.{Entry}
 use Rattle.just_host.specs.declared.job.Pair.{Pair}
@@ -62,15 +63,15 @@ module _ (reading : Reading) where
       (regrouped reading (text_dialogue env_key (dialogue stage key)) (λ name. dialogue stage value >>= λ given. Ends (Ok (pair_of name given))) rest old new r h)
 
   -- the attribute is `env`
-  pub attribute_env : (stage : Stage) (a : Attribute) (key value : Expression) (old new : List Entry) (r : Result (List Pair) Fault) → a ≡ Env key value → Evaluates reading (pair_dialogue stage (term_of key) (term_of value)) old new r → Evaluates reading (attribute_dialogue stage (env_term a)) old new r
+  pub attribute_env : (stage : Stage) (a : Attribute) (key : Expression) (value : Box Expression) (old new : List Entry) (r : Result (List Pair) Fault) → a ≡ Env key value → Evaluates reading (pair_dialogue stage (term_of key) (term_of value.value)) old new r → Evaluates reading (attribute_dialogue stage (env_term a)) old new r
   attribute_env stage a key value old new r e h = rw e h
 
-  no_env : (a : Attribute) → ((key value : Expression) → a ≢ Env key value) → env_term a ≡ None
+  no_env : (a : Attribute) → ((key : Expression) (value : Box Expression) → a ≢ Env key value) → env_term a ≡ None
   no_env (Env key value) n = absurd (n key value refl)
   no_env other n = refl
 
   -- the attribute is another
-  pub attribute_other : (stage : Stage) (a : Attribute) (old : List Entry) → ((key value : Expression) → a ≢ Env key value) → Evaluates reading (attribute_dialogue stage (env_term a)) old old (Ok [])
+  pub attribute_other : (stage : Stage) (a : Attribute) (old : List Entry) → ((key : Expression) (value : Box Expression) → a ≢ Env key value) → Evaluates reading (attribute_dialogue stage (env_term a)) old old (Ok [])
   attribute_other stage a old n = rw (no_env a n) (ends (Ok []) (λ m. refl))
 
   module _ (stage_with : List Pair → Stage) where

@@ -20,7 +20,7 @@ run_reading here there = reading_in_frames (λ number. false) here there
 
 -- the key and the value of an `env` attribute
 abbrev pub env_term : Attribute → Option (Term × Term)
-env_term (Env key value) = Some (term_of key, term_of value)
+env_term (Env key value) = Some (term_of key, term_of value.value)
 env_term other = None
 
 -- the keys and the values of `env` attributes, in order

@@ -1,5 +1,8 @@
 -- An attribute that holds arguments has the shape that they make, and holds what their strings stand for.
-use Rattle.std.proofs.Common.{◌≡◌, [], ◌∷◌, map, Some, None, refl, append-nil}
+use Rattle.std.proofs.Common.{◌≡◌, [], ◌∷◌, map, Option, Some, None, Result, Ok, Err, refl, ap, append-nil}
+use Rattle.std.specs.Prelude.{IfOk, IfSome, option_map}
+use Rattle.std.specs.Result.{result_map_both}
+use Rattle.std.specs.declared.alloc.AllocError.{AllocError}
 use Rattle.std.specs.Global.{Vec}
 use Rattle.std.specs.List.{All}
 use Rattle.tree_expressions.specs.declared.string_literal.StringLiteral.{StringLiteral}
@@ -61,6 +64,12 @@ expressions_made (Env key value) first others token h = rw (h.0, h.1) refl
 expressions_made (Script (Some i)) first others token h = rw (h.0, h.1) refl
 expressions_made other first others token h = absurd h
 
+-- what is made of expressions, unless memory ran out
+pub expressions_read : (r : Result Attribute AllocError) (kind : AttributeKind) (first : Expression) (others : Vec Expression) → IfOk r (λ a. kind_of (attribute_shape a) ≡ kind) → IfOk r (λ a. (token : Token) → Holds a (given.Expressions first others token))
+    → IfOk (result_map_both {U = Option Attribute} (λ a. Some a) (λ e. e) r) (λ o. option_map attribute_shape o ≡ Some (of_values (form_of kind) (shape_of first) (map shape_of others.items)))
+expressions_read (Ok a) kind first others is holds = let whole = expressions_made a first others (any_token first) (holds (any_token first)) in let told = rw is at whole in ap Some told
+expressions_read (Err e) kind first others is holds = tt
+
 -- ---- what strings stand for
 
 module _ (origin : Origin) where
@@ -91,3 +100,8 @@ module _ (origin : Origin) where
   expressions_cooked (Env key value) first others token h one more = let both = rw h.1 at more in (rw h.0 one, simp append-nil at both)
   expressions_cooked (Script (Some i)) first others token h one more = record { command = rw h.0 one; arguments = rw h.1 more }
   expressions_cooked other first others token h one more = absurd h
+
+  pub expressions_read_cooked : (r : Result Attribute AllocError) (first : Expression) (others : Vec Expression) → IfOk r (λ a. (token : Token) → Holds a (given.Expressions first others token)) → IsCooked origin first → AreCooked origin others.items
+      → IfOk (result_map_both {U = Option Attribute} (λ a. Some a) (λ e. e) r) (λ o. IfSome o (IsCookedAttribute origin))
+  expressions_read_cooked (Ok a) first others holds one more = expressions_cooked a first others (any_token first) (holds (any_token first)) one more
+  expressions_read_cooked (Err e) first others holds one more = tt

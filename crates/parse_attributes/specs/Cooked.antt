@@ -33,13 +33,13 @@ pub record AreCookedOptions (origin : Origin) (o : ArgumentOptions) : Type 0 whe
 
 -- the attribute's arguments hold what their strings stand for
 abbrev pub IsCookedAttribute : Origin → Attribute → Type 0
-IsCookedAttribute origin (Arg options) = AreCookedOptions origin options
+IsCookedAttribute origin (Arg options) = AreCookedOptions origin options.value
 IsCookedAttribute origin (Confirm (Some e)) = IsCooked origin e
 IsCookedAttribute origin (Doc (Some s)) = IsCookedString origin.expansion s
-IsCookedAttribute origin (Env key value) = IsCooked origin key × IsCooked origin value
+IsCookedAttribute origin (Env key value) = IsCooked origin key × IsCooked origin value.value
 IsCookedAttribute origin (Extension s) = IsCookedString origin.expansion s
 IsCookedAttribute origin (Group s) = IsCookedString origin.expansion s
 IsCookedAttribute origin (Metadata first others) = IsCookedString origin.expansion first × All (IsCookedString origin.expansion) others.items
-IsCookedAttribute origin (Script (Some i)) = IsCookedCommand origin i
+IsCookedAttribute origin (Script (Some i)) = IsCookedCommand origin i.value
 IsCookedAttribute origin (WorkingDirectory s) = IsCookedString origin.expansion s
 IsCookedAttribute origin other = Unit {0}

@@ -106,7 +106,8 @@ fn known<'src, E: Expander>(
     let arguments = counted(alloc, cursor, context, name, kind)?;
     let options = options_again(alloc, again, context, kind);
     let (arguments, options) = both(arguments, options)?;
-    let attribute = arguments.made(kind);
+    let made = arguments.made(alloc, kind);
+    let (options, attribute) = both(options, made)?;
     Ok(AttributeRead {
         attribute,
         name,

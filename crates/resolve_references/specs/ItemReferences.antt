@@ -31,8 +31,8 @@ references_of_interpreter interpreter = references_of interpreter.command ++ fla
 
 abbrev pub references_of_attribute : Attribute → List Reference
 references_of_attribute (Confirm prompt) = references_of_optional prompt
-references_of_attribute (Env key value) = references_of key ++ references_of value
-references_of_attribute (Script (Some interpreter)) = references_of_interpreter interpreter
+references_of_attribute (Env key value) = references_of key ++ references_of value.value
+references_of_attribute (Script (Some interpreter)) = references_of_interpreter interpreter.value
 references_of_attribute attribute = []
 
 abbrev pub references_of_attribute_item : AttributeItem → List Reference

@@ -1,3 +1,4 @@
 pub mod Commands
 pub mod Faulted
+pub mod Kinds
 pub mod Tasks

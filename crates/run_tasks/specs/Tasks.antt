@@ -3,7 +3,7 @@ use Rattle.std.specs.Prelude.{◌≡◌, ℕ, List, [], Option, Some, None, Resu
 use Rattle.std.specs.Option.{option_map}
 use Rattle.std.specs.String.{string_bytes}
 use Rattle.just_host.specs.Record.{Record}
-use Rattle.just_host.specs.Asking.{Asks}
+use Rattle.analyze_calls.specs.Asked.{AsksIn}
 use Rattle.just_host.specs.declared.entry.Entry.{Entry}
 use Rattle.just_value.specs.Frames.{look_up}
 use Rattle.just_value.specs.Values.{joined}
@@ -53,6 +53,6 @@ CommandsIn goes (Some root) words old result new = Commands goes root root.confi
 
 -- A run asks and hands over; values are answered, and nothing is asked; a command is handed over in the root module.
 abbrev pub Does : {H : Type 0} → (H → List Entry → H → Type 0) → List ExecutionContext → Task → Record H → Result Performed TaskFault → Record H → Type 0
-Does goes contexts (tasks.Run calls) old result new = Asks goes old new
+Does goes contexts (tasks.Run calls) old result new = AsksIn contexts goes old new
 Does goes contexts (tasks.Evaluate target) old result new = IsEvaluated (values_text contexts target) result × (new ≡ old)
 Does goes contexts (tasks.Command words) old result new = CommandsIn goes (slice_get contexts 0) words.now old result new

@@ -1,6 +1,6 @@
 //! The command that the words are.
 ghost use Rattle.std.specs.Prelude.{◌≡◌, IfOk};
-ghost use Rattle.just_host.specs.Asking.{Asks};
+ghost use Rattle.run_tasks.specs.Kinds.{AsksCommand};
 ghost use Rattle.run_tasks.specs.Commands as spec;
 ghost use Rattle.run_tasks.specs.Commands.{Commands, IsEnd, words_job};
 
@@ -83,7 +83,7 @@ pub(crate) fn run_command<'src, H: RunHost + Drop>(
     words: &[Text],
 ) -> Result<Performed, TaskFault<'src>>
     ensures commands { Commands H.goes context.now context.now.config.now.dry_run words.now host.old result host.new }
-    ensures asks { Asks H.goes host.old host.new }
+    ensures asks { AsksCommand context.now.config.now.dry_run H.goes host.old host.new }
 {
     let Some((command, words)) = words.split_first() else {
         return Ok(Performed::Ran);

@@ -1,7 +1,9 @@
 //! All modules opened, and what is done in them.
 ghost use Rattle.std.specs.Prelude.{◌≡◌, IfOk, slice_get};
 ghost use Rattle.std.specs.String.{string_bytes};
-ghost use Rattle.just_host.specs.Asking.{Asks};
+ghost use Rattle.std.specs.List.{All};
+ghost use Rattle.analyze_calls.specs.Asked.{AsksIn};
+ghost use Rattle.run_tasks.specs.Kinds.{AsksFor, AsksOver, AsksRoot};
 ghost use Rattle.run_tasks.specs.Tasks as spec;
 ghost use Rattle.run_tasks.specs.Tasks.{CommandsIn, Does, IsEvaluated};
 
@@ -37,21 +39,24 @@ fn contexts<'x, 'src>(
     config: &'x Config,
     overrides: &'x BTreeMap<Number, String>,
     root: &'x str,
-) -> Result<Vec<ExecutionContext<'x, 'src>>, AllocError> {
+) -> Result<Vec<ExecutionContext<'x, 'src>>, AllocError>
+    ensures { IfOk result (λ contexts. All (λ context. context.config.now ≡ config.now) contexts.items) }
+{
     let positions = positions(alloc, opened, modules.len())?;
     let mut contexts = Vec::new(alloc);
     for module in 0..modules.len().min(positions.len()) {
         let position = positions[module];
-        if position < opened.len() {
-            contexts.push(ExecutionContext {
-                config,
-                dotenv: &opened[position].dotenv,
-                module: &modules[module],
-                overrides,
-                scope: &opened[position].scope,
-                root,
-            })?;
+        if position >= opened.len() {
+            continue;
         }
+        contexts.push(ExecutionContext {
+            config,
+            dotenv: &opened[position].dotenv,
+            module: &modules[module],
+            overrides,
+            scope: &opened[position].scope,
+            root,
+        })?;
     }
     Ok(contexts)
 }
@@ -65,7 +70,7 @@ fn run<'a, 'src, H: RunHost + Drop>(
     calls: Vec<Call>,
     tally: &mut Tally,
 ) -> Result<Performed, TaskFault<'src>>
-    ensures asks { Asks H.goes host.old host.new }
+    ensures asks { AsksIn contexts.now H.goes host.old host.new }
 {
     let runner = Runner { recipes, contexts };
     run_calls(alloc, host, &runner, calls, tally)?;
@@ -139,7 +144,7 @@ fn command<'src, H: RunHost + Drop>(
     words: &[Text],
 ) -> Result<Performed, TaskFault<'src>>
     ensures commands { CommandsIn H.goes (slice_get contexts.now 0) words.now host.old result host.new }
-    ensures asks { Asks H.goes host.old host.new }
+    ensures asks { AsksRoot (slice_get contexts.now 0) H.goes host.old host.new }
 {
     let Some(root) = contexts.first() else {
         return Ok(Performed::Ran);
@@ -157,7 +162,7 @@ fn perform_in<'a, 'src, H: RunHost + Drop>(
     tally: &mut Tally,
 ) -> Result<Performed, TaskFault<'src>>
     ensures does { Does H.goes contexts.now task.entry host.old result host.new }
-    ensures asks { Asks H.goes host.old host.new }
+    ensures asks { AsksOver contexts.now task.entry H.goes host.old host.new }
 {
     match task {
         Task::Run(calls) => run(alloc, host, recipes, contexts, calls, tally),
@@ -177,7 +182,7 @@ fn perform_opened<'a, 'src, H: RunHost + Drop>(
     task: Task,
     tally: &mut Tally,
 ) -> Result<Performed, TaskFault<'src>>
-    ensures asks { Asks H.goes host.old host.new }
+    ensures asks { AsksFor task.entry context.now.config.now.dry_run H.goes host.old host.new }
 {
     let contexts = contexts(
         alloc,
@@ -215,7 +220,7 @@ fn perform_inside<'src, H: RunHost + Drop>(
     task: Task,
     tally: &mut Tally,
 ) -> Result<Performed, TaskFault<'src>>
-    ensures asks { Asks H.goes host.old host.new }
+    ensures asks { AsksFor task.entry context.now.config.now.dry_run H.goes host.old host.new }
 {
     let opening = opening_of(&*context, &*constants);
     let opened = open_modules(alloc, host, &opening, modules, context.opening_order)?;
@@ -249,7 +254,7 @@ pub fn perform<'src, H: RunHost + Drop>(
     tally: &mut Tally,
 ) -> Result<Performed, TaskFault<'src>>
     // The record has grown by just what was asked, and the host went along by it.
-    ensures asks { Asks H.goes host.old host.new }
+    ensures asks { AsksFor task.entry context.now.config.now.dry_run H.goes host.old host.new }
 {
     let constants = Scope::root(alloc)?;
     perform_inside(

@@ -145,7 +145,7 @@ pub data AttributeShape : Type 0 where
 
 abbrev pub attribute_shape : Attribute → AttributeShape
 attribute_shape Android = plain AndroidKind
-attribute_shape (Arg options) = with_options (options_shape options)
+attribute_shape (Arg options) = with_options (options_shape options.value)
 attribute_shape Cache = plain CacheKind
 attribute_shape (Confirm None) = plain ConfirmKind
 attribute_shape (Confirm (Some prompt)) = with_prompt (shape_of prompt)
@@ -153,7 +153,7 @@ attribute_shape Default = plain DefaultKind
 attribute_shape (Doc None) = plain DocKind
 attribute_shape (Doc (Some text)) = with_string DocKind (written text)
 attribute_shape Dragonfly = plain DragonflyKind
-attribute_shape (Env key value) = with_pair (shape_of key) (shape_of value)
+attribute_shape (Env key value) = with_pair (shape_of key) (shape_of value.value)
 attribute_shape ExitMessage = plain ExitMessageKind
 attribute_shape (Extension text) = with_string ExtensionKind (written text)
 attribute_shape Freebsd = plain FreebsdKind
@@ -170,7 +170,7 @@ attribute_shape Parallel = plain ParallelKind
 attribute_shape PositionalArguments = plain PositionalArgumentsKind
 attribute_shape Private = plain PrivateKind
 attribute_shape (Script None) = plain ScriptKind
-attribute_shape (Script (Some i)) = with_interpreter (interpreter_shape i)
+attribute_shape (Script (Some i)) = with_interpreter (interpreter_shape i.value)
 attribute_shape Unix = plain UnixKind
 attribute_shape Windows = plain WindowsKind
 attribute_shape (WorkingDirectory text) = with_string WorkingDirectoryKind (written text)

@@ -54,14 +54,14 @@ first_token (Expressions first others token) = Some token
 -- the attribute has these arguments, and no others
 abbrev pub Holds : Attribute → AttributeArguments → Type 0
 Holds attribute Nothing = attribute_shape attribute ≡ plain (kind_of (attribute_shape attribute))
-Holds (attributes.Arg options) (Options given) = options ≡ given
+Holds (attributes.Arg options) (Options given) = options.value ≡ given
 Holds (attributes.Confirm (Some prompt)) (Expressions first others token) = (prompt ≡ first) × (others.items ≡ [])
 Holds (attributes.Doc (Some text)) (Strings first others) = (text ≡ first) × (others.items ≡ [])
-Holds (attributes.Env key value) (Expressions first others token) = (key ≡ first) × (others.items ≡ value ∷ [])
+Holds (attributes.Env key value) (Expressions first others token) = (key ≡ first) × (others.items ≡ value.value ∷ [])
 Holds (attributes.Extension text) (Strings first others) = (text ≡ first) × (others.items ≡ [])
 Holds (attributes.Group text) (Strings first others) = (text ≡ first) × (others.items ≡ [])
 Holds (attributes.Metadata text texts) (Strings first others) = (text ≡ first) × (texts ≡ others)
-Holds (attributes.Script (Some interpreter)) (Expressions first others token) = (interpreter.command ≡ first) × (interpreter.arguments ≡ others)
+Holds (attributes.Script (Some interpreter)) (Expressions first others token) = (interpreter.value.command ≡ first) × (interpreter.value.arguments ≡ others)
 Holds (attributes.WorkingDirectory text) (Strings first others) = (text ≡ first) × (others.items ≡ [])
 Holds attribute arguments = ⊥
 
@@ -77,8 +77,9 @@ IsMiscounted name found token refused = (refused ≡ kinds.OutOfMemory) ⊎ ((to
 abbrev pub IsUnexpected : Option Token → Token → CompileErrorKind → Type 0
 IsUnexpected first token refused = (first ≡ Some token) × (refused ≡ kinds.UnexpectedToken token.kind)
 
--- why there is no attribute with that name and these arguments: a rule that is broken
+-- why there is no attribute with that name and these arguments: a rule that is broken, or memory is wanting for it
 pub data Refuses (name : Token) (arguments : AttributeArguments) (token : Token) (refused : CompileErrorKind) : Type 0 where
+  out_of_memory : refused ≡ kinds.OutOfMemory → Refuses name arguments token refused
   unknown : ((kind : AttributeKind) → kind_name kind ≢ lexeme name) → IsUnknown name token refused → Refuses name arguments token refused
   miscounted : (kind : AttributeKind) → kind_name kind ≡ lexeme name → takes (form_of kind) (count arguments) ≡ false → IsMiscounted name (count arguments) token refused → Refuses name arguments token refused
   unfit : (kind : AttributeKind) → kind_name kind ≡ lexeme name → is_of_form (form_of kind) arguments ≡ false → IsUnexpected (first_token arguments) token refused → Refuses name arguments token refused

@@ -215,10 +215,10 @@ impl fmt::Display for ArgumentOptions<'_> {
     }
 }
 
-/// An attribute and its arguments.
+/// An attribute and its arguments. What few have lies in a box, so that all others stay small.
 pub enum Attribute<'src> {
     Android,
-    Arg(ArgumentOptions<'src>),
+    Arg(Box<ArgumentOptions<'src>>),
     Cache,
     Confirm(Option<Expression<'src>>),
     Default,
@@ -226,7 +226,7 @@ pub enum Attribute<'src> {
     Dragonfly,
     Env {
         key: Expression<'src>,
-        value: Expression<'src>,
+        value: Box<Expression<'src>>,
     },
     ExitMessage,
     Extension(StringLiteral<'src>),
@@ -247,7 +247,7 @@ pub enum Attribute<'src> {
     Parallel,
     PositionalArguments,
     Private,
-    Script(Option<Interpreter<Expression<'src>>>),
+    Script(Option<Box<Interpreter<Expression<'src>>>>),
     Unix,
     Windows,
     WorkingDirectory(StringLiteral<'src>),

@@ -13,6 +13,6 @@ pub use argument_form::ArgumentForm;
 pub use arguments::AttributeArguments;
 pub use attribute::{ArgumentOptions, Attribute, AttributeKind, LongName};
 pub use kinds::kind_from_name;
-pub use make::{with_expressions, with_strings, without_arguments};
+pub use make::{with_expressions, with_options, with_strings, without_arguments};
 pub use rows::{Elements, Strings};
 pub use setting::{Interpreter, Setting};

@@ -5,16 +5,19 @@ ghost use Rattle.just_text.specs.declared.compile_error.CompileErrorKind.TheVari
 ghost use Rattle.tree_attributes.specs.Attributes.{attribute_shape, kind_name, kind_of, plain};
 ghost use Rattle.tree_attributes.specs.Forms.{form_of, takes};
 ghost use Rattle.tree_attributes.specs.Given as spec;
-ghost use Rattle.tree_attributes.specs.declared.attribute.AttributeKind.TheVariants.{Env};
+ghost use Rattle.std.specs.Global.{Box};
+ghost use Rattle.tree_attributes.specs.declared.attribute.ArgumentOptions.{ArgumentOptions as OptionsOfParameter};
+ghost use Rattle.tree_attributes.specs.declared.attribute.AttributeKind.TheVariants.{Env, Script};
+ghost use Rattle.tree_attributes.specs.declared.attribute.Attribute.TheVariants.{Arg};
 ghost use Rattle.tree_attributes.specs.declared.arguments.AttributeArguments.TheVariants as given;
 
 use crate::argument_form::ArgumentForm;
 use crate::arguments::AttributeArguments;
-use crate::attribute::{Attribute, AttributeKind};
+use crate::attribute::{ArgumentOptions, Attribute, AttributeKind};
 use crate::kinds::kind_from_name;
 use crate::setting::Interpreter;
-use just_text::{CompileError, CompileErrorKind, Name, Text, Token};
-use std::alloc::Global;
+use just_text::{CompileError, CompileErrorKind, Name, Text, Token, both};
+use std::alloc::{AllocError, Global};
 use tree_expressions::{Expression, StringLiteral};
 
 /// The refusal of a name that no attribute has.
@@ -106,53 +109,96 @@ pub fn with_strings<'src>(
     }
 }
 
-/// The attribute with these two expressions.
-fn with_pair<'src>(key: Expression<'src>, mut others: Vec<Expression<'src>>) -> Attribute<'src>
+/// The value in a box.
+fn boxed<T: Drop>(alloc: Global, value: T) -> Result<Box<T>, AllocError>
+    ensures { IfOk result (λ boxed. boxed.value ≡ value) }
+{
+    Ok(Box::new(alloc, value)?)
+}
+
+/// `arg` with these options of a parameter.
+///
+/// Refused where memory runs out.
+pub fn with_options<'src>(
+    alloc: Global,
+    options: ArgumentOptions<'src>,
+) -> Result<Attribute<'src>, AllocError>
+    ensures { IfOk result (λ a. (boxed : Box OptionsOfParameter) × (a ≡ Arg boxed) × (boxed.value ≡ options.entry)) }
+{
+    Ok(Attribute::Arg(boxed(alloc, options)?))
+}
+
+/// `env` with these two expressions.
+fn with_pair<'src>(
+    alloc: Global,
+    key: Expression<'src>,
+    mut others: Vec<Expression<'src>>,
+) -> Result<Attribute<'src>, AllocError>
     requires { length others.items ≡ 1 }
-    ensures kind { kind_of (attribute_shape result) ≡ Env }
-    ensures held { (token : _) → spec.Holds result (given.Expressions key.entry others.entry token) }
+    ensures kind { IfOk result (λ a. kind_of (attribute_shape a) ≡ Env) }
+    ensures held { IfOk result (λ a. (token : _) → spec.Holds a (given.Expressions key.entry others.entry token)) }
 {
     match others.pop() {
-        Some(value) => Attribute::Env { key, value },
+        Some(value) => {
+            let (key, value) = both(key, boxed(alloc, value))?;
+            Ok(Attribute::Env { key, value })
+        }
         None => unreachable!(),
     }
 }
 
+/// `script` with a command and its arguments.
+fn with_interpreter<'src>(
+    alloc: Global,
+    command: Expression<'src>,
+    arguments: Vec<Expression<'src>>,
+) -> Result<Attribute<'src>, AllocError>
+    ensures kind { IfOk result (λ a. kind_of (attribute_shape a) ≡ Script) }
+    ensures held { IfOk result (λ a. (token : _) → spec.Holds a (given.Expressions command.entry arguments.entry token)) }
+{
+    let interpreter = Interpreter { arguments, command };
+    Ok(Attribute::Script(Some(boxed(alloc, interpreter)?)))
+}
+
 /// The attribute of that kind with these expressions. Asks that the kind takes so many expressions.
+///
+/// Refused where memory runs out.
 pub fn with_expressions<'src>(
+    alloc: Global,
     kind: AttributeKind,
     first: Expression<'src>,
     others: Vec<Expression<'src>>,
-) -> Attribute<'src>
+) -> Result<Attribute<'src>, AllocError>
     requires some { takes (form_of kind) (suc (length others.items)) ≡ true }
     requires form { spec.takes_expressions (form_of kind) ≡ true }
-    ensures kind { kind_of (attribute_shape result) ≡ kind }
-    ensures held { (token : _) → spec.Holds result (given.Expressions first.entry others.entry token) }
+    ensures kind { IfOk result (λ a. kind_of (attribute_shape a) ≡ kind) }
+    ensures held { IfOk result (λ a. (token : _) → spec.Holds a (given.Expressions first.entry others.entry token)) }
 {
     match kind {
-        AttributeKind::Confirm => Attribute::Confirm(Some(first)),
-        AttributeKind::Env => with_pair(first, others),
-        AttributeKind::Script => Attribute::Script(Some(Interpreter {
-            arguments: others,
-            command: first,
-        })),
+        AttributeKind::Confirm => Ok(Attribute::Confirm(Some(first))),
+        AttributeKind::Env => with_pair(alloc, first, others),
+        AttributeKind::Script => with_interpreter(alloc, first, others),
         _ => unreachable!(),
     }
 }
 
 /// The attribute with these arguments, as many as it takes and of its form.
-fn made<'src>(kind: AttributeKind, arguments: AttributeArguments<'src>) -> Attribute<'src>
+fn made<'src>(
+    alloc: Global,
+    kind: AttributeKind,
+    arguments: AttributeArguments<'src>,
+) -> Result<Attribute<'src>, AllocError>
     requires count { takes (form_of kind) (spec.count arguments) ≡ true }
     requires form { spec.is_of_form (form_of kind) arguments ≡ true }
-    ensures kind { kind_of (attribute_shape result) ≡ kind }
-    ensures held { spec.Holds result arguments.entry }
+    ensures kind { IfOk result (λ a. kind_of (attribute_shape a) ≡ kind) }
+    ensures held { IfOk result (λ a. spec.Holds a arguments.entry) }
 {
     match arguments {
-        AttributeArguments::Nothing => without_arguments(kind),
-        AttributeArguments::Options(options) => Attribute::Arg(options),
-        AttributeArguments::Strings { first, others } => with_strings(kind, first, others),
+        AttributeArguments::Nothing => Ok(without_arguments(kind)),
+        AttributeArguments::Options(options) => with_options(alloc, options),
+        AttributeArguments::Strings { first, others } => Ok(with_strings(kind, first, others)),
         AttributeArguments::Expressions { first, others, .. } => {
-            with_expressions(kind, first, others)
+            with_expressions(alloc, kind, first, others)
         }
     }
 }
@@ -163,8 +209,8 @@ impl<'src> Attribute<'src> {
     /// Refused as `UnknownAttribute` at the name where no attribute has it; as
     /// `AttributeArgumentCount` at the name, with the name and the number, where it takes more or
     /// fewer; as `UnexpectedToken` at the first argument where they are of another form than it
-    /// takes; and where memory runs out for such a refusal. Options that may not stand together
-    /// are no refusal here.
+    /// takes; and where memory runs out, for such a refusal or for the attribute. Options that may
+    /// not stand together are no refusal here.
     pub fn new(
         alloc: Global,
         name: Name<'src>,
@@ -185,6 +231,6 @@ impl<'src> Attribute<'src> {
         if let Some(token) = arguments.unfit(form) {
             return refuse(arguments, unexpected(token));
         }
-        Ok(made(kind, arguments))
+        Ok(made(alloc, kind, arguments)?)
     }
 }

@@ -83,7 +83,7 @@ fn numbers_a_pair(alloc: Global) -> Result<bool, AllocError> {
     let bindings = ExpressionContext::from_names(alloc, &[(name("y"), b)])?;
     let env = Attribute::Env {
         key: variable("x"),
-        value: variable("y"),
+        value: Box::new(alloc, variable("y"))?,
     };
     let item = AttributeItem::new(alloc, env, name("env"))?;
     let mut items = Vec::new(alloc);

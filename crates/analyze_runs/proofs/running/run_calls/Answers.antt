@@ -1,5 +1,5 @@
 use Rattle.std.proofs.Common.{◌∷◌, ◌∙◌, false}
-use Rattle.analyze_runs.specs.Calls.{rows}
+use Rattle.analyze_calls.specs.Calls.{rows}
 use Rattle.analyze_runs.specs.Steps.{parts}
 use Rattle.analyze_runs.specs.Tallies.{tally_of}
 use Rattle.analyze_runs.specs.Todo.{Calls}

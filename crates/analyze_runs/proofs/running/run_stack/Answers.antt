@@ -1,12 +1,13 @@
 use Rattle.std.proofs.Common.{◌∷◌, ◌∙◌, ap, sym}
 use Rattle.std.proofs.lemmas.Result.{err_from_is_err_and}
-use Rattle.analyze_runs.specs.Calls.{row_of, rows}
+use Rattle.analyze_calls.specs.Calls.{row_of, rows}
 use Rattle.analyze_runs.specs.Frames.{todo}
 use Rattle.analyze_runs.specs.Steps.{parts}
 use Rattle.analyze_runs.specs.Tallies.{tally_of}
-use Rattle.analyze_runs.specs.Todo.{Calls, Body, entered_of}
+use Rattle.analyze_calls.specs.Entered.{entered_of}
+use Rattle.analyze_runs.specs.Todo.{Calls, Body}
 use Rattle.analyze_runs.proofs.Counts.{counted_on}
-use Rattle.analyze_runs.proofs.Turns.{asked_on, was_open, on, returned, ends, fails}
+use Rattle.analyze_runs.proofs.Turns.{asked_on, user_in, was_open, on, returned, ends, fails}
 use Rattle.analyze_runs.proofs.running.run_stack.Goals as goal
 
 pub returns-clause-goes : goal.returns-clause-goes
@@ -19,14 +20,14 @@ returns-in_err-turn_calls-in-Calls-clause-goes g c =
     rw (p.1, p.2) (fails (parts c.args.runner.now) c.args.stack.now c.loop-frame.stack (Calls c.in-Calls.are_dependencies (rows c.in-Calls.pending) ∷ c.pop.new.self) c.args.done.now c.loop-frame.done
     c.args.host.now.entries c.loop-frame.host.entries c.turn_calls.new.host.entries (tally_of c.args.tally.now) (tally_of c.loop-frame.tally) (tally_of c.turn_calls.new.tally)
     c.turn_calls.new.host.exhausted c.in_err-turn_calls-in-Calls.field-0.0 (Unit {0}) (c.in-Some.ensures ∙ ap (λ f. todo f ∷ c.pop.new.self) c.in-Calls.is)
-    (λ k. c.loop-frame.invariant.leads (was_open g.H.Host.goes g.met.H.Host.nothing c.loop-frame.host c.turn_calls.new.host c.in_err-turn_calls-in-Calls.ensures.asks k)) c.in_err-turn_calls-in-Calls.ensures.goes)
+    (λ k. c.loop-frame.invariant.leads (was_open g.H.Host.goes c.args.runner.now.contexts.now g.met.H.Host.nothing c.loop-frame.host c.turn_calls.new.host (user_in g.H.Host.goes c.args.runner.now.contexts.now c.loop-frame.host c.turn_calls.new.host c.in_err-turn_calls-in-Calls.ensures.asks) k)) c.in_err-turn_calls-in-Calls.ensures.goes)
 
 pub loop-frame-preserved-in-Continue-1 : goal.loop-frame-preserved-in-Continue-1
 loop-frame-preserved-in-Continue-1 g c = record {
-  asked = asked_on g.H.Host.goes c.args.host.now c.loop-frame.host c.turn_calls.new.host c.loop-frame.invariant.asked c.in_ok-turn_calls-in-Calls.ensures.asks;
+  asked = asked_on g.H.Host.goes c.args.runner.now.contexts.now c.args.host.now c.loop-frame.host c.turn_calls.new.host c.loop-frame.invariant.asked (user_in g.H.Host.goes c.args.runner.now.contexts.now c.loop-frame.host c.turn_calls.new.host c.in_ok-turn_calls-in-Calls.ensures.asks);
   counted = counted_on c.args.tally.now c.loop-frame.tally c.turn_calls.new.tally c.loop-frame.invariant.counted c.in_ok-turn_calls-in-Calls.ensures.counted;
   leads = λ k. on (parts c.args.runner.now) (c.in-Some.ensures ∙ ap (λ f. todo f ∷ c.pop.new.self) c.in-Calls.is)
-      (c.loop-frame.invariant.leads (was_open g.H.Host.goes g.met.H.Host.nothing c.loop-frame.host c.turn_calls.new.host c.in_ok-turn_calls-in-Calls.ensures.asks k)) (c.in_ok-turn_calls-in-Calls.ensures.goes k);
+      (c.loop-frame.invariant.leads (was_open g.H.Host.goes c.args.runner.now.contexts.now g.met.H.Host.nothing c.loop-frame.host c.turn_calls.new.host (user_in g.H.Host.goes c.args.runner.now.contexts.now c.loop-frame.host c.turn_calls.new.host c.in_ok-turn_calls-in-Calls.ensures.asks) k)) (c.in_ok-turn_calls-in-Calls.ensures.goes k);
 }
 
 pub returns-in_err-turn_body-in-Body-clause-goes : goal.returns-in_err-turn_body-in-Body-clause-goes
@@ -36,15 +37,15 @@ returns-in_err-turn_body-in-Body-clause-goes g c =
     c.args.host.now.entries c.loop-frame.host.entries c.turn_body.new.host.entries (tally_of c.args.tally.now) (tally_of c.loop-frame.tally) (tally_of c.loop-frame.tally)
     c.turn_body.new.host.exhausted c.in_err-turn_body-in-Body.field-0.0 (Unit {0})
     (c.in-Some.ensures ∙ ap (λ f. todo f ∷ c.pop.new.self) c.in-Body.is ∙ ap (λ e. Body (row_of c.in-Body.call) e.is_dependency (entered_of e) ∷ c.pop.new.self) (sym c.deref.ensures))
-    (λ k. c.loop-frame.invariant.leads (was_open g.H.Host.goes g.met.H.Host.nothing c.loop-frame.host c.turn_body.new.host c.in_err-turn_body-in-Body.ensures.asks k)) (c.in_err-turn_body-in-Body.ensures.goes (tally_of c.loop-frame.tally)))
+    (λ k. c.loop-frame.invariant.leads (was_open g.H.Host.goes c.args.runner.now.contexts.now g.met.H.Host.nothing c.loop-frame.host c.turn_body.new.host c.in_err-turn_body-in-Body.ensures.asks k)) (c.in_err-turn_body-in-Body.ensures.goes (tally_of c.loop-frame.tally)))
 
 pub loop-frame-preserved-in-Body : goal.loop-frame-preserved-in-Body
 loop-frame-preserved-in-Body g c = record {
-  asked = asked_on g.H.Host.goes c.args.host.now c.loop-frame.host c.turn_body.new.host c.loop-frame.invariant.asked c.in_ok-turn_body-in-Body.ensures.asks;
+  asked = asked_on g.H.Host.goes c.args.runner.now.contexts.now c.args.host.now c.loop-frame.host c.turn_body.new.host c.loop-frame.invariant.asked c.in_ok-turn_body-in-Body.ensures.asks;
   counted = c.loop-frame.invariant.counted;
   leads = λ k. on (parts c.args.runner.now)
       (c.in-Some.ensures ∙ ap (λ f. todo f ∷ c.pop.new.self) c.in-Body.is ∙ ap (λ e. Body (row_of c.in-Body.call) e.is_dependency (entered_of e) ∷ c.pop.new.self) (sym c.deref.ensures))
-      (c.loop-frame.invariant.leads (was_open g.H.Host.goes g.met.H.Host.nothing c.loop-frame.host c.turn_body.new.host c.in_ok-turn_body-in-Body.ensures.asks k)) (c.in_ok-turn_body-in-Body.ensures.goes (tally_of c.loop-frame.tally) k);
+      (c.loop-frame.invariant.leads (was_open g.H.Host.goes c.args.runner.now.contexts.now g.met.H.Host.nothing c.loop-frame.host c.turn_body.new.host c.in_ok-turn_body-in-Body.ensures.asks k)) (c.in_ok-turn_body-in-Body.ensures.goes (tally_of c.loop-frame.tally) k);
 }
 
 pub loop-frame-preserved : goal.loop-frame-preserved

@@ -1,5 +1,5 @@
 use Rattle.std.proofs.Common.{◌≡◌, false}
-use Rattle.just_host.specs.Asking.{Asks}
+use Rattle.analyze_calls.specs.Asked.{AsksIn}
 use Rattle.analyze_runs.specs.Rest.{Leads}
 use Rattle.analyze_runs.specs.Steps.{parts}
 use Rattle.analyze_runs.specs.Tallies.{HasCounted, tally_of}
@@ -12,7 +12,7 @@ decreases-loop-frame g l = weight l.stack
 -- what was asked and counted so far; what the stack does from here, it did from the start
 abbrev pub invariant-loop-frame : goal.invariant-loop-frame
 invariant-loop-frame g l = record {
-  asked : Asks g.H.Host.goes l.fn.host l.host;
+  asked : AsksIn l.runner.contexts.now g.H.Host.goes l.fn.host l.host;
   counted : HasCounted l.fn.tally l.tally;
   leads : l.host.exhausted ≡ false → Leads (parts l.runner) l.fn.stack l.fn.done l.fn.host.entries (tally_of l.fn.tally) l.stack l.done l.host.entries (tally_of l.tally);
 }

@@ -1,8 +1,8 @@
 use Rattle.std.proofs.lemmas.Result.{err_from_is_err_and}
-use Rattle.analyze_runs.specs.Calls.{row_of, rows}
+use Rattle.analyze_calls.specs.Calls.{row_of, rows}
 use Rattle.analyze_runs.specs.Rest.{set_aside}
 use Rattle.analyze_runs.specs.Steps.{parts}
-use Rattle.analyze_runs.specs.Todo.{entered_of}
+use Rattle.analyze_calls.specs.Entered.{entered_of}
 use Rattle.analyze_runs.proofs.Weights.{behind}
 use Rattle.analyze_runs.proofs.Turns.{blocked, body_refused}
 use Rattle.analyze_runs.proofs.running.turn_body.Goals as goal

@@ -1,9 +1,10 @@
 use Rattle.std.proofs.Common.{◌∷◌, ◌<◌, ◌∙◌, true, sym, ap, subst}
 use Rattle.std.proofs.lemmas.Result.{err_from_is_err_and}
-use Rattle.analyze_runs.specs.Calls.{row_of, rows}
+use Rattle.analyze_calls.specs.Calls.{row_of, rows}
 use Rattle.analyze_runs.specs.Steps.{parts}
 use Rattle.analyze_runs.specs.Tallies.{entered_one, tally_of}
-use Rattle.analyze_runs.specs.Todo.{Calls, Body, entered_of}
+use Rattle.analyze_calls.specs.Entered.{entered_of}
+use Rattle.analyze_runs.specs.Todo.{Calls, Body}
 use Rattle.analyze_runs.specs.Weight.{weight}
 use Rattle.analyze_runs.proofs.Weights as weights
 use Rattle.analyze_runs.proofs.Turns.{emptied, passed, opened, refused}

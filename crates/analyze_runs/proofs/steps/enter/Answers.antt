@@ -1,5 +1,5 @@
 use Rattle.std.proofs.Common.{sym, refl}
-use Rattle.analyze_runs.specs.Calls.{row_of}
+use Rattle.analyze_calls.specs.Calls.{row_of}
 use Rattle.analyze_runs.specs.Steps.{Begins, BeginsAt, begun, here, nowhere}
 use Rattle.analyze_runs.proofs.Beginnings.{given_as}
 use Rattle.analyze_runs.proofs.steps.enter.Goals as goal

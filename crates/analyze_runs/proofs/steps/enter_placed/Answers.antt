@@ -1,14 +1,12 @@
 use Rattle.std.proofs.Common.{◌≡◌, List, rules, ap, ◌∙◌}
 use Rattle.std.specs.Global.{Box}
 use Rattle.std.proofs.lemmas.Result.{err_from_is_err_and}
-use Rattle.analyze_runs.specs.Calls.{row_of, rows}
-use Rattle.analyze_runs.specs.Growth.{binds}
+use Rattle.analyze_calls.specs.Calls.{row_of, rows}
 use Rattle.analyze_runs.specs.Steps.{begun}
-use Rattle.analyze_runs.specs.Todo.{entered_of}
-use Rattle.analyze_runs.specs.declared.call.Call.{Call}
-use Rattle.analyze_runs.specs.declared.frame.Entered.{Entered}
+use Rattle.analyze_calls.specs.Entered.{entered_of}
+use Rattle.analyze_calls.specs.declared.call.Call.{Call}
+use Rattle.analyze_calls.specs.declared.enter.Entered.{Entered}
 use Rattle.analyze_runs.proofs.Beginnings.{unbound_at, headless_at, begins_at}
-use Rattle.analyze_runs.proofs.Turns.{grown}
 use Rattle.analyze_runs.proofs.steps.enter_placed.Goals as goal
 
 pub returns-in_err-entered-clause-goes : goal.returns-in_err-entered-clause-goes
@@ -16,7 +14,7 @@ returns-in_err-entered-clause-goes g c =
     let p = err_from_is_err_and c.from_residual.result c.from_residual.ensures.1 in
     let is : c.as_slice-groups.result.now ≡ c.args.call.now.groups.items = search rules in
     rw (p.1, p.2) (unbound_at c.args.runner.now c.args.placed.now.planned.now c.args.placed.now.context.now (row_of c.args.call.now) c.args.is_dependency c.as_slice-groups.result.now is
-    (λ (r : Box Entered × List Call). begun (r.0.value, r.1)) c.args.host.now.entries c.boxed.new.host.entries c.boxed.new.host.exhausted c.in_err-entered.field-0.0 (λ k n. binds (grown g.H.Host.goes g.met.H.Host.nothing c.args.host.now c.boxed.new.host c.in_err-entered.ensures.asks)))
+    (λ (r : Box Entered × List Call). begun (r.0.value, r.1)) c.args.host.now.entries c.boxed.new.host.entries c.boxed.new.host.exhausted c.in_err-entered.field-0.0 (λ k n. c.in_err-entered.ensures.binds))
 
 pub returns-in_err-priors-clause-goes : goal.returns-in_err-priors-clause-goes
 returns-in_err-priors-clause-goes g c =
@@ -26,7 +24,7 @@ returns-in_err-priors-clause-goes g c =
     c.deref.result.now.is_dependency (entered_of c.in_ok-entered.entered.value) (entered_of c.deref.result.now) c.args.host.now.entries c.boxed.new.host.entries c.priors.new.host.entries
     (ap (λ e. e.is_dependency) c.deref.ensures ∙ c.in_ok-entered.ensures.flag) (ap entered_of c.deref.ensures)
     (λ (r : Box Entered × List Call). begun (r.0.value, r.1)) c.priors.new.host.exhausted c.in_err-priors.field-0.0
-    (λ k. binds (grown g.H.Host.goes g.met.H.Host.nothing c.args.host.now c.boxed.new.host c.in_ok-entered.ensures.asks)) c.in_err-priors.ensures.heads)
+    (λ k. c.in_ok-entered.ensures.binds) c.in_err-priors.ensures.heads)
 
 pub returns-clause-goes : goal.returns-clause-goes
 returns-clause-goes g c =
@@ -34,4 +32,4 @@ returns-clause-goes g c =
     λ k. begins_at c.args.runner.now c.args.placed.now.planned.now c.args.placed.now.context.now (row_of c.args.call.now) c.args.is_dependency c.as_slice-groups.result.now is
     c.deref.result.now.is_dependency (entered_of c.in_ok-entered.entered.value) (entered_of c.deref.result.now) c.args.host.now.entries c.boxed.new.host.entries c.priors.new.host.entries
     (ap (λ e. e.is_dependency) c.deref.ensures ∙ c.in_ok-entered.ensures.flag) (ap entered_of c.deref.ensures) (rows c.in_ok-priors.priors)
-    (binds (grown g.H.Host.goes g.met.H.Host.nothing c.args.host.now c.boxed.new.host c.in_ok-entered.ensures.asks)) (c.in_ok-priors.ensures.heads k)
+    c.in_ok-entered.ensures.binds (c.in_ok-priors.ensures.heads k)

@@ -1,9 +1,9 @@
 use Rattle.std.proofs.Common.{sym, refl}
-use Rattle.analyze_runs.specs.Calls.{row_of, rows}
-use Rattle.analyze_runs.specs.Growth.{Tails}
+use Rattle.analyze_calls.specs.Calls.{row_of, rows}
+use Rattle.analyze_calls.specs.Around.{Tails}
 use Rattle.analyze_runs.specs.Steps.{Ends, HeadsBelow, here_ends, nowhere_ends}
-use Rattle.analyze_runs.specs.Todo.{entered_of}
-use Rattle.analyze_runs.proofs.Beginnings.{given_as}
+use Rattle.analyze_calls.specs.Entered.{entered_of}
+use Rattle.analyze_runs.proofs.Beginnings.{context_among, given_as}
 use Rattle.analyze_runs.proofs.steps.leave.Goals as goal
 
 pub returns-in_default-clause-goes : goal.returns-in_default-clause-goes
@@ -12,6 +12,10 @@ returns-in_default-clause-goes g c = λ k n. nowhere_ends (sym c.in_default.ensu
 pub returns-clause-goes : goal.returns-clause-goes
 returns-clause-goes g c =
     given_as (λ behind. rows behind.calls) c.subsequents.new.host.exhausted c.subsequents.result
-    (HeadsBelow c.args.call.now.recipe (Tails c.args.runner.now c.in-Some.placed.planned.now c.in-Some.placed.context.now c.args.entered.now.is_dependency (entered_of c.args.entered.now) c.args.host.now.entries c.subsequents.new.host.entries))
+    (HeadsBelow c.args.call.now.recipe (Tails c.in-Some.placed.planned.now c.in-Some.placed.context.now c.args.entered.now.is_dependency (entered_of c.args.entered.now) c.args.runner.now c.args.host.now.entries c.subsequents.new.host.entries))
     (Ends c.args.runner.now (row_of c.args.call.now) c.args.entered.now.is_dependency (entered_of c.args.entered.now) c.args.host.now.entries c.subsequents.new.host.entries)
     (λ r h. here_ends (sym c.in-Some.ensures) h) c.subsequents.ensures.goes
+
+pub returns-clause-asks : goal.returns-clause-asks
+returns-clause-asks g c = λ kinds questions user work. c.subsequents.ensures.asks kinds questions user
+    (λ dry. work c.in-Some.placed.context.now (context_among c.args.runner.now c.args.call.now.recipe c.in-Some.placed.planned.now c.in-Some.placed.context.now (sym c.in-Some.ensures)) dry)

@@ -1,8 +1,8 @@
-use Rattle.just_host.specs.AskingLaws.{asked_then}
+use Rattle.just_host.specs.KindsLaws.{question_asked}
 use Rattle.evaluate_builtins.proofs.asked.ask.Goals as goal
 
 pub returns-then-exhausted-clause-asks : goal.returns-then-exhausted-clause-asks
-returns-then-exhausted-clause-asks g c = asked_then g.H.Host.goes g.met.H.Host.joins c.args.host.now c.ask-answer.new.self _ c.ask-answer.ensures.followed
+returns-then-exhausted-clause-asks g c = λ kinds has. question_asked kinds g.H.Host.goes g.met.H.Host.joins c.args.host.now c.ask-answer.new.self has _ _ c.ask-answer.ensures.followed
 
 pub returns-clause-asks : goal.returns-clause-asks
-returns-clause-asks g c = asked_then g.H.Host.goes g.met.H.Host.joins c.args.host.now c.ask-answer.new.self _ c.ask-answer.ensures.followed
+returns-clause-asks g c = λ kinds has. question_asked kinds g.H.Host.goes g.met.H.Host.joins c.args.host.now c.ask-answer.new.self has _ _ c.ask-answer.ensures.followed

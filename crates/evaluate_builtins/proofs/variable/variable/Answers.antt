@@ -11,13 +11,13 @@ use Rattle.evaluate_builtins.proofs.Variables.{led_first, led_more, led_found, l
 use Rattle.evaluate_builtins.proofs.variable.variable.Goals as goal
 
 pub loop-name-init : goal.loop-name-init
-loop-name-init g c = (λ start asked. asked, led_first (map environment.variable c.args.dotenv.now.entries) (map string_bytes c.elements-name-items.result.now) c.args.host.now.entries)
+loop-name-init g c = (λ kinds has start asked. asked, led_first (map environment.variable c.args.dotenv.now.entries) (map string_bytes c.elements-name-items.result.now) c.args.host.now.entries)
 
 pub loop-name-preserved : goal.loop-name-preserved
 loop-name-preserved g c =
     let dotenv = map environment.variable c.args.dotenv.now.entries in
     let items = c.elements-name-items.result.now in (
-      λ start asked. c.looked_up.ensures.asks start (c.loop-name.invariant.0 start asked),
+      λ kinds has start asked. c.looked_up.ensures.asks kinds has start (c.loop-name.invariant.0 kinds has start asked),
       led_more dotenv (map string_bytes items) (map string_bytes (drop c.loop-name.name-index items)) (map string_bytes (drop (c.loop-name.name-index + 1) items)) c.as_str.result.now c.args.host.now.entries c.loop-name.host.entries c.looked_up.new.host.entries
           c.loop-name.invariant.1 (left_at items c.loop-name.name-index c.name-item.result c.as_str.result.now c.loop-name-test.true c.name-item.is c.as_str.ensures.value)
           (subst (λ r. IsLookedUp dotenv c.as_str.result.now c.loop-name.host.entries c.looked_up.new.host.entries r) (c.in-Ok-None.is ∙ ap (λ o. Ok o) c.in-Ok-None.field-0-is) c.looked_up.ensures.leads),

@@ -1,3 +1,4 @@
+use Rattle.std.proofs.Common.{◌≡◌, rules}
 use Rattle.evaluate_expressions.specs.Situations.{reading_at, stage_at}
 use Rattle.meaning_parameters.proofs.Pairs.{attribute_env}
 use Rattle.evaluate_variables.proofs.parameters.attribute_pair.Goals as goal
@@ -5,5 +6,6 @@ use Rattle.evaluate_variables.proofs.parameters.attribute_pair.Goals as goal
 pub returns-clause-evaluates : goal.returns-clause-evaluates
 returns-clause-evaluates g c =
     let evaluator = c.evaluator-evaluator.result in
+    let same : c.deref.result.now ≡ c.in-Env.value.value = search rules in
     rw (← c.evaluator-evaluator.ensures.reading, ← c.evaluator-evaluator.ensures.stage)
-    (attribute_env (reading_at evaluator) (stage_at evaluator) c.args.item.now.attribute c.in-Env.key c.in-Env.value _ _ _ c.in-Env.is c.env_pair.ensures.evaluates)
+    (attribute_env (reading_at evaluator) (stage_at evaluator) c.args.item.now.attribute c.in-Env.key c.in-Env.value _ _ _ c.in-Env.is (rw same at c.env_pair.ensures.evaluates))

@@ -25,7 +25,7 @@ loop-item-preserved-in-Continue-branch-3 g c =
     let is : iter_rest l.item-iterator ≡ c.in-Some.item.now ∷ iter_rest c.next.new.self = search rules in
     let given = rw same at c.in_ok-pair.ensures.evaluates in
     record {
-      asks = λ start asked. c.in_ok-pair.ensures.asks start (l.invariant.asks start asked);
+      asks = λ kinds has start asked. c.in_ok-pair.ensures.asks kinds has start (l.invariant.asks kinds has start asked);
       leads = pairs_more (reading_for site here) (λ pairs. stage_for site pairs here) (items_of c.args.recipe.now.attributes) _ _ _ _ _ l.invariant.leads c.in-Some.item.now _ is _ c.push.new.self.items c.in-Some-2.pair given (search rules) (search rules);
     }
 
@@ -38,6 +38,6 @@ loop-item-preserved g c =
     let is : iter_rest l.item-iterator ≡ c.in-Some.item.now ∷ iter_rest c.next.new.self = search rules in
     let given = rw same at c.in_ok-pair.ensures.evaluates in
     record {
-      asks = λ start asked. c.in_ok-pair.ensures.asks start (l.invariant.asks start asked);
+      asks = λ kinds has start asked. c.in_ok-pair.ensures.asks kinds has start (l.invariant.asks kinds has start asked);
       leads = pairs_passed (reading_for site here) (λ pairs. stage_for site pairs here) (items_of c.args.recipe.now.attributes) _ _ _ _ _ l.invariant.leads c.in-Some.item.now _ is _ given (search rules);
     }

@@ -15,7 +15,7 @@ loop-parameter-init g c =
     let ps : iter_rest c.into_iter-parameter-iterator.result.a ≡ c.args.parameters.now = search rules in
     let qs : iter_rest c.into_iter-parameter-iterator.result.b ≡ c.args.groups.now = search rules in
     record {
-      asks = λ start asked. asked;
+      asks = λ kinds has start asked. asked;
       lies = refl;
       binds = λ may counts always counted none. rw (ps, qs) (counted, binds_first _ _ _ _ _ _ _ _ _ _ _ _ _ none (search rules));
     }
@@ -78,7 +78,7 @@ loop-parameter-preserved g c =
     let long : c.len.result ≡ length v = search rules in
     let given = rw (same_stage site c.args.env.now l.scope here l.invariant.lies) at c.in_ok-value.ensures.evaluates in
     record {
-      asks = λ start asked. c.in_ok-value.ensures.asks start (l.invariant.asks start asked);
+      asks = λ kinds has start asked. c.in_ok-value.ensures.asks kinds has start (l.invariant.asks kinds has start asked);
       lies = search rules;
       binds = λ may counts always counted none.
           let h = l.invariant.binds may counts always counted none in

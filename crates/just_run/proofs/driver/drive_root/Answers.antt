@@ -1,11 +1,10 @@
 use Rattle.std.proofs.Common.{option_map, ap, subst}
-use Rattle.just_host.specs.Follows.{questions}
-use Rattle.just_host.specs.AskingLaws.{asked_then}
 use Rattle.justfile_syntax.specs.PlainShapes.{shape_of}
 use Rattle.run_plain.specs.Stages.{IsRoot}
 use Rattle.run_plain.specs.Setup.{setup_of}
 use Rattle.just_run.proofs.Early.{plain_is_early, plans_is_early}
 use Rattle.just_run.proofs.Failed.{answer_fails}
+use Rattle.just_run.proofs.Added.{questions_asked}
 use Rattle.just_run.proofs.driver.drive_root.Goals as goal
 
 pub returns-in-Run-clause-plain : goal.returns-in-Run-clause-plain
@@ -25,7 +24,7 @@ returns-in-Files-clause-unwritten g c = λ run i plain rooted.
     absurd (plain c.args.root.path.now (subst (IsRoot i c.args.root.path.now) (ap (option_map shape_of) (c.in-Files.ensures run)) rooted))
 
 pub returns-in-Plan-clause-asks : goal.returns-in-Plan-clause-asks
-returns-in-Plan-clause-asks g c = asked_then g.H.Host.goes g.met.H.Host.joins c.args.host.now c.plan_file.new.host (questions c.plan_file.ensures.followed.0) c.plan_file.ensures.followed.1
+returns-in-Plan-clause-asks g c = rw c.in-Plan.ensures.0 (questions_asked g.H.Host.goes g.met.H.Host.joins c.args.host.now c.plan_file.new.host c.args.config.now.dry_run c.plan_file.ensures.followed.0 c.plan_file.ensures.followed.1)
 
 pub returns-in-Run-clause-early : goal.returns-in-Run-clause-early
 returns-in-Run-clause-early g c = λ i words rooted.
@@ -39,3 +38,6 @@ returns-in-Plan-clause-early g c = λ i words rooted.
 
 pub returns-in-Run-clause-unfailed : goal.returns-in-Run-clause-unfailed
 returns-in-Run-clause-unfailed g c = answer_fails (g.O.Out.failed c.args.out.now) c.run_plain.result c.run_plain.ensures.no_write
+
+pub returns-in-Run-clause-asks : goal.returns-in-Run-clause-asks
+returns-in-Run-clause-asks g c = rw c.in-Run.ensures.0 c.run_plain.ensures.asks

@@ -2,6 +2,8 @@ use Rattle.std.proofs.Common.{sym, subst}
 use Rattle.std.proofs.lemmas.Result.{err_from_is_err_and}
 use Rattle.std.specs.Option.{option_map}
 use Rattle.just_host.specs.AskingLaws.{asked_nothing}
+use Rattle.just_host.specs.Kinds.{Only}
+use Rattle.just_host.specs.KindsLaws.{only_nothing}
 use Rattle.justfile_syntax.specs.PlainShapes.{shape_of}
 use Rattle.run_plain.specs.Inputs.{given, inputs_of, reader_of}
 use Rattle.run_plain.specs.Setup.{setup_of}
@@ -18,7 +20,7 @@ returns-in_err-words-clause-plain g c = λ run plain.
     rw (p.1, p.2) (ran_out_answers g.H.Host.goes g.met.H.Host.nothing (inputs_of (reader_of (g.E.Expander.expansion c.args.expander.now) c.args.config.now.version) c.args.sources.now c.args.roots.now c.args.words.now) (setup_of c.args.config.now) c.args.host.now)
 
 pub returns-in_err-words-clause-asked : goal.returns-in_err-words-clause-asked
-returns-in_err-words-clause-asked g c = asked_nothing g.H.Host.goes g.met.H.Host.nothing c.args.host.now
+returns-in_err-words-clause-asked g c = λ kinds may. asked_nothing (Only kinds g.H.Host.goes) (only_nothing kinds g.H.Host.goes g.met.H.Host.nothing) c.args.host.now
 
 pub returns-in_err-root-clause-plain : goal.returns-in_err-root-clause-plain
 returns-in_err-root-clause-plain g c = λ run plain.
@@ -27,7 +29,7 @@ returns-in_err-root-clause-plain g c = λ run plain.
     (subst (λ w. IsTold (given (reader_of (g.E.Expander.expansion c.args.expander.now) c.args.config.now.version) c.args.sources.now c.args.roots.now w) (verdict c.in_err-root.field-0.0)) c.in_ok-words.ensures c.in_err-root.ensures.err))
 
 pub returns-in_err-root-clause-asked : goal.returns-in_err-root-clause-asked
-returns-in_err-root-clause-asked g c = asked_nothing g.H.Host.goes g.met.H.Host.nothing c.args.host.now
+returns-in_err-root-clause-asked g c = λ kinds may. asked_nothing (Only kinds g.H.Host.goes) (only_nothing kinds g.H.Host.goes g.met.H.Host.nothing) c.args.host.now
 
 pub returns-clause-plain : goal.returns-clause-plain
 returns-clause-plain g c = λ run plain.
@@ -40,7 +42,7 @@ returns-clause-unwritten g c = λ run plain.
     (subst (λ w. IsRoot (given (reader_of (g.E.Expander.expansion c.args.expander.now) c.args.config.now.version) c.args.sources.now c.args.roots.now w) c.in_ok-root.root.path.now (option_map shape_of c.in_ok-root.root.plain)) c.in_ok-words.ensures c.in_ok-root.ensures.ok)
 
 pub returns-clause-asked : goal.returns-clause-asked
-returns-clause-asked g c = c.drive_root.ensures.asks c.args.host.now (asked_nothing g.H.Host.goes g.met.H.Host.nothing c.args.host.now)
+returns-clause-asked g c = λ kinds may. c.drive_root.ensures.asks kinds may c.args.host.now (asked_nothing (Only kinds g.H.Host.goes) (only_nothing kinds g.H.Host.goes g.met.H.Host.nothing) c.args.host.now)
 
 pub returns-clause-planned : goal.returns-clause-planned
 returns-clause-planned g c = λ asked.

@@ -1,6 +1,6 @@
 use Rattle.std.proofs.Common.{refl, ap}
 use Rattle.std.proofs.lemmas.Result.{err_from_is_err_and}
-use Rattle.just_host.specs.AskingLaws.{asked_then}
+use Rattle.just_host.specs.KindsLaws.{line_asked}
 use Rattle.justfile_evaluator.specs.declared.body.Command.{Command}
 use Rattle.justfile_evaluator.proofs.Lines.{hands_over, without_memory}
 use Rattle.justfile_evaluator.proofs.body.hand_over.Goals as goal
@@ -11,7 +11,7 @@ returns-in_err-job-clause-performs g c = λ b h held marked.
     rw (e.1, e.2) (without_memory b.reading _ _ _ _ refl)
 
 pub returns-clause-asks : goal.returns-clause-asks
-returns-clause-asks g c = asked_then g.H.Host.goes g.met.H.Host.joins c.args.host.now c.line-status.new.self _ c.line-status.ensures.followed
+returns-clause-asks g c = λ kinds questions user work. line_asked kinds g.H.Host.goes g.met.H.Host.joins c.args.host.now c.line-status.new.self (work refl) _ _ c.line-status.ensures.followed
 
 pub returns-clause-performs : goal.returns-clause-performs
 returns-clause-performs g c = λ b h held marked.

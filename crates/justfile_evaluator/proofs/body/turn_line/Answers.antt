@@ -1,7 +1,7 @@
 use Rattle.std.proofs.Common.{rules, ◌≡◌, false, true}
 use Rattle.std.proofs.lemmas.Result.{err_from_is_err_and}
 use Rattle.tree_items.specs.Lines.{pieces_of}
-use Rattle.meaning_bodies.proofs.Performing.{open_asked}
+use Rattle.meaning_bodies.proofs.Performing.{open_asked, open_worked}
 use Rattle.justfile_evaluator.specs.Turns.{is_left_out}
 use Rattle.justfile_evaluator.proofs.Lines.{passes, stops_at, opens, runs_to}
 use Rattle.justfile_evaluator.proofs.body.turn_line.Goals as goal
@@ -27,4 +27,4 @@ returns-clause-turns g c = λ b h means held start lines goes_on.
     let kept : is_left_out c.args.site.now c.args.progress.now.command (pieces_of c.args.line.now) ≡ false = search rules in
     let read = c.in_ok-read_line.ensures.reads b h.settings.guards means goes_on.sound in
     runs_to b c.args.site.now h start c.args.host.now c.read_line.new.host c.run_line.new.host c.args.progress.now.command c.read_line.new.command c.run_line.new.progress.command (pieces_of c.args.line.now) lines c.run_line.result kept
-    (open_asked g.H.Host.goes g.met.H.Host.nothing _ _ c.in_ok-read_line.ensures.asks) goes_on read (search rules) (open_asked g.H.Host.goes g.met.H.Host.nothing _ _ c.run_line.ensures.asks) c.run_line.ensures.command (c.run_line.ensures.performs b h held read.sound)
+    (open_asked g.H.Host.goes g.met.H.Host.nothing _ _ c.in_ok-read_line.ensures.asks) goes_on read (search rules) (open_worked g.H.Host.goes g.met.H.Host.nothing _ _ _ c.run_line.ensures.asks) c.run_line.ensures.command (c.run_line.ensures.performs b h held read.sound)

@@ -1,6 +1,6 @@
 use Rattle.std.proofs.Common.{rules, ◌≡◌, false, refl, sym, ◌∙◌}
 use Rattle.std.proofs.lemmas.Result.{err_from_is_err_and}
-use Rattle.just_host.specs.AskingLaws.{asked_then}
+use Rattle.just_host.specs.KindsLaws.{script_asked}
 use Rattle.evaluate_context.specs.Refusals.{fault_of}
 use Rattle.meaning_bodies.proofs.Performing.{performs_memory}
 use Rattle.meaning_bodies.proofs.Scripts.{script_unnamed, script_given}
@@ -21,7 +21,8 @@ returns-in_err-job-clause-performs g c = λ b is.
     rw (p.1, p.2) (performs_memory b.reading (handed_of b false c.args.lines.items) c.args.host.now c.interpreter.new.host)
 
 pub returns-clause-asks : goal.returns-clause-asks
-returns-clause-asks g c = λ start asked. asked_then g.H.Host.goes g.met.H.Host.joins c.interpreter.new.host c.script-status.new.self _ c.script-status.ensures.followed start (c.interpreter.ensures.asks start asked)
+returns-clause-asks g c = λ kinds questions user work start asked.
+    script_asked kinds g.H.Host.goes g.met.H.Host.joins c.interpreter.new.host c.script-status.new.self (work refl) _ _ c.script-status.ensures.followed start (c.interpreter.ensures.asks kinds questions start asked)
 
 pub returns-clause-performs : goal.returns-clause-performs
 returns-clause-performs g c = λ b is.

@@ -1,6 +1,6 @@
 use Rattle.std.proofs.Common.{rules, ◌≡◌, true, false, sym, ◌∙◌, subst}
 use Rattle.std.proofs.lemmas.Result.{err_from_is_err_and}
-use Rattle.meaning_bodies.proofs.Performing.{open_asked, performs_memory}
+use Rattle.meaning_bodies.proofs.Performing.{open_worked, performs_memory}
 use Rattle.meaning_bodies.proofs.Scripts.{script_stop, script_dry}
 use Rattle.meaning_bodies.proofs.Shebangs.{texts_shebang}
 use Rattle.meaning_bodies.specs.Performing.{Performs}
@@ -25,7 +25,7 @@ returns-then-site-clause-performs g c = λ b is.
     let same : c.as_slice.result.now ≡ c.in_ok-lines.lines.items = search rules in
     let dry : b.configuration.dry_run ≡ true = sym is.site.configuration.dry_run ∙ c.if-site.true in
     script_then b c.args.site.now is.site g.H.Host.goes c.args.host.now c.script_lines.new.host c.show.new.host c.show.new.host c.in_ok-lines.lines.items _ (c.in_ok-lines.ensures.evaluates b c.args.site.now is)
-    (open_asked g.H.Host.goes g.met.H.Host.nothing c.script_lines.new.host c.show.new.host c.in_ok-show.ensures.asks) (λ e. rw same at (c.in_ok-show.ensures.shown e)) c.in_ok-show.ensures.hidden (λ e. e)
+    (open_worked g.H.Host.goes g.met.H.Host.nothing _ c.script_lines.new.host c.show.new.host c.in_ok-show.ensures.asks) (λ e. rw same at (c.in_ok-show.ensures.shown e)) c.in_ok-show.ensures.hidden (λ e. e)
     (script_dry b.configuration b.scene b.name b.recipe b.flag b.bound b.reading g.H.Host.goes b.configuration.dry_run c.in_ok-lines.lines.items c.show.new.host dry)
 
 pub returns-clause-performs : goal.returns-clause-performs
@@ -35,8 +35,8 @@ returns-clause-performs g c = λ b is.
     let dry : b.configuration.dry_run ≡ false = sym is.site.configuration.dry_run ∙ c.if-site.false in
     let texts = c.in_ok-lines.ensures.evaluates b c.args.site.now is in
     script_then b c.args.site.now is.site g.H.Host.goes c.args.host.now c.script_lines.new.host c.show.new.host c.hand_over.new.host lines _ texts
-    (open_asked g.H.Host.goes g.met.H.Host.nothing c.script_lines.new.host c.show.new.host c.in_ok-show.ensures.asks) (λ e. rw same at (c.in_ok-show.ensures.shown e)) c.in_ok-show.ensures.hidden
-    (open_asked g.H.Host.goes g.met.H.Host.nothing c.show.new.host c.hand_over.new.host c.hand_over.ensures.asks)
+    (open_worked g.H.Host.goes g.met.H.Host.nothing _ c.script_lines.new.host c.show.new.host c.in_ok-show.ensures.asks) (λ e. rw same at (c.in_ok-show.ensures.shown e)) c.in_ok-show.ensures.hidden
+    (open_worked g.H.Host.goes g.met.H.Host.nothing _ c.show.new.host c.hand_over.new.host c.hand_over.ensures.asks)
     (subst (λ d. Performs b.reading (handed_of b d lines) c.show.new.host c.hand_over.new.host (ended c.hand_over.result)) (sym dry) (c.hand_over.ensures.performs b (record {
       site = is.site;
       interpreter = is.interpreter;
@@ -44,7 +44,8 @@ returns-clause-performs g c = λ b is.
     })))
 
 pub returns-then-site-clause-asks : goal.returns-then-site-clause-asks
-returns-then-site-clause-asks g c = λ start asked. c.in_ok-show.ensures.asks start (c.in_ok-lines.ensures.asks start asked)
+returns-then-site-clause-asks g c = λ kinds questions user work start asked. c.in_ok-show.ensures.asks kinds questions user work start (c.in_ok-lines.ensures.asks kinds questions start asked)
 
 pub returns-clause-asks : goal.returns-clause-asks
-returns-clause-asks g c = λ start asked. c.hand_over.ensures.asks start (c.in_ok-show.ensures.asks start (c.in_ok-lines.ensures.asks start asked))
+returns-clause-asks g c = λ kinds questions user work start asked.
+    c.hand_over.ensures.asks kinds questions user (λ e. work c.if-site.false) start (c.in_ok-show.ensures.asks kinds questions user work start (c.in_ok-lines.ensures.asks kinds questions start asked))

@@ -17,7 +17,7 @@ loop-line-preserved g c =
     let e : x ≡ get_or body c.loop-line.line-index x = search rules in
     let grown : c.push.new.self.items ≡ c.loop-line.lines.items ++ c.in_ok-text.text ∷ [] = search rules in
     record {
-      asks = λ start asked. c.in_ok-text.ensures.asks start (c.loop-line.invariant.asks start asked);
+      asks = λ kinds questions start asked. c.in_ok-text.ensures.asks kinds questions start (c.loop-line.invariant.asks kinds questions start asked);
       leads = λ b site is.
           rw grown
           (lines_more b site c.args.evaluator.now body is c.args.host.now.entries c.loop-line.host.entries _ c.loop-line.lines.items c.loop-line.line-index x c.in_ok-text.text (c.loop-line.invariant.leads b site is) lt e c.in_ok-text.ensures.evaluates);
@@ -33,10 +33,10 @@ returns-in_err-text-clause-evaluates g c = λ b site is.
     rw (p.1, p.2) (lines_stop b site c.args.evaluator.now body is c.args.host.now.entries c.loop-line.host.entries _ c.loop-line.lines.items c.loop-line.line-index x _ (c.loop-line.invariant.leads b site is) lt e c.in_err-text.ensures.evaluates)
 
 pub returns-in_err-text-clause-asks : goal.returns-in_err-text-clause-asks
-returns-in_err-text-clause-asks g c = λ start asked. c.in_err-text.ensures.asks start (c.loop-line.invariant.asks start asked)
+returns-in_err-text-clause-asks g c = λ kinds questions start asked. c.in_err-text.ensures.asks kinds questions start (c.loop-line.invariant.asks kinds questions start asked)
 
 pub returns-in_err-push-clause-asks : goal.returns-in_err-push-clause-asks
-returns-in_err-push-clause-asks g c = λ start asked. c.in_ok-text.ensures.asks start (c.loop-line.invariant.asks start asked)
+returns-in_err-push-clause-asks g c = λ kinds questions start asked. c.in_ok-text.ensures.asks kinds questions start (c.loop-line.invariant.asks kinds questions start asked)
 
 pub returns-clause-evaluates : goal.returns-clause-evaluates
 returns-clause-evaluates g c = λ b site is.

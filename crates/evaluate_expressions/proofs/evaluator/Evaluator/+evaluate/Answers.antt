@@ -163,7 +163,7 @@ pub evaluate_list-loop-element-init : goal.evaluate_list-loop-element-init
 evaluate_list-loop-element-init g t c =
     let self = c.args.self.now in
     let all = row (dialogues (stage_at self) (terms_of c.args.elements.now)) in
-    record { asks = λ start h. h; lists = rw c.new-list.ensures (lists_first (reading_at self) all c.args.host.now.entries) }
+    record { asks = λ kinds has start h. h; lists = rw c.new-list.ensures (lists_first (reading_at self) all c.args.host.now.entries) }
 
 pub evaluate_list-loop-element-preserved : goal.evaluate_list-loop-element-preserved
 evaluate_list-loop-element-preserved g t c =

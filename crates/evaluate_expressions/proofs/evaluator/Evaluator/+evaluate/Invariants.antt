@@ -1,6 +1,6 @@
 -- What falls: the levels that are left, each counted five times, so that up to four calls may stay in one.
 use Rattle.std.proofs.Common.{◌+◌, ◌*◌, drop, length}
-use Rattle.just_host.specs.Asking.{Asks}
+use Rattle.just_host.specs.Kinds.{AsksQuestions}
 use Rattle.just_text.specs.Tokens.{lexeme}
 use Rattle.evaluate_functions.specs.Arguments.{takes_text}
 use Rattle.meaning_dialogues.specs.Calls.{arguments}
@@ -86,7 +86,7 @@ invariant-evaluate_arguments-loop-expression g l =
     let ds = dialogues (stage_at l.self) in
     let given = arguments (takes_text l.function) (lexeme l.name.token) in
     record {
-      asks : Asks g.H.Host.goes l.initial.host l.host;
+      asks : AsksQuestions g.H.Host.goes l.initial.host l.host;
       leads : Leads (reading_at l.self) (given 0 (ds (terms_of l.arguments))) (given (length l.values.items) (ds (terms_of (drop l.expression-index l.arguments)))) l.initial.host.entries l.host.entries l.values.items;
     }
 
@@ -94,7 +94,7 @@ abbrev pub invariant-evaluate_format-loop-expression : goal.invariant-evaluate_f
 invariant-evaluate_format-loop-expression g l =
     let fill = filled (stage_at l.self) in
     record {
-      asks : Asks g.H.Host.goes l.initial.host l.host;
+      asks : AsksQuestions g.H.Host.goes l.initial.host l.host;
       fills : Fills (reading_at l.self) (fill l.start.cooked (holes_of l.expressions)) (fill (string_bytes l.text) (holes_of (drop l.expression-index l.expressions))) l.initial.host.entries l.host.entries;
     }
 
@@ -102,7 +102,7 @@ abbrev pub invariant-evaluate_list-loop-element : goal.invariant-evaluate_list-l
 invariant-evaluate_list-loop-element g l =
     let ds = dialogues (stage_at l.self) in
     record {
-      asks : Asks g.H.Host.goes l.initial.host l.host;
+      asks : AsksQuestions g.H.Host.goes l.initial.host l.host;
       lists : Lists (reading_at l.self) (row (ds (terms_of l.elements))) (row (ds (terms_of (drop l.element-index l.elements)))) l.initial.host.entries l.host.entries l.list;
     }
 
@@ -110,6 +110,6 @@ abbrev pub invariant-evaluate_row-loop-expression : goal.invariant-evaluate_row-
 invariant-evaluate_row-loop-expression g l =
     let ds = dialogues (stage_at l.self) in
     record {
-      asks : Asks g.H.Host.goes l.initial.host l.host;
+      asks : AsksQuestions g.H.Host.goes l.initial.host l.host;
       leads : Leads (reading_at l.self) (row (ds (terms_of l.expressions))) (row (ds (terms_of (drop l.expression-index l.expressions)))) l.initial.host.entries l.host.entries l.values.items;
     }

@@ -39,10 +39,10 @@ returns-in_err-value-clause-evaluates g c =
     rw (p.1, p.2) (words_stop (reading_at self) (stage_at self) es (lexeme c.args.setting.token) c.args.host.now.entries c.loop-argument.host.entries _ c.loop-argument.words (i + 1) x _ c.loop-argument.invariant.lists (omega arith) (after_command c.args.interpreter.now.command items i x is) c.in_err-value.ensures.evaluates)
 
 pub returns-in_err-value-clause-asks : goal.returns-in_err-value-clause-asks
-returns-in_err-value-clause-asks g c = λ start asked. c.in_err-value.ensures.asks start (c.loop-argument.invariant.asks start asked)
+returns-in_err-value-clause-asks g c = λ kinds has start asked. c.in_err-value.ensures.asks kinds has start (c.loop-argument.invariant.asks kinds has start asked)
 
 pub returns-in_err-append-clause-asks : goal.returns-in_err-append-clause-asks
-returns-in_err-append-clause-asks g c = λ start asked. c.in_ok-value.ensures.asks start (c.loop-argument.invariant.asks start asked)
+returns-in_err-append-clause-asks g c = λ kinds has start asked. c.in_ok-value.ensures.asks kinds has start (c.loop-argument.invariant.asks kinds has start asked)
 
 pub loop-argument-preserved : goal.loop-argument-preserved
 loop-argument-preserved g c =
@@ -54,7 +54,7 @@ loop-argument-preserved g c =
     let is : x ≡ get_or items i x = search rules in
     let grown : c.append.new.self ≡ c.loop-argument.words ++ c.in_ok-value.value = search rules in
     record {
-      asks = λ start asked. c.in_ok-value.ensures.asks start (c.loop-argument.invariant.asks start asked);
+      asks = λ kinds has start asked. c.in_ok-value.ensures.asks kinds has start (c.loop-argument.invariant.asks kinds has start asked);
       lists = lists_more (reading_at self) (all (reading_at self) (stage_at self) es [] []) (stage_at self) es c.args.host.now.entries c.loop-argument.host.entries _ c.loop-argument.words c.append.new.self (i + 1) x c.in_ok-value.value c.loop-argument.invariant.lists (omega arith) (after_command c.args.interpreter.now.command items i x is) c.in_ok-value.ensures.evaluates grown;
     }
 

@@ -31,7 +31,7 @@ returns-clause-evaluates g c =
     parts_end (reading_at self) (line_dialogue (stage_at self) c.args.continued [] (map piece_of es)) (stage_at self) es c.args.host.now.entries c.loop-fragment.host.entries c.loop-fragment.is_trimmed (string_bytes c.loop-fragment.text) c.loop-fragment.fragment-index c.loop-fragment.invariant.fills (omega arith)
 
 pub returns-in_err-piece-clause-asks : goal.returns-in_err-piece-clause-asks
-returns-in_err-piece-clause-asks g c = λ start asked. c.in_err-piece.ensures.asks start (c.loop-fragment.invariant.asks start asked)
+returns-in_err-piece-clause-asks g c = λ kinds has start asked. c.in_err-piece.ensures.asks kinds has start (c.loop-fragment.invariant.asks kinds has start asked)
 
 pub returns-in_err-push_str-clause-asks : goal.returns-in_err-push_str-clause-asks
-returns-in_err-push_str-clause-asks g c = λ start asked. c.in_ok-piece.ensures.asks start (c.loop-fragment.invariant.asks start asked)
+returns-in_err-push_str-clause-asks g c = λ kinds has start asked. c.in_ok-piece.ensures.asks kinds has start (c.loop-fragment.invariant.asks kinds has start asked)

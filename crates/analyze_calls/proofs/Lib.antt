@@ -1,0 +1,5 @@
+pub mod Joined
+pub mod Asking
+pub mod Blocks
+pub mod Entering
+pub mod Around

@@ -1,0 +1,5 @@
+use Rattle.just_host.specs.KindsLaws.{request_asked}
+use Rattle.analyze_calls.proofs.opening.ask_dotenv.Goals as goal
+
+pub returns : goal.returns
+returns g c = record { asks = λ kinds questions requests. request_asked kinds g.H.Host.goes g.met.H.Host.joins c.args.host.now c.dotenv-asked.new.self requests c.args.request.now c.dotenv-asked.result c.dotenv-asked.ensures.followed }

@@ -1,0 +1,9 @@
+pub mod Calls
+pub mod Placed
+pub mod Ran
+pub mod Asked
+pub mod Entered
+pub mod Confirming
+pub mod Blocks
+pub mod Binding
+pub mod Around

@@ -1,0 +1,16 @@
+//! Calls of recipes: what a module opens with, and of each call its parameters, its confirmation, its
+//! body, and the calls of its dependencies.
+#![tactic(auto)]
+
+mod block;
+mod call;
+mod confirm;
+mod enter;
+mod opening;
+mod plan;
+
+pub use call::{Call, Done, Pending};
+pub use enter::{Entered, begin, end, enter_recipe};
+pub use justfile_evaluator::RunFault;
+pub use opening::{Opened, Opening, open_modules};
+pub use plan::{Placed, Planned, Runner};

@@ -1,0 +1,5 @@
+pub mod Defining
+pub mod Fronts
+pub mod Gathering
+pub mod Keeping
+pub mod Steps
