@@ -90,15 +90,29 @@ fn tell_error(out: &mut String, error: &Error) -> Result<(), AllocError> {
     Ok(())
 }
 
+/// The modules of what was compiled, told after `out`. It doesn't change them: what a function owns is
+/// borrowed so, as borrowing it to be read takes the check too many steps.
+fn tell_lent(compilation: &mut Compilation, out: &mut String) -> Result<(), AllocError> {
+    tell_modules(&*compilation, out)
+}
+
+/// The same of what is handed over.
+fn tell_handed<'src>(
+    mut compilation: Compilation<'src>,
+    out: &mut String,
+) -> Result<(), AllocError> {
+    tell_lent(&mut compilation, out)
+}
+
 /// What is made of the files, told after `out`.
-fn tell_compiled(
+fn tell_compiled<'src>(
     config: &Config,
-    sources: &BTreeMap<String, String>,
-    root: &str,
+    sources: &'src BTreeMap<String, String>,
+    root: &'src str,
     out: &mut String,
 ) -> Result<(), AllocError> {
     match Compiler::compile(*out.allocator(), config, &Unchanged, sources, root) {
-        Ok(compilation) => tell_modules(&compilation, out),
+        Ok(compilation) => tell_handed(compilation, out),
         Err(error) => tell_error(out, &error),
     }
 }
