@@ -1,1 +1,10 @@
 pub mod Refusals
+pub mod Gathered
+pub mod Faults
+pub mod Cycles
+pub mod Variables
+pub mod Overrides
+pub mod Recipes
+pub mod Table
+pub mod Settling
+pub mod Analysis

@@ -1,4 +1,11 @@
 //! From modules to what is known of them.
+ghost use Rattle.std.specs.Prelude.{◌≡◌, ◌≢◌, IfErr, IfOk};
+ghost use Rattle.std.specs.String.{string_bytes};
+ghost use Rattle.resolve_recipes.specs.Named.{AllByName};
+ghost use Rattle.just_resolve.specs.Analysis.{IsAnalysis, IsKnown, IsRefused, IsRefusedWith};
+ghost use Rattle.just_resolve.specs.Table.{IsTable, IsTableRefused};
+ghost use Rattle.just_resolve.specs.declared.error.Error.TheVariants.{OutOfMemory};
+
 use crate::error::Error;
 use crate::known_values::known_values;
 use crate::module_variables::module_variables;
@@ -18,7 +25,13 @@ fn with_recipes<'a, 'src>(
     compilation: &'a Compilation<'src>,
     variables: ModuleVariables<'src, 'a>,
     values: Box<KnownValues>,
-) -> Result<Analysis<'src, 'a>, Error<'src>> {
+) -> Result<Analysis<'src, 'a>, Error<'src>>
+    ensures modules { IfOk result (λ analysis. analysis.modules.now ≡ compilation.now.modules.items) }
+    ensures variables { IfOk result (λ analysis. analysis.variables ≡ variables.entry) }
+    ensures values { IfOk result (λ analysis. analysis.values ≡ values) }
+    ensures table { IfOk result (λ analysis. AllByName compilation.now → IsTable compilation.now variables.entry.reads.items analysis.table.value) }
+    ensures refused { IfErr result (λ error. error ≢ OutOfMemory → AllByName compilation.now → IsTableRefused compilation.now variables.entry.reads.items error) }
+{
     let table = recipe_table(alloc, compilation, variables.reads.as_slice())?;
     Ok(Analysis {
         modules: compilation.modules.as_slice(),
@@ -35,7 +48,13 @@ fn analyzed<'a, 'src>(
     compilation: &'a Compilation<'src>,
     base: &str,
     overrides: BTreeMap<Number, String>,
-) -> Result<Analysis<'src, 'a>, Error<'src>> {
+) -> Result<Analysis<'src, 'a>, Error<'src>>
+    ensures modules { IfOk result (λ analysis. analysis.modules.now ≡ compilation.now.modules.items) }
+    ensures given { IfOk result (λ analysis. analysis.values.value.overrides ≡ overrides) }
+    ensures known { IfOk result (λ analysis. IsKnown compilation.now overrides base.now analysis.variables analysis.values.value) }
+    ensures table { IfOk result (λ analysis. AllByName compilation.now → IsTable compilation.now analysis.variables.reads.items analysis.table.value) }
+    ensures refused { IfErr result (λ error. error ≢ OutOfMemory → AllByName compilation.now → IsRefusedWith compilation.now overrides error) }
+{
     let variables = module_variables(alloc, compilation, &overrides)?;
     let values = known_values(
         alloc,
@@ -68,7 +87,10 @@ impl Analyzer {
         compilation: &'a Compilation<'src>,
         config: &Config,
         overrides: &[Override],
-    ) -> Result<Analysis<'src, 'a>, Error<'src>> {
+    ) -> Result<Analysis<'src, 'a>, Error<'src>>
+        ensures analysis { IfOk result (λ analysis. AllByName compilation.now → IsAnalysis compilation.now (string_bytes config.now.base) overrides.now analysis) }
+        ensures refused { IfErr result (λ error. error ≢ OutOfMemory → AllByName compilation.now → IsRefused compilation.now overrides.now error) }
+    {
         let overrides = resolve_overrides(alloc, compilation, overrides)?;
         analyzed(alloc, compilation, config.base.as_str(), overrides)
     }

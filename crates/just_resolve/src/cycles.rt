@@ -1,5 +1,14 @@
 //! Orders, and the names of what stands in a cycle.
+ghost use Rattle.std.specs.Prelude.{◌≡◌, ◌≢◌, IfErr, IfOk, List, OnOk, ℕ};
+ghost use Rattle.resolve_order.specs.Needs.{IsCycle, rows};
+ghost use Rattle.resolve_order.specs.Order.{IsOrder};
+ghost use Rattle.just_resolve.specs.Cycles as spec;
+ghost use Rattle.just_resolve.specs.Cycles.{IsCircularRecipe, IsCircularVariable, with_names};
+ghost use Rattle.just_resolve.specs.Variables.{IsOrderOf};
+ghost use Rattle.just_resolve.specs.declared.error.Error.TheVariants.{CircularRecipe, CircularVariable, OutOfMemory};
+
 use crate::error::Error;
+use evaluate_context::AssignmentRef;
 use just_text::{Name, Sequence};
 use resolve_analysis::{ModuleLists, ModuleReads, evaluation_order};
 use resolve_order::{OrderFault, order};
@@ -11,11 +20,13 @@ fn recipe_names<'src>(
     alloc: Global,
     nodes: &[RecipeNode<'src, '_>],
     places: &[usize],
-) -> Result<Sequence<Name<'src>>, AllocError> {
+) -> Result<Sequence<Name<'src>>, AllocError>
+    ensures { IfOk result (λ names. names ≡ spec.recipe_names nodes.now places.now) }
+{
     let mut names = Sequence::new(alloc);
     for place in places {
-        if *place < nodes.len() {
-            names.push(nodes[*place].recipe.name)?;
+        if let Some(node) = nodes.get(*place) {
+            names.push(node.recipe.name)?;
         }
     }
     Ok(names)
@@ -24,21 +35,24 @@ fn recipe_names<'src>(
 /// The names of the variables at these places.
 fn variable_names<'src>(
     alloc: Global,
-    lists: &ModuleLists<'src, '_>,
+    variables: &[AssignmentRef<'_, 'src>],
     places: &[usize],
-) -> Result<Sequence<Name<'src>>, AllocError> {
-    let assignments = lists.assignments.as_slice();
+) -> Result<Sequence<Name<'src>>, AllocError>
+    ensures { IfOk result (λ names. names ≡ spec.variable_names variables.now places.now) }
+{
     let mut names = Sequence::new(alloc);
     for place in places {
-        if *place < assignments.len() {
-            names.push(assignments[*place].assignment.name)?;
+        if let Some(variable) = variables.get(*place) {
+            names.push(variable.assignment.name)?;
         }
     }
     Ok(names)
 }
 
 /// That these recipes depend on each other.
-fn circular_recipe<'src>(names: Result<Sequence<Name<'src>>, AllocError>) -> Error<'src> {
+fn circular_recipe<'src>(names: Result<Sequence<Name<'src>>, AllocError>) -> Error<'src>
+    ensures { result ≡ with_names (λ told. CircularRecipe told) names.entry }
+{
     match names {
         Ok(names) => Error::CircularRecipe(names),
         Err(_) => Error::OutOfMemory,
@@ -46,7 +60,9 @@ fn circular_recipe<'src>(names: Result<Sequence<Name<'src>>, AllocError>) -> Err
 }
 
 /// That these variables read each other.
-fn circular_variable<'src>(names: Result<Sequence<Name<'src>>, AllocError>) -> Error<'src> {
+fn circular_variable<'src>(names: Result<Sequence<Name<'src>>, AllocError>) -> Error<'src>
+    ensures { result ≡ with_names (λ told. CircularVariable told) names.entry }
+{
     match names {
         Ok(names) => Error::CircularVariable(names),
         Err(_) => Error::OutOfMemory,
@@ -59,7 +75,11 @@ pub fn recipe_order<'src>(
     alloc: Global,
     nodes: &[RecipeNode<'src, '_>],
     needs: &[Vec<usize>],
-) -> Result<Vec<usize>, Error<'src>> {
+) -> Result<Vec<usize>, Error<'src>>
+    ensures order { IfOk result (λ places. IsOrder (rows needs.now) places.items) }
+    ensures no_cycle { OnOk result ((places : List ℕ) → IsCycle (rows needs.now) places → ⊥) }
+    ensures cycle { IfErr result (λ error. error ≢ OutOfMemory → IsCircularRecipe nodes.now (rows needs.now) error) }
+{
     match order(alloc, needs) {
         Ok(places) => Ok(places),
         Err(OrderFault::Cycle(places)) => Err(circular_recipe(recipe_names(
@@ -77,12 +97,15 @@ pub fn variables_in_order<'src>(
     alloc: Global,
     lists: &ModuleLists<'src, '_>,
     reads: &ModuleReads<'src>,
-) -> Result<Vec<usize>, Error<'src>> {
+) -> Result<Vec<usize>, Error<'src>>
+    ensures order { IfOk result (λ places. IsOrderOf lists.now reads.now places.items) }
+    ensures cycle { IfErr result (λ error. error ≢ OutOfMemory → IsCircularVariable lists.now (rows reads.now.graph.items) error) }
+{
     match evaluation_order(alloc, lists, reads) {
         Ok(places) => Ok(places),
         Err(OrderFault::Cycle(places)) => Err(circular_variable(variable_names(
             alloc,
-            lists,
+            lists.assignments.as_slice(),
             places.as_slice(),
         ))),
         Err(OrderFault::OutOfMemory) => Err(Error::OutOfMemory),

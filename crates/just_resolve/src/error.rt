@@ -1,8 +1,10 @@
 //! Why a justfile can't be resolved.
-ghost use Rattle.std.specs.Prelude.{◌≡◌};
+ghost use Rattle.std.specs.Prelude.{◌≡◌, ◌≢◌};
 ghost use Rattle.std.specs.Option.{option_map};
 ghost use Rattle.modules_compilation.specs.Refusals.{start_of};
+ghost use Rattle.modules_compilation.specs.declared.error.Error.TheVariants as compiling;
 ghost use Rattle.just_resolve.specs.Refusals as spec;
+ghost use Rattle.just_resolve.specs.declared.error.Error.TheVariants.{Compile, DependencyArgumentCount, ModuleAsRecipe, OutOfMemory, UnknownDependency};
 
 use just_text::{Name, Namepath, Sequence, Text, Token};
 use modules_compilation::path_token;
@@ -114,6 +116,10 @@ impl<T: Drop> From<AllocFailed<T>> for Error<'_> {
 }
 
 impl<'src> From<modules_compilation::Error<'src>> for Error<'src> {
+    ghost use Rattle.just_resolve.specs.Faults.{compile_error};
+
+    ghost from_gives = { λ refused error. error ≡ compile_error refused };
+
     fn from(error: modules_compilation::Error<'src>) -> Self {
         match error {
             modules_compilation::Error::OutOfMemory => Error::OutOfMemory,
@@ -123,6 +129,10 @@ impl<'src> From<modules_compilation::Error<'src>> for Error<'src> {
 }
 
 impl<'src> From<ReadFault<'src>> for Error<'src> {
+    ghost use Rattle.just_resolve.specs.Faults.{reading_error};
+
+    ghost from_gives = { λ fault error. error ≡ reading_error fault };
+
     fn from(fault: ReadFault<'src>) -> Self {
         match fault {
             ReadFault::OutOfMemory => Error::OutOfMemory,
@@ -136,6 +146,10 @@ impl<'src> From<ReadFault<'src>> for Error<'src> {
 }
 
 impl<'src> From<evaluate_context::Error<'src>> for Error<'src> {
+    ghost use Rattle.just_resolve.specs.Faults.{constant_error};
+
+    ghost from_gives = { λ refused error. error ≡ constant_error refused };
+
     fn from(error: evaluate_context::Error<'src>) -> Self {
         match error {
             evaluate_context::Error::OutOfMemory => Error::OutOfMemory,
@@ -149,7 +163,9 @@ fn argument_count<'src>(
     recipe: Name<'src>,
     dependency: &Namepath<'src>,
     found: usize,
-) -> Error<'src> {
+) -> Error<'src>
+    ensures { result ≢ OutOfMemory → result ≡ DependencyArgumentCount recipe.entry dependency.now found }
+{
     match dependency.clone() {
         Ok(dependency) => Error::DependencyArgumentCount {
             recipe,
@@ -161,7 +177,9 @@ fn argument_count<'src>(
 }
 
 /// That the path is a module's.
-fn module_as_recipe<'src>(path: &Namepath<'src>) -> Error<'src> {
+fn module_as_recipe<'src>(path: &Namepath<'src>) -> Error<'src>
+    ensures { result ≢ OutOfMemory → result ≡ ModuleAsRecipe path.now }
+{
     match path.clone() {
         Ok(path) => Error::ModuleAsRecipe(path),
         Err(_) => Error::OutOfMemory,
@@ -169,7 +187,9 @@ fn module_as_recipe<'src>(path: &Namepath<'src>) -> Error<'src> {
 }
 
 /// That the alias stands for nothing.
-fn unknown_alias_target<'src>(alias: Name<'src>, target: &Namepath<'src>) -> Error<'src> {
+fn unknown_alias_target<'src>(alias: Name<'src>, target: &Namepath<'src>) -> Error<'src>
+    ensures { result ≢ OutOfMemory → result ≡ Compile (compiling.UnknownAliasTarget alias.entry target.now) }
+{
     match target.clone() {
         Ok(target) => Error::Compile(modules_compilation::Error::UnknownAliasTarget {
             alias,
@@ -180,7 +200,9 @@ fn unknown_alias_target<'src>(alias: Name<'src>, target: &Namepath<'src>) -> Err
 }
 
 /// That the path is no recipe's.
-fn unknown_dependency<'src>(recipe: Name<'src>, dependency: &Namepath<'src>) -> Error<'src> {
+fn unknown_dependency<'src>(recipe: Name<'src>, dependency: &Namepath<'src>) -> Error<'src>
+    ensures { result ≢ OutOfMemory → result ≡ UnknownDependency recipe.entry dependency.now }
+{
     match dependency.clone() {
         Ok(dependency) => Error::UnknownDependency { recipe, dependency },
         Err(_) => Error::OutOfMemory,
@@ -189,6 +211,12 @@ fn unknown_dependency<'src>(recipe: Name<'src>, dependency: &Namepath<'src>) -> 
 
 /// It takes memory for paths; where that is refused memory ran out.
 impl<'src> From<DependencyFault<'_, 'src>> for Error<'src> {
+    ghost use Rattle.resolve_recipes.specs.Refusals.{told};
+    ghost use Rattle.just_resolve.specs.Faults.{naming_error};
+    ghost use Rattle.just_resolve.specs.declared.error.Error.TheVariants.{OutOfMemory};
+
+    ghost from_gives = { λ fault error. error ≢ OutOfMemory → error ≡ naming_error (told fault) };
+
     fn from(fault: DependencyFault<'_, 'src>) -> Self {
         match fault {
             DependencyFault::OutOfMemory => Error::OutOfMemory,

@@ -1,4 +1,9 @@
 //! What is known before anything is evaluated: the texts that words give, settings and folders.
+ghost use Rattle.std.specs.Prelude.{◌≡◌, ◌≢◌, IfErr, IfOk, map};
+ghost use Rattle.just_resolve.specs.Settling as spec;
+ghost use Rattle.just_resolve.specs.Settling.{AllSettled, AreConstantly, AreKnown, AreMany, AreUnknown, NotSettled};
+ghost use Rattle.just_resolve.specs.declared.error.Error.TheVariants.{OutOfMemory};
+
 use crate::error::Error;
 use crate::settled::settled;
 use evaluate_context::Settings;
@@ -11,13 +16,20 @@ use std::alloc::{AllocError, Global};
 use std::collections::BTreeMap;
 
 /// The folder of the file with this key: the parent of its path below the base.
-fn folder_of(alloc: Global, base: &str, key: &str) -> Result<Text, AllocError> {
+fn folder_of(alloc: Global, base: &str, key: &str) -> Result<Text, AllocError>
+    ensures { IfOk result (λ folder. folder ≡ spec.folder_of base.now key.now) }
+{
     let file = path::join(alloc, base, key)?;
-    Text::from_text(alloc, paths::parent(file.as_str()).unwrap_or(""))
+    match paths::parent(file.as_str()) {
+        Some(folder) => Text::from_text(alloc, folder),
+        None => Text::from_text(alloc, ""),
+    }
 }
 
 /// The folder of each module's file.
-fn folders(alloc: Global, modules: &[ModuleNode], base: &str) -> Result<Vec<Text>, AllocError> {
+fn folders(alloc: Global, modules: &[ModuleNode], base: &str) -> Result<Vec<Text>, AllocError>
+    ensures { IfOk result (λ folders. folders.items ≡ map (λ node. spec.folder_of base.now node.source.now) modules.now) }
+{
     let mut folders = Vec::new(alloc);
     for node in modules {
         folders.push(folder_of(alloc, base, node.source)?)?;
@@ -34,24 +46,34 @@ fn all_settled<'src>(
     orders: &[Vec<usize>],
     overrides: &BTreeMap<Number, String>,
     constants: &Scope<'_, 'src>,
-) -> Result<Vec<Settings>, Error<'src>> {
+) -> Result<Vec<Settings>, Error<'src>>
+    ensures settled { IfOk result (λ all. AreMany compilation.now lists.now reads.now orders.now overrides.now → AllSettled compilation.now lists.now reads.now orders.now overrides.now constants.now all.items) }
+    ensures refused { IfErr result (λ error. error ≢ OutOfMemory → NotSettled compilation.now lists.now reads.now orders.now overrides.now constants.now error) }
+{
     let modules = compilation.modules.as_slice();
-    let count = lists.len().min(reads.len()).min(orders.len());
     let mut all = Vec::new(alloc);
     for module in 0..modules.len() {
-        if module < count {
-            let settings = settled(
-                alloc,
-                compilation,
-                modules[module].sets.as_slice(),
-                &lists[module],
-                &reads[module],
-                orders[module].as_slice(),
-                overrides,
-                constants,
-            )?;
-            all.push(settings)?;
-        }
+        let Some(lists) = lists.get(module) else {
+            return Ok(all);
+        };
+        let Some(reads) = reads.get(module) else {
+            return Ok(all);
+        };
+        let Some(order) = orders.get(module) else {
+            return Ok(all);
+        };
+        let sets = modules[module].sets.as_slice();
+        let order = order.as_slice();
+        all.push(settled(
+            alloc,
+            compilation,
+            sets,
+            lists,
+            reads,
+            order,
+            overrides,
+            constants,
+        )?)?;
     }
     Ok(all)
 }
@@ -64,7 +86,10 @@ fn all_settings<'src>(
     reads: &[ModuleReads<'src>],
     orders: &[Vec<usize>],
     overrides: &BTreeMap<Number, String>,
-) -> Result<Vec<Settings>, Error<'src>> {
+) -> Result<Vec<Settings>, Error<'src>>
+    ensures settled { IfOk result (λ all. AreMany compilation.now lists.now reads.now orders.now overrides.now → AreConstantly compilation.now lists.now reads.now orders.now overrides.now all.items) }
+    ensures refused { IfErr result (λ error. error ≢ OutOfMemory → AreUnknown compilation.now lists.now reads.now orders.now overrides.now error) }
+{
     let constants = Scope::root(alloc)?;
     all_settled(
         alloc,
@@ -88,7 +113,11 @@ pub fn known_values<'src>(
     reads: &[ModuleReads<'src>],
     orders: &[Vec<usize>],
     overrides: BTreeMap<Number, String>,
-) -> Result<Box<KnownValues>, Error<'src>> {
+) -> Result<Box<KnownValues>, Error<'src>>
+    ensures known { IfOk result (λ known. AreMany compilation.now lists.now reads.now orders.now overrides → AreKnown compilation.now lists.now reads.now orders.now overrides base.now known.value) }
+    ensures given { IfOk result (λ known. known.value.overrides ≡ overrides) }
+    ensures refused { IfErr result (λ error. error ≢ OutOfMemory → AreUnknown compilation.now lists.now reads.now orders.now overrides error) }
+{
     let settings = all_settings(alloc, compilation, lists, reads, orders, &overrides)?;
     let folders = folders(alloc, compilation.modules.as_slice(), base)?;
     let known = KnownValues {

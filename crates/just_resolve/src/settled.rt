@@ -1,4 +1,18 @@
 //! The values of each module's settings.
+ghost use Rattle.std.specs.Prelude.{◌≡◌, ◌≢◌, ◌↔◌, ℕ, Err, IfErr, IfOk, Ok, OnOk, flat_map};
+ghost use Rattle.evaluate_context.specs.Defaults.{defaults};
+ghost use Rattle.evaluate_context.specs.Refusals.{fault_of};
+ghost use Rattle.evaluate_variables.specs.Settled.{reading_in};
+ghost use Rattle.meaning_dialogues.specs.Faults.{memory};
+ghost use Rattle.resolve_references.specs.ItemReferences.{references_of_set};
+ghost use Rattle.resolve_references.specs.Places.{places_of};
+ghost use Rattle.resolve_references.specs.declared.read_fault.ReadFault.TheVariants as reading;
+ghost use Rattle.resolve_analysis.specs.Lists.{numbers_in};
+ghost use Rattle.resolve_analysis.specs.Unions.{Has, IsMarkedNumber};
+ghost use Rattle.just_resolve.specs.Settling as spec;
+ghost use Rattle.just_resolve.specs.Settling.{AreConstants, AreNotSet, AreSet, AreSettled, AreSettledBy, AreUnsettled, AreUnsettledBy, set_at, set_lists, sets_at};
+ghost use Rattle.just_resolve.specs.declared.error.Error.TheVariants.{OutOfMemory};
+
 use crate::error::Error;
 use evaluate_context::{AssignmentRef, Settings};
 use evaluate_variables::{ConstEvaluator, evaluate_const_assignments};
@@ -17,7 +31,10 @@ fn reads_of_set<'src>(
     alloc: Global,
     resolver: &VariableResolver<'src>,
     set: &Set<'src>,
-) -> Result<Vec<usize>, ReadFault<'src>> {
+) -> Result<Vec<usize>, ReadFault<'src>>
+    ensures ok { IfOk result (λ places. places_of resolver.now (references_of_set set.now) ≡ Ok places.items) }
+    ensures err { IfErr result (λ fault. fault ≢ reading.OutOfMemory → places_of resolver.now (references_of_set set.now) ≡ Err fault) }
+{
     let references = set_references(alloc, set)?;
     resolver.resolve_references(alloc, &references)
 }
@@ -28,7 +45,10 @@ fn setting_reads<'src>(
     compilation: &Compilation<'src>,
     sets: &[Place],
     resolver: &VariableResolver<'src>,
-) -> Result<Vec<usize>, ReadFault<'src>> {
+) -> Result<Vec<usize>, ReadFault<'src>>
+    ensures ok { IfOk result (λ places. places_of resolver.now (flat_map references_of_set (sets_at compilation.now sets.now)) ≡ Ok places.items) }
+    ensures err { IfErr result (λ fault. fault ≢ reading.OutOfMemory → places_of resolver.now (flat_map references_of_set (sets_at compilation.now sets.now)) ≡ Err fault) }
+{
     let mut places = Vec::new(alloc);
     for place in sets {
         if let Some(set) = compilation.set(*place) {
@@ -44,22 +64,31 @@ fn marked_numbers(
     alloc: Global,
     lists: &ModuleLists,
     marks: &[Option<usize>],
-) -> Result<BTreeSet<Number>, AllocError> {
+) -> Result<BTreeSet<Number>, AllocError>
+    ensures { IfOk result (λ numbers. (number : ℕ) → Has numbers number ↔ IsMarkedNumber (numbers_in lists.now.assignments.items) marks.now number) }
+{
     let mut numbers = BTreeSet::new(alloc);
     add_marked(lists, &mut numbers, marks)?;
     Ok(numbers)
 }
 
 /// What the item at the place sets lists to, if it does.
-fn lists_at(compilation: &Compilation, place: Place) -> Option<bool> {
-    match &compilation.set(place)?.value {
-        Setting::Lists(value) => Some(*value),
-        _ => None,
+fn lists_at(compilation: &Compilation, place: Place) -> Option<bool>
+    ensures { result ≡ spec.lists_at compilation.now place }
+{
+    match compilation.set(place) {
+        Some(set) => match &set.value {
+            Setting::Lists(value) => Some(*value),
+            _ => None,
+        },
+        None => None,
     }
 }
 
 /// Whether one of the settings at these places sets lists.
-fn sets_lists(compilation: &Compilation, sets: &[Place]) -> bool {
+fn sets_lists(compilation: &Compilation, sets: &[Place]) -> bool
+    ensures { result ≡ set_lists compilation.now sets.now }
+{
     for place in sets {
         if let Some(value) = lists_at(compilation, *place) {
             return value;
@@ -75,7 +104,10 @@ fn constant_numbers<'src>(
     sets: &[Place],
     lists: &ModuleLists<'src, '_>,
     reads: &ModuleReads<'src>,
-) -> Result<BTreeSet<Number>, ReadFault<'src>> {
+) -> Result<BTreeSet<Number>, ReadFault<'src>>
+    ensures ok { IfOk result (λ numbers. AreConstants lists.now reads.now (sets_at compilation.now sets.now) numbers) }
+    ensures err { IfErr result (λ fault. fault ≢ reading.OutOfMemory → places_of reads.now.resolver (flat_map references_of_set (sets_at compilation.now sets.now)) ≡ Err fault) }
+{
     let places = setting_reads(alloc, compilation, sets, &reads.resolver)?;
     let marks = reads.reached(alloc, places.as_slice())?;
     Ok(marked_numbers(alloc, lists, marks.as_slice())?)
@@ -88,7 +120,10 @@ fn set_all<'src>(
     sets: &[Place],
     known: &ConstEvaluator<'_, 'src>,
     settings: &mut Settings,
-) -> Result<(), evaluate_context::Error<'src>> {
+) -> Result<(), evaluate_context::Error<'src>>
+    ensures set { OnOk result (AreSet (reading_in known.entry.now) known.entry.now.lists (sets_at compilation.entry.now sets.entry.now) settings.old settings.new) }
+    ensures refused { IfErr result (λ error. fault_of error ≢ memory → AreNotSet (reading_in known.entry.now) known.entry.now.lists (sets_at compilation.entry.now sets.entry.now) settings.old (fault_of error)) }
+{
     for place in sets {
         if let Some(set) = compilation.set(*place) {
             known.evaluate_set(alloc, settings, set)?;
@@ -103,7 +138,10 @@ fn settings_at<'src>(
     compilation: &Compilation<'src>,
     sets: &[Place],
     known: &ConstEvaluator<'_, 'src>,
-) -> Result<Settings, evaluate_context::Error<'src>> {
+) -> Result<Settings, evaluate_context::Error<'src>>
+    ensures set { IfOk result (λ settings. AreSet (reading_in known.now) known.now.lists (sets_at compilation.now sets.now) defaults settings) }
+    ensures refused { IfErr result (λ error. fault_of error ≢ memory → AreNotSet (reading_in known.now) known.now.lists (sets_at compilation.now sets.now) defaults (fault_of error)) }
+{
     let mut settings = Settings::new(alloc);
     match set_all(alloc, compilation, sets, known, &mut settings) {
         Ok(()) => Ok(settings),
@@ -125,7 +163,10 @@ fn known_settings<'src>(
     overrides: &BTreeMap<Number, String>,
     constants: &Scope<'_, 'src>,
     numbers: &BTreeSet<Number>,
-) -> Result<Settings, evaluate_context::Error<'src>> {
+) -> Result<Settings, evaluate_context::Error<'src>>
+    ensures settled { IfOk result (λ settings. AreSettledBy constants.now overrides.now compilation.now sets.now assignments.now order.now numbers.now settings) }
+    ensures refused { IfErr result (λ error. fault_of error ≢ memory → AreUnsettledBy constants.now overrides.now compilation.now sets.now assignments.now order.now numbers.now (fault_of error)) }
+{
     let lists = sets_lists(compilation, sets);
     let known = evaluate_const_assignments(
         alloc,
@@ -152,7 +193,10 @@ pub fn settled<'src>(
     order: &[usize],
     overrides: &BTreeMap<Number, String>,
     constants: &Scope<'_, 'src>,
-) -> Result<Settings, Error<'src>> {
+) -> Result<Settings, Error<'src>>
+    ensures settled { IfOk result (λ settings. AreSettled constants.now overrides.now compilation.now sets.now lists.now reads.now order.now settings) }
+    ensures refused { IfErr result (λ error. error ≢ OutOfMemory → AreUnsettled constants.now overrides.now compilation.now sets.now lists.now reads.now order.now error) }
+{
     let numbers = constant_numbers(alloc, compilation, sets, lists, reads)?;
     Ok(known_settings(
         alloc,

@@ -2,4 +2,5 @@ pub mod Defining
 pub mod Fronts
 pub mod Gathering
 pub mod Keeping
+pub mod Lists
 pub mod Steps

@@ -1,4 +1,6 @@
 //! The lists of what a module keeps.
+ghost use Rattle.std.specs.Prelude.{[], ◌∷◌, ◌≡◌, ◌++◌, OnOk};
+ghost use Rattle.modules_definitions.specs.Lists.{Gains};
 
 use crate::definition::{Definition, Kind};
 use just_text::Name;
@@ -6,27 +8,41 @@ use modules_compilation::{ModuleNode, Place, RecipeName};
 use std::alloc::AllocError;
 
 /// Puts the place after the others.
-fn add(list: &mut Vec<Place>, place: Place) -> Result<(), AllocError> {
+fn add(list: &mut Vec<Place>, place: Place) -> Result<(), AllocError>
+    ensures { OnOk result (list.new.items ≡ list.old.items ++ place ∷ []) }
+{
     list.push(place)?;
     Ok(())
 }
 
 /// Notes the submodule after the others.
-fn add_module(list: &mut Vec<usize>, module: usize) -> Result<(), AllocError> {
+fn add_module(list: &mut Vec<usize>, module: usize) -> Result<(), AllocError>
+    ensures { OnOk result (list.new.items ≡ list.old.items ++ «module» ∷ []) }
+{
     list.push(module)?;
     Ok(())
 }
 
 /// Notes the name after the others.
-fn add_name<'src>(list: &mut Vec<Name<'src>>, name: Name<'src>) -> Result<(), AllocError> {
+fn add_name<'src>(list: &mut Vec<Name<'src>>, name: Name<'src>) -> Result<(), AllocError>
+    ensures { OnOk result (list.new.items ≡ list.old.items ++ name.entry ∷ []) }
+{
     list.push(name)?;
     Ok(())
 }
 
-/// Notes the recipe after the others.
-fn add_recipe(node: &mut ModuleNode, front: u64, place: Place) -> Result<(), AllocError> {
-    node.recipes.push(place)?;
-    node.recipe_names.push(RecipeName { front, place })?;
+/// Notes the recipe, and the front of its name, after the others.
+fn add_recipe(
+    recipes: &mut Vec<Place>,
+    names: &mut Vec<RecipeName>,
+    front: u64,
+    place: Place,
+) -> Result<(), AllocError>
+    ensures places { OnOk result (recipes.new.items ≡ recipes.old.items ++ place ∷ []) }
+    ensures fronts { OnOk result (names.new.items ≡ names.old.items ++ record { front = front; place = place } ∷ []) }
+{
+    recipes.push(place)?;
+    names.push(RecipeName { front, place })?;
     Ok(())
 }
 
@@ -34,13 +50,18 @@ fn add_recipe(node: &mut ModuleNode, front: u64, place: Place) -> Result<(), All
 fn put<'src>(
     node: &mut ModuleNode<'src>,
     definition: &Definition<'src, '_>,
-) -> Result<(), AllocError> {
+) -> Result<(), AllocError>
+    ensures { OnOk result (Gains node.old.submodules.items node.old node.new (definition.now ∷ [])) }
+{
     match definition.kind {
         Kind::Alias => add(&mut node.aliases, definition.place),
         Kind::Disabled => add(&mut node.disabled, definition.place),
         Kind::Function => add(&mut node.functions, definition.place),
         Kind::Module(module) => add_module(&mut node.submodules, module),
-        Kind::Recipe => add_recipe(node, definition.front, definition.place),
+        Kind::Recipe => {
+            let names = &mut node.recipe_names;
+            add_recipe(&mut node.recipes, names, definition.front, definition.place)
+        }
         Kind::Set => add(&mut node.sets, definition.place),
         Kind::Unexport => add_name(&mut node.unexports, *definition.name),
         Kind::Variable => add(&mut node.assignments, definition.place),
@@ -51,7 +72,9 @@ fn put<'src>(
 pub fn put_all<'src>(
     node: &mut ModuleNode<'src>,
     kept: &[Definition<'src, '_>],
-) -> Result<(), AllocError> {
+) -> Result<(), AllocError>
+    ensures { OnOk result (Gains [] node.old node.new kept.now) }
+{
     node.submodules.clear();
     for definition in kept {
         put(node, definition)?;

@@ -1,4 +1,7 @@
 //! What evaluation sees of modules.
+ghost use Rattle.std.specs.Prelude.{◌≡◌, IfOk, length, map, option_map};
+ghost use Rattle.resolve_analysis.specs.Views.{seen, view_at, views_of};
+
 use crate::known_values::KnownValues;
 use crate::variables::ModuleVariables;
 use evaluate_context::ModuleView;
@@ -11,7 +14,9 @@ fn view_of<'l, 'a, 'src>(
     variables: &'l ModuleVariables<'src, 'a>,
     values: &'l KnownValues,
     module: usize,
-) -> Option<ModuleView<'l, 'src>> {
+) -> Option<ModuleView<'l, 'src>>
+    ensures { option_map seen result ≡ view_at modules.now variables.now values.now «module» }
+{
     let node = modules.get(module)?;
     let lists = variables.lists.get(module)?;
     let order = variables.orders.get(module)?;
@@ -37,7 +42,9 @@ pub fn views<'l, 'a, 'src>(
     modules: &'l [ModuleNode<'src>],
     variables: &'l ModuleVariables<'src, 'a>,
     values: &'l KnownValues,
-) -> Result<Vec<ModuleView<'l, 'src>>, AllocError> {
+) -> Result<Vec<ModuleView<'l, 'src>>, AllocError>
+    ensures { IfOk result (λ views. map seen views.items ≡ views_of modules.now variables.now values.now (length modules.now)) }
+{
     let mut views = Vec::new(alloc);
     for module in 0..modules.len() {
         if let Some(view) = view_of(modules, variables, values, module) {

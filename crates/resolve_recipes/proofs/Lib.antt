@@ -8,3 +8,5 @@ pub mod Standing
 pub mod Resolving
 pub mod Disabled
 pub mod Needing
+pub mod Ranking
+pub mod Leading

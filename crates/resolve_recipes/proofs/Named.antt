@@ -17,7 +17,6 @@ use Rattle.resolve_recipes.specs.Fronts.{front_of}
 use Rattle.resolve_recipes.specs.Named.{AllByName, AreByFront, AreByName, HasFront, IsByName, first_named, key_cmp, module_text, places_of, row_key, submodule_in, text_at}
 use Rattle.resolve_recipes.specs.Leading.{leads_from, module_from, name_texts}
 use Rattle.modules_compilation.specs.declared.module_node.ModuleNode.{ModuleNode}
-use Rattle.modules_compilation.specs.declared.compilation.Target.{Target}
 use Rattle.modules_compilation.specs.declared.compilation.Target.TheVariants.{Nothing, Recipe}
 use Rattle.modules_compilation.specs.declared.place.Place.{Place}
 use Rattle.just_text.specs.Tokens.{lexeme}

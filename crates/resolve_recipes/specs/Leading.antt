@@ -8,7 +8,7 @@ use Rattle.modules_compilation.specs.declared.compilation.Target.{Target}
 use Rattle.modules_compilation.specs.declared.compilation.Target.TheVariants.{Recipe, Module, Nothing}
 use Rattle.modules_compilation.specs.declared.module_node.ModuleNode.{ModuleNode}
 use Rattle.modules_compilation.specs.declared.place.Place.{Place}
-use Rattle.resolve_recipes.specs.Named.{recipe_of, submodule_in}
+use Rattle.resolve_recipes.specs.Named.{first_named, recipe_of, submodule_in, text_at}
 
 abbrev pub name_texts : List Name → List (List ℕ)
 name_texts names = map (λ name. lexeme name.token) names
@@ -17,6 +17,20 @@ name_texts names = map (λ name. lexeme name.token) names
 abbrev pub module_from : List ModuleNode → Option ℕ → List (List ℕ) → Option ℕ
 module_from modules place [] = place
 module_from modules place (name ∷ names) = module_from modules (option_and_then (λ place. submodule_in modules place name) place) names
+
+abbrev pub variable_of : Compilation → Option ModuleNode → List ℕ → Option Place
+variable_of compilation None name = None
+variable_of compilation (Some node) name = first_named (text_at compilation) node.assignments.items name
+
+-- where the variable of this name stands that the module at a place keeps
+abbrev pub variable_in : Compilation → Option ℕ → List ℕ → Option Place
+variable_in compilation place name = variable_of compilation (option_and_then (λ place. slice_get compilation.modules.items place) place) name
+
+-- where the variable stands to which names lead: those of submodules, and its own
+abbrev pub variable_from : Compilation → Option ℕ → List (List ℕ) → Option Place
+variable_from compilation place [] = None
+variable_from compilation place (name ∷ []) = variable_in compilation place name
+variable_from compilation place (name ∷ other ∷ names) = variable_from compilation (option_and_then (λ place. submodule_in compilation.modules.items place name) place) (other ∷ names)
 
 -- a recipe of the module at a place, or else a submodule
 abbrev pub recipe_or_module : ℕ → Option Place → Option ℕ → Target

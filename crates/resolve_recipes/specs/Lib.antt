@@ -9,3 +9,4 @@ pub mod Resolving
 pub mod Disabled
 pub mod Aliases
 pub mod Defaults
+pub mod Ranks

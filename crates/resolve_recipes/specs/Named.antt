@@ -63,10 +63,11 @@ AreByFront compilation rows = All (HasFront compilation) rows × IsSortedByKey (
 abbrev pub places_of : List RecipeName → List Place
 places_of rows = map (λ row. row.place) rows
 
--- A module's recipes stand in the order in which they are looked up, and its submodules and disabled recipes in byte order of their names.
+-- A module's recipes stand in the order in which they are looked up, and its variables, disabled recipes and submodules in byte order of their names.
 pub record IsByName (compilation : Compilation) (node : ModuleNode) : Type 0 where
   pub recipes : AreByFront compilation node.recipe_names.items
   pub places : places_of node.recipe_names.items ≡ node.recipes.items
+  pub variables : AreByName (text_at compilation) node.assignments.items
   pub disabled : AreByName (text_at compilation) node.disabled.items
   pub submodules : AreByName (module_text compilation.modules.items) node.submodules.items
 

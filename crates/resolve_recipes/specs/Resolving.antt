@@ -1,7 +1,6 @@
 -- The recipes that paths name, and the places of those that recipes depend on.
 use Rattle.std.specs.Prelude.{ℕ, Bool, true, false, List, [], ◌∷◌, ◌++◌, length, Option, Some, None, Result, Ok, Err, slice_get}
 use Rattle.just_text.specs.declared.name.Name.{Name}
-use Rattle.tree_items.specs.declared.recipe.Recipe.{Recipe as RecipeTree}
 use Rattle.tree_items.specs.declared.recipe.UnresolvedDependency.{UnresolvedDependency}
 use Rattle.modules_compilation.specs.declared.compilation.Compilation.{Compilation}
 use Rattle.modules_compilation.specs.declared.compilation.Target.{Target}

@@ -1,7 +1,9 @@
 //! What recipes depend on, by places.
 ghost use Rattle.std.specs.Prelude.{◌≡◌, ◌≢◌, ◌++◌, IfErr, IfOk, Ok, Err, map};
+ghost use Rattle.std.specs.List.{slice_set};
 ghost use Rattle.resolve_recipes.specs.Named.{AllByName};
 ghost use Rattle.resolve_recipes.specs.Nodes.{view};
+ghost use Rattle.resolve_recipes.specs.Ranks.{AreRanks};
 ghost use Rattle.resolve_recipes.specs.Refusals.{out_of_memory, told};
 ghost use Rattle.resolve_recipes.specs.Resolving as spec;
 
@@ -58,15 +60,23 @@ pub fn all_needs<'a, 'src>(
     Ok(all)
 }
 
+/// Notes the rank of the thing at the place, if there is one.
+fn note_rank(ranks: &mut [usize], place: usize, rank: usize)
+    ensures { ranks.new ≡ slice_set ranks.old place rank }
+{
+    if place < ranks.len() {
+        ranks[place] = rank;
+    }
+}
+
 /// At each place the place that it has in the order; 0 where the order doesn't have it. Refused only
 /// where memory runs out.
-pub fn ranks(alloc: Global, order: &[usize]) -> Result<Vec<usize>, AllocError> {
+pub fn ranks(alloc: Global, order: &[usize]) -> Result<Vec<usize>, AllocError>
+    ensures { IfOk result (λ ranks. AreRanks order.now ranks.items) }
+{
     let mut ranks = vec![in alloc; 0; order.len()]?;
     for rank in 0..order.len() {
-        let place = order[rank];
-        if place < ranks.len() {
-            ranks[place] = rank;
-        }
+        note_rank(&mut ranks, order[rank], rank);
     }
     Ok(ranks)
 }

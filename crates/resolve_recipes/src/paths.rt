@@ -2,11 +2,11 @@
 ghost use Rattle.std.specs.Prelude.{◌≡◌, Some, map, slice_get};
 ghost use Rattle.modules_compilation.specs.Modulepaths.{pieces};
 ghost use Rattle.resolve_recipes.specs.Named.{AllByName, submodule_in};
-ghost use Rattle.resolve_recipes.specs.Leading.{module_from, named_in, name_texts, target_in};
+ghost use Rattle.resolve_recipes.specs.Leading.{module_from, named_in, name_texts, target_in, variable_from, variable_in};
 
-use crate::search::{find_recipe, find_submodule};
+use crate::search::{find, find_recipe, find_submodule};
 use just_text::Name;
-use modules_compilation::{Compilation, Target};
+use modules_compilation::{Compilation, Place, Target};
 
 /// The module's submodule of this name, if there is one.
 fn submodule(compilation: &Compilation, module: usize, name: &str) -> Option<usize>
@@ -57,10 +57,20 @@ pub fn module_at(compilation: &Compilation, module: usize, names: &[Name]) -> Op
     Some(module)
 }
 
-/// The module to which the names lead from the root, with `::` between two, if there is one. Takes no
-/// memory.
-pub fn find_module(compilation: &Compilation, path: &str) -> Option<usize>
-    ensures { AllByName compilation.now → result ≡ module_from compilation.now.modules.items (Some 0) (pieces path.now) }
+/// Where the variable of this name stands that the module keeps, if it keeps one.
+fn variable(compilation: &Compilation, module: usize, name: &str) -> Option<Place>
+    ensures { AllByName compilation.now → result ≡ variable_in compilation.now (Some «module») name.now }
+{
+    match compilation.module(module) {
+        Some(node) => find(compilation, node.assignments.as_slice(), name),
+        None => None,
+    }
+}
+
+/// Where the variable stands that is called so, if it is kept: by its name in the root, or after the
+/// names of the modules that lead to it, with `::` between two. Takes no memory.
+pub fn find_variable(compilation: &Compilation, path: &str) -> Option<Place>
+    ensures { AllByName compilation.now → result ≡ variable_from compilation.now (Some 0) (pieces path.now) }
 {
     let mut module = 0;
     let mut rest = path;
@@ -68,5 +78,5 @@ pub fn find_module(compilation: &Compilation, path: &str) -> Option<usize>
         module = submodule(compilation, module, name)?;
         rest = others;
     }
-    submodule(compilation, module, rest)
+    variable(compilation, module, rest)
 }

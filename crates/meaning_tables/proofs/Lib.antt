@@ -1,0 +1,4 @@
+pub mod Gathered
+pub mod Ranked
+pub mod Kept
+pub mod Before

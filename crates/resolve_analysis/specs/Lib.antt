@@ -1,0 +1,5 @@
+pub mod Lists
+pub mod Unions
+pub mod Reads
+pub mod Opening
+pub mod Views
