@@ -1,3 +1,5 @@
+pub mod Exports
 pub mod ItemRules
+pub mod Keeping
 pub mod Lists
 pub mod Settings

@@ -1,12 +1,20 @@
 //! From texts to modules.
-ghost use Rattle.modules_definitions.specs.Keeping.{AreInOrder};
+ghost use Rattle.std.specs.Prelude.{[], ◌≡◌, ◌&&◌, ◌||◌, ℕ, List, IfErr, IfOk, OnOk, Ok, Err, Some, None, bytes_eq, slice_get};
+ghost use Rattle.modules_compilation.specs.declared.compilation.Compilation.{Compilation};
+ghost use Rattle.modules_compilation.specs.declared.module_node.ModuleNode.{ModuleNode};
+ghost use Rattle.modules_definitions.specs.Keeping.{AreInOrder, AreKept};
+ghost use Rattle.modules_definitions.specs.Lists.{Gains, is_same_kind};
+ghost use Rattle.modules_definitions.specs.declared.definition.Definition.{Definition};
+ghost use Rattle.modules_definitions.specs.declared.definition.Kind.TheVariants as kinds;
+ghost use Rattle.just_modules.specs.Exports as spec;
+ghost use Rattle.just_modules.specs.Keeping.{files_of, AreClear, AreFilled, AreKeptOf, AreRefused, AreRefusedIn, AreWhole, IsChangedAt, IsFilled, IsFirstRefused, IsRefused, IsSettled, Keeps, OrMemory};
 
 use crate::rules::check_files;
 use crate::truths::Truths;
 use just_host::Config;
 use justfile_syntax::{Alias, Expander, Item, Namepath};
 use modules_compilation::{Compilation, Error, File, ModuleNode, Place, Target};
-use modules_definitions::{Definition, FileRange, Kind, definitions, kept, put_all};
+use modules_definitions::{Allowed, Definition, FileRange, Kind, definitions, kept, put_all};
 use modules_sources::{Parsed, items_of, load_modules, load_root};
 use std::alloc::{AllocError, Global};
 use std::collections::{BTreeMap, BTreeSet};
@@ -14,22 +22,45 @@ use std::collections::{BTreeMap, BTreeSet};
 /// Makes modules of texts.
 pub struct Compiler;
 
+/// Whether a definition of the kind says that its name is not to be exported.
+fn is_unexport(kind: Kind) -> bool
+    ensures { result ≡ is_same_kind kinds.Unexport kind }
+{
+    matches!(kind, Kind::Unexport)
+}
+
+/// Puts the name with the others where the definition says that it is not to be exported.
+fn note_unexport<'src>(
+    names: &mut BTreeSet<&'src str>,
+    definition: &Definition<'src, '_>,
+) -> Result<(), AllocError>
+    ensures { OnOk result ((text : List ℕ) → spec.has_text names.new text ≡ (spec.has_text names.old text || (is_same_kind kinds.Unexport definition.now.kind && bytes_eq definition.now.text.now text))) }
+{
+    if !is_unexport(definition.kind) {
+        return Ok(());
+    }
+    names.insert(definition.text)?;
+    Ok(())
+}
+
 /// The names that are not to be exported.
 fn unexported<'src>(
     alloc: Global,
     definitions: &[Definition<'src, '_>],
-) -> Result<BTreeSet<&'src str>, AllocError> {
+) -> Result<BTreeSet<&'src str>, AllocError>
+    ensures { IfOk result (λ names. (text : List ℕ) → spec.has_text names text ≡ spec.is_unexported definitions.now text) }
+{
     let mut names = BTreeSet::new(alloc);
     for definition in definitions {
-        if definition.kind == Kind::Unexport {
-            names.insert(definition.text)?;
-        }
+        note_unexport(&mut names, definition)?;
     }
     Ok(names)
 }
 
 /// Whether the item is a variable that is exported by a word of its own.
-fn is_exported(item: &Item<'_>) -> bool {
+fn is_exported(item: &Item<'_>) -> bool
+    ensures { result ≡ spec.is_exported (Some item.now) }
+{
     match item {
         Item::Assignment(assignment) => assignment.export,
         _ => false,
@@ -37,28 +68,56 @@ fn is_exported(item: &Item<'_>) -> bool {
 }
 
 /// Whether the item at the place is a variable that is exported by a word of its own.
-fn exports_at(files: &[File<'_>], place: Place) -> bool {
+fn exports_at(files: &[File<'_>], place: Place) -> bool
+    ensures { result ≡ spec.exports_at files.now place }
+{
     if place.file >= files.len() {
         return false;
     }
-    let items = items_of(&files[place.file]);
-    place.item < items.len() && is_exported(&items[place.item])
+    match files[place.file].item(place.item) {
+        Some(item) => is_exported(item),
+        None => false,
+    }
+}
+
+/// Whether a definition of the kind is a variable's.
+fn is_variable(kind: Kind) -> bool
+    ensures { result ≡ is_same_kind kinds.Variable kind }
+{
+    matches!(kind, Kind::Variable)
 }
 
 /// Whether this defines a variable that is exported by a word of its own.
-fn exports(files: &[File<'_>], definition: &Definition<'_, '_>) -> bool {
-    definition.kind == Kind::Variable && exports_at(files, definition.place)
+fn exports(files: &[File<'_>], definition: &Definition<'_, '_>) -> bool
+    ensures { result ≡ spec.exports files.now definition.now }
+{
+    is_variable(definition.kind) && exports_at(files, definition.place)
 }
 
-/// Refuses a variable that is exported and whose name is not to be.
+/// Whether this defines a variable that is exported, and whose name is one of those that are not to
+/// be.
+fn is_refused(
+    files: &[File<'_>],
+    unexported: &BTreeSet<&str>,
+    definition: &Definition<'_, '_>,
+) -> bool
+    ensures { result ≡ (spec.exports files.now definition.now && spec.has_text unexported.now definition.now.text.now) }
+{
+    exports(files, definition) && unexported.contains(definition.text)
+}
+
+/// Refuses the first variable that is exported and whose name is not to be.
 fn check_exports<'src>(
     alloc: Global,
     files: &[File<'src>],
     definitions: &[Definition<'src, '_>],
-) -> Result<(), Error<'src>> {
+) -> Result<(), Error<'src>>
+    ensures clear { OnOk result (spec.first_unexported files.now definitions.now ≡ None) }
+    ensures broken { IfErr result (OrMemory (λ e. (d : Definition) × (spec.first_unexported files.now definitions.now ≡ Some d) × (e ≡ spec.export_refusal d))) }
+{
     let unexported = unexported(alloc, definitions)?;
     for definition in definitions {
-        if exports(files, definition) && unexported.contains(definition.text) {
+        if is_refused(files, &unexported, definition) {
             return Err(Error::ExportUnexported(*definition.name));
         }
     }
@@ -66,9 +125,29 @@ fn check_exports<'src>(
 }
 
 /// The files of the range.
-fn files_of<'file, 'src>(files: &'file [File<'src>], range: FileRange) -> &'file [File<'src>] {
+fn files_of<'file, 'src>(files: &'file [File<'src>], range: FileRange) -> &'file [File<'src>]
+    ensures { result.now ≡ files_of files.now range }
+{
     let end = range.end.min(files.len());
     &files[range.first.min(end)..end]
+}
+
+/// What is kept of the definitions, where they break no rule.
+fn kept_among<'src, 'a>(
+    alloc: Global,
+    files: &[File<'src>],
+    definitions: &[Definition<'src, 'a>],
+    allowed: Allowed,
+) -> Result<Vec<Definition<'src, 'a>>, Error<'src>>
+    requires { AreInOrder definitions.now }
+    ensures clear { OnOk result (AreClear files.now allowed definitions.now) }
+    ensures kept { IfOk result (λ kept. AreKept definitions.now kept.items) }
+    ensures refused { IfErr result (OrMemory (AreRefused files.now allowed definitions.now)) }
+{
+    match check_exports(alloc, files, definitions) {
+        Ok(()) => kept(alloc, definitions, allowed),
+        Err(refusal) => Err(refusal),
+    }
 }
 
 /// What the module keeps of its definitions, where they and its files, which are those of the range,
@@ -81,12 +160,35 @@ fn kept_of<'src, 'a>(
     config: &Config,
 ) -> Result<Vec<Definition<'src, 'a>>, Error<'src>>
     requires { AreInOrder definitions.now }
+    ensures kept { IfOk result (λ kept. AreKeptOf config.now.os config.now.unstable files.now range definitions.now kept.items) }
+    ensures refused { IfErr result (OrMemory (AreRefusedIn config.now.os config.now.unstable files.now range definitions.now)) }
 {
     let own = files_of(files, range);
     let truths = Truths::new(own, config.os, config.unstable);
-    check_files(own, &truths, config.os)?;
-    check_exports(alloc, files, definitions)?;
-    kept(alloc, definitions, truths.allowed())
+    match check_files(own, &truths, config.os) {
+        Ok(()) => kept_among(alloc, files, definitions, truths.allowed()),
+        Err(refusal) => Err(refusal),
+    }
+}
+
+/// What the module keeps.
+fn kept_in<'src, 'a>(
+    alloc: Global,
+    files: &'a [File<'src>],
+    modules: &[ModuleNode<'src>],
+    node: &ModuleNode<'src>,
+    config: &Config,
+) -> Result<Vec<Definition<'src, 'a>>, Error<'src>>
+    ensures kept { IfOk result (λ kept. Keeps config.now.os config.now.unstable files.now modules.now node.now kept.items) }
+    ensures refused { IfErr result (OrMemory (IsRefused config.now.os config.now.unstable files.now modules.now node.now)) }
+{
+    let range = FileRange {
+        first: node.first_file,
+        end: node.end_file,
+    };
+    let submodules = node.submodules.as_slice();
+    let definitions = definitions(alloc, files, range, modules, submodules, config.os)?;
+    kept_of(alloc, files, range, definitions.as_slice(), config)
 }
 
 /// What the module at the place keeps; nothing where there is no module.
@@ -96,17 +198,29 @@ fn kept_at<'src, 'a>(
     modules: &[ModuleNode<'src>],
     place: usize,
     config: &Config,
-) -> Result<Vec<Definition<'src, 'a>>, Error<'src>> {
+) -> Result<Vec<Definition<'src, 'a>>, Error<'src>>
+    ensures kept { IfOk result (λ kept. (node : ModuleNode) → slice_get modules.now place ≡ Some node → Keeps config.now.os config.now.unstable files.now modules.now node kept.items) }
+    ensures none { IfOk result (λ kept. slice_get modules.now place ≡ None → kept.items ≡ []) }
+    ensures refused { IfErr result (OrMemory (λ e. (node : ModuleNode) × (slice_get modules.now place ≡ Some node) × IsRefused config.now.os config.now.unstable files.now modules.now node e)) }
+{
     if place >= modules.len() {
         return Ok(Vec::new(alloc));
     }
-    let range = FileRange {
-        first: modules[place].first_file,
-        end: modules[place].end_file,
-    };
-    let submodules = modules[place].submodules.as_slice();
-    let definitions = definitions(alloc, files, range, modules, submodules, config.os)?;
-    kept_of(alloc, files, range, definitions.as_slice(), config)
+    kept_in(alloc, files, modules, &modules[place], config)
+}
+
+/// Puts the definitions that are kept into the lists of the module at the place.
+fn fill<'src>(
+    modules: &mut Vec<ModuleNode<'src>>,
+    place: usize,
+    kept: &[Definition<'src, '_>],
+) -> Result<(), AllocError>
+    ensures { OnOk result (IsChangedAt place (λ before after. Gains [] before after kept.now) modules.old.items modules.new.items) }
+{
+    match modules.get_mut(place) {
+        Some(node) => put_all(node, kept),
+        None => Ok(()),
+    }
 }
 
 /// Fills the lists of the module at the place.
@@ -115,13 +229,19 @@ fn keep<'src>(
     compilation: &mut Compilation<'src>,
     place: usize,
     config: &Config,
-) -> Result<(), Error<'src>> {
+) -> Result<(), Error<'src>>
+    ensures files { OnOk result (compilation.new.files.items ≡ compilation.old.files.items) }
+    ensures filled { OnOk result (IsChangedAt place (IsFilled config.now.os config.now.unstable compilation.old.files.items compilation.old.modules.items) compilation.old.modules.items compilation.new.modules.items) }
+    ensures refused { IfErr result (OrMemory (λ e. (node : ModuleNode) × (slice_get compilation.old.modules.items place ≡ Some node) × IsRefused config.now.os config.now.unstable compilation.old.files.items compilation.old.modules.items node e)) }
+{
     let files = compilation.files.as_slice();
-    let kept = kept_at(alloc, files, compilation.modules.as_slice(), place, config)?;
-    if let Some(node) = compilation.modules.get_mut(place) {
-        put_all(node, kept.as_slice())?;
+    match kept_at(alloc, files, compilation.modules.as_slice(), place, config) {
+        Ok(kept) => {
+            fill(&mut compilation.modules, place, kept.as_slice())?;
+            Ok(())
+        }
+        Err(refusal) => Err(refusal),
     }
-    Ok(())
 }
 
 /// Fills the lists of all modules.
@@ -129,9 +249,15 @@ fn keep_all<'src>(
     alloc: Global,
     compilation: &mut Compilation<'src>,
     config: &Config,
-) -> Result<(), Error<'src>> {
+) -> Result<(), Error<'src>>
+    ensures filled { OnOk result (AreFilled config.now.os config.now.unstable compilation.old compilation.new) }
+    ensures refused { IfErr result (OrMemory (IsFirstRefused config.now.os config.now.unstable compilation.old)) }
+{
     for place in 0..compilation.modules.len() {
-        keep(alloc, compilation, place, config)?;
+        match keep(alloc, compilation, place, config) {
+            Ok(()) => {}
+            Err(refusal) => return Err(refusal),
+        }
     }
     Ok(())
 }
@@ -211,9 +337,13 @@ fn settle<'src>(
     alloc: Global,
     compilation: &mut Compilation<'src>,
     config: &Config,
-) -> Result<(), Error<'src>> {
-    keep_all(alloc, compilation, config)?;
-    check_all_aliases(compilation)
+) -> Result<(), Error<'src>>
+    ensures { OnOk result (AreFilled config.now.os config.now.unstable compilation.old compilation.new) }
+{
+    match keep_all(alloc, compilation, config) {
+        Ok(()) => check_all_aliases(compilation),
+        Err(refusal) => Err(refusal),
+    }
 }
 
 /// The modules with their lists, where they were loaded and break no rule.
@@ -221,7 +351,10 @@ fn settled<'src>(
     alloc: Global,
     config: &Config,
     loaded: Result<Compilation<'src>, Error<'src>>,
-) -> Result<Compilation<'src>, Error<'src>> {
+) -> Result<Compilation<'src>, Error<'src>>
+    ensures filled { IfOk result (λ compilation. (before : Compilation) × (loaded.entry ≡ Ok before) × AreFilled config.now.os config.now.unstable before compilation) }
+    ensures refused { IfErr loaded.entry (λ error. result ≡ Err error) }
+{
     match loaded {
         Ok(mut compilation) => {
             let outcome = settle(alloc, &mut compilation, config);
@@ -244,7 +377,10 @@ impl Compiler {
         expander: &E,
         sources: &'src BTreeMap<String, String>,
         root: &'src str,
-    ) -> Result<Compilation<'src>, Error<'src>> {
+    ) -> Result<Compilation<'src>, Error<'src>>
+        ensures filled { IfOk result (IsSettled config.now.os config.now.unstable) }
+        ensures whole { IfOk result (AreWhole config.now.os config.now.unstable) }
+    {
         let loaded = load_root(alloc, config, expander, sources, root);
         settled(alloc, config, loaded)
     }
@@ -257,7 +393,10 @@ impl Compiler {
         sources: &'src BTreeMap<String, String>,
         root: &'src str,
         parsed: Parsed<'src>,
-    ) -> Result<Compilation<'src>, Error<'src>> {
+    ) -> Result<Compilation<'src>, Error<'src>>
+        ensures filled { IfOk result (IsSettled config.now.os config.now.unstable) }
+        ensures whole { IfOk result (AreWhole config.now.os config.now.unstable) }
+    {
         let loaded = load_modules(alloc, config, expander, sources, root, parsed);
         settled(alloc, config, loaded)
     }

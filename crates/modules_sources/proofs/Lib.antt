@@ -1,0 +1,9 @@
+pub mod Outcomes
+pub mod Chains
+pub mod Gathering
+pub mod Waiting
+pub mod Importing
+pub mod Reaching
+pub mod Circles
+pub mod Loading
+pub mod Noting

@@ -1,13 +1,18 @@
 //! Loading files into modules.
-ghost use Rattle.std.specs.Prelude.{◌≡◌, ◌+◌, ◌<◌, length, true, IfOk, OnOk};
+ghost use Rattle.std.specs.Prelude.{◌≡◌, ◌≢◌, ◌+◌, ◌++◌, ◌∷◌, [], ◌<◌, ◌≤◌, length, map, List, Ok, Err, true, false, IfErr, IfOk, OnOk};
+ghost use Rattle.modules_compilation.specs.declared.error.Error.TheVariants as refusals;
+ghost use Rattle.modules_compilation.specs.declared.module_node.File.{File as LoadedFile};
+ghost use Rattle.modules_files.specs.Chosen.{view};
+ghost use Rattle.modules_sources.specs.Loading.{AreRead, IsRead, IsTurn, IsTurnRefused, IsUnread, IsUnreadAmong, refusal_by};
 
 use crate::imports::{Reached, depth_behind};
 use crate::nodes::add_node;
 use crate::queue::{Pending, Queue};
 use crate::submodules::find_all;
 use just_host::Config;
+use just_text::CompileErrorKind;
 use just_value::CONSTANT_COUNT;
-use justfile_syntax::{Ast, Expander, Numerator, Os, Parser};
+use justfile_syntax::{Ast, CompileError, Expander, Numerator, Os, Parser};
 use modules_compilation::{Compilation, Error, File, Source, is_clean};
 use modules_files::{Files, Folders, file_at};
 use std::alloc::{AllocError, Global};
@@ -34,6 +39,16 @@ impl<E> Clone for Loader<'_, '_, E> {
 
 impl<E> Copy for Loader<'_, '_, E> {}
 
+/// The refusal of a text.
+fn refusal_of<'src>(error: CompileError<'src>) -> Error<'src>
+    ensures { result ≡ refusal_by error.entry.kind error.entry }
+{
+    match error.kind {
+        CompileErrorKind::OutOfMemory => Error::OutOfMemory,
+        _ => Error::Syntax(error),
+    }
+}
+
 /// The file for the module, with its tree. Refused as the parser refuses its text.
 fn read_file<'src, E: Expander>(
     alloc: Global,
@@ -43,7 +58,10 @@ fn read_file<'src, E: Expander>(
     source: Source<'src>,
     module: usize,
     depth: u32,
-) -> Result<File<'src>, Error<'src>> {
+) -> Result<File<'src>, Error<'src>>
+    ensures read { IfOk result (λ file. IsRead (E.expansion expander.now) config.now.version «module» depth (view source.entry) numerator.old numerator.new file) }
+    ensures refused { IfErr result (λ refusal. IsUnread (E.expansion expander.now) config.now.version «module» depth (view source.entry) numerator.new refusal) }
+{
     let version = &config.version;
     match Parser::parse_source(alloc, source.key, source.text, expander, version, numerator) {
         Ok(ast) => Ok(File {
@@ -52,7 +70,7 @@ fn read_file<'src, E: Expander>(
             depth,
             ast,
         }),
-        Err(error) => Err(Error::from(error)),
+        Err(error) => Err(refusal_of(error)),
     }
 }
 
@@ -60,14 +78,13 @@ fn read_file<'src, E: Expander>(
 fn add_file<'src>(
     files: &mut Vec<File<'src>>,
     read: Result<File<'src>, Error<'src>>,
-) -> Result<(), Error<'src>> {
-    match read {
-        Ok(file) => match files.push(file) {
-            Ok(()) => Ok(()),
-            Err(_) => Err(Error::OutOfMemory),
-        },
-        Err(error) => Err(error),
-    }
+) -> Result<(), Error<'src>>
+    ensures added { OnOk result ((file : LoadedFile) × (read.entry ≡ Ok file) × (files.new.items ≡ files.old.items ++ file ∷ [])) }
+    ensures refused { IfErr result (λ refusal. refusal ≢ refusals.OutOfMemory → read.entry ≡ Err refusal) }
+{
+    let file = read?;
+    files.push(file)?;
+    Ok(())
 }
 
 impl<'src, 'a, E: Expander> Loader<'src, 'a, E> {
@@ -80,7 +97,10 @@ impl<'src, 'a, E: Expander> Loader<'src, 'a, E> {
         source: Source<'src>,
         module: usize,
         depth: u32,
-    ) -> Result<(), Error<'src>> {
+    ) -> Result<(), Error<'src>>
+        ensures read { OnOk result ((file : LoadedFile) × IsRead (E.expansion self.now.expander.now) self.now.config.now.version «module» depth (view source.entry) numerator.old numerator.new file × (files.new.items ≡ files.old.items ++ file ∷ [])) }
+        ensures refused { IfErr result (λ refusal. refusal ≢ refusals.OutOfMemory → IsUnread (E.expansion self.now.expander.now) self.now.config.now.version «module» depth (view source.entry) numerator.new refusal) }
+    {
         let read = read_file(
             alloc,
             self.config,
@@ -102,7 +122,10 @@ impl<'src, 'a, E: Expander> Loader<'src, 'a, E> {
         new: &[Source<'src>],
         module: usize,
         depth: u32,
-    ) -> Result<(), Error<'src>> {
+    ) -> Result<(), Error<'src>>
+        ensures read { OnOk result ((more : List LoadedFile) × AreRead (E.expansion self.now.expander.now) self.now.config.now.version «module» depth (map view new.now) numerator.old more numerator.new × (files.new.items ≡ files.old.items ++ more)) }
+        ensures refused { IfErr result (λ refusal. refusal ≢ refusals.OutOfMemory → IsUnreadAmong (E.expansion self.now.expander.now) self.now.config.now.version «module» depth (map view new.now) numerator.old refusal) }
+    {
         for source in new {
             self.load_file(alloc, files, numerator, *source, module, depth)?;
         }
@@ -119,7 +142,11 @@ impl<'src, 'a, E: Expander> Loader<'src, 'a, E> {
         reached: &mut Reached<'src>,
         module: usize,
         place: usize,
-    ) -> Result<bool, Error<'src>> {
+    ) -> Result<bool, Error<'src>>
+        ensures turn { IfOk result (λ followed. followed ≡ true → IsTurn self.now.files.sources.now (E.expansion self.now.expander.now) self.now.config.now.version «module» place files.old.items files.new.items reached.old reached.new numerator.old numerator.new) }
+        ensures ended { IfOk result (λ followed. followed ≡ false → (length files.old.items ≤ place) × (files.new ≡ files.old) × (reached.new ≡ reached.old) × (numerator.new ≡ numerator.old)) }
+        ensures refused { IfErr result (λ refusal. refusal ≢ refusals.OutOfMemory → IsTurnRefused self.now.files.sources.now (E.expansion self.now.expander.now) self.now.config.now.version «module» place files.old.items reached.old numerator.old refusal) }
+    {
         let all = files.as_slice();
         if place >= all.len() {
             return Ok(false);

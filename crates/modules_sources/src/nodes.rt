@@ -1,5 +1,7 @@
 //! Modules as they are loaded.
-ghost use Rattle.std.specs.Prelude.{◌≡◌, ◌+◌, length, OnOk};
+ghost use Rattle.std.specs.Prelude.{◌≡◌, ◌+◌, ◌++◌, ◌∷◌, [], length, OnOk};
+ghost use Rattle.modules_compilation.specs.declared.module_node.ModuleNode.{ModuleNode as Node};
+ghost use Rattle.modules_sources.specs.Nodes.{IsNodeOf, IsNoted};
 
 use crate::queue::Pending;
 use modules_compilation::{Compilation, ModuleNode};
@@ -11,7 +13,9 @@ fn new_node<'src>(
     pending: &Pending<'src>,
     first_file: usize,
     end_file: usize,
-) -> ModuleNode<'src> {
+) -> ModuleNode<'src>
+    ensures { IsNodeOf pending.now first_file end_file result }
+{
     ModuleNode {
         parent: pending.parent,
         name: pending.name,
@@ -37,13 +41,17 @@ fn note_submodule(
     parent: Option<usize>,
     submodule: usize,
 ) -> Result<(), AllocError>
-    ensures { OnOk result (length compilation.new.modules.items ≡ length compilation.old.modules.items) }
+    ensures as_many { OnOk result (length compilation.new.modules.items ≡ length compilation.old.modules.items) }
+    ensures noted { OnOk result (IsNoted parent submodule compilation.old.modules.items compilation.new.modules.items) }
+    ensures files { OnOk result (compilation.new.files ≡ compilation.old.files) }
 {
-    if let Some(parent) = parent {
-        if let Some(node) = compilation.modules.get_mut(parent) {
-            node.submodules.push(submodule)?;
-        }
+    let Some(parent) = parent else {
+        return Ok(());
+    };
+    if parent >= compilation.modules.len() {
+        return Ok(());
     }
+    compilation.modules[parent].submodules.push(submodule)?;
     Ok(())
 }
 
@@ -55,7 +63,9 @@ pub fn add_node<'src>(
     pending: &Pending<'src>,
     first_file: usize,
 ) -> Result<(), AllocError>
-    ensures { OnOk result (length compilation.new.modules.items ≡ length compilation.old.modules.items + 1) }
+    ensures one_more { OnOk result (length compilation.new.modules.items ≡ length compilation.old.modules.items + 1) }
+    ensures node { OnOk result ((node : Node) × IsNodeOf pending.now first_file (length compilation.old.files.items) node × IsNoted pending.now.parent (length compilation.old.modules.items) (compilation.old.modules.items ++ node ∷ []) compilation.new.modules.items) }
+    ensures files { OnOk result (compilation.new.files.items ≡ compilation.old.files.items) }
 {
     let place = compilation.modules.len();
     let node = new_node(alloc, pending, first_file, compilation.files.len());
