@@ -16,6 +16,7 @@ use justfile_syntax::{Alias, Expander, Item, Namepath};
 use modules_compilation::{Compilation, Error, File, ModuleNode, Place, Target};
 use modules_definitions::{Allowed, Definition, FileRange, Kind, definitions, kept, put_all};
 use modules_sources::{Parsed, items_of, load_modules, load_root};
+use resolve_recipes::target;
 use std::alloc::{AllocError, Global};
 use std::collections::{BTreeMap, BTreeSet};
 
@@ -276,7 +277,7 @@ fn check_alias<'src>(
     module: usize,
     alias: &Alias<'src, Namepath<'src>>,
 ) -> Result<(), Error<'src>> {
-    match compilation.target(module, alias.target.names()) {
+    match target(compilation, module, alias.target.names()) {
         Target::Nothing => Err(unknown_target(alias)?),
         Target::Recipe { .. } | Target::Module(_) => Ok(()),
     }

@@ -1,5 +1,5 @@
 -- What a compilation stands for: files, modules and lists of places, told by keys and names.
-use Rattle.std.specs.Prelude.{◌≡◌, ◌⊎◌, ◌≤◌, ◌<◌, ◌+◌, ◌*◌, ◌-◌, ◌↔◌, ℕ, min, true, false, fold, List, ◌∷◌, ◌++◌, Option, Some, None, map, length, slice_get, take, drop, Contains, []}
+use Rattle.std.specs.Prelude.{◌≡◌, ◌⊎◌, ◌≤◌, ◌<◌, ◌+◌, ◌-◌, ◌↔◌, ℕ, min, true, false, List, Option, Some, None, map, length, slice_get, take, drop, Contains, []}
 use Rattle.std.specs.List.{flat_map}
 use Rattle.std.specs.List.Sorted.{IsStrictlySortedBy}
 use Rattle.std.specs.Ordering.{nat_cmp}
@@ -10,6 +10,7 @@ use Rattle.tree_items.specs.Items.{ModuleShape}
 use Rattle.tree_attributes.specs.Attributes.{AttributeShape}
 use Rattle.tree_items.specs.Recipes.{RecipeShape}
 use Rattle.modules_compilation.specs.declared.place.Place.{Place}
+use Rattle.modules_compilation.specs.Fronts.{front_of}
 use Rattle.modules_compilation.specs.Tables.{text_cmp}
 use Rattle.meaning_worlds.specs.Given.{Text, World, filled}
 use Rattle.meaning_worlds.specs.Sources.{IsDepth, MayMean, enabled}
@@ -44,10 +45,6 @@ pub record NodeView : Type 0 where
   pub sets : List Place
   pub unexports : List Text
   pub submodules : List ℕ
-
--- the first eight bytes of a name as a number, missing ones as zeros
-abbrev pub front_of : Text → ℕ
-front_of name = fold (λ number byte. number * 256 + byte) 0 (take 8 (name ++ 0 ∷ 0 ∷ 0 ∷ 0 ∷ 0 ∷ 0 ∷ 0 ∷ 0 ∷ []))
 
 -- by name, file and item
 abbrev pub IsBefore : Text × Place → Text × Place → Type 0

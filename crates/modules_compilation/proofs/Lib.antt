@@ -3,3 +3,4 @@ pub mod Walks
 pub mod Keys
 pub mod Pieces
 pub mod Upward
+pub mod Fronted

@@ -3,3 +3,4 @@ pub mod Refusals
 pub mod Paths
 pub mod Modulepaths
 pub mod Tables
+pub mod Fronts

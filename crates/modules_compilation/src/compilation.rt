@@ -6,10 +6,8 @@ ghost use Rattle.modules_compilation.specs.Places as spec;
 use crate::error::Error;
 use crate::module_node::{File, ModuleNode};
 use crate::place::Place;
-use crate::recipe_name::{RecipeName, front};
 use just_text::{Name, Namepath};
 use std::alloc::{AllocError, Global};
-use std::cmp::Ordering;
 use tree_items::{Alias, Assignment, FunctionDefinition, Item, Recipe, Set, UnresolvedDependency};
 
 /// All files, and the modules that take them, of which each stands after its parent; the root is
@@ -162,97 +160,5 @@ impl<'src> Compilation<'src> {
             Some(Item::Unexport(unexport)) => Some(unexport.name),
             _ => None,
         }
-    }
-
-    /// The recipe of this name that the module keeps, if there is one.
-    pub fn find_recipe(&self, node: &ModuleNode<'src>, name: &str) -> Option<Place> {
-        let wanted = front(name);
-        let mut rest = node.recipe_names.as_slice();
-        while !rest.is_empty() {
-            let (before, back) = rest.split_at(rest.len() / 2);
-            let Some((middle, behind)) = back.split_first() else {
-                return None;
-            };
-            match self.compare(name, wanted, *middle) {
-                Ordering::Less => rest = before,
-                Ordering::Equal => return Some(middle.place),
-                Ordering::Greater => rest = behind,
-            }
-        }
-        None
-    }
-
-    /// The name, which has this front, beside that of a recipe, whose text is read only where both
-    /// have one front.
-    fn compare(&self, name: &str, front: u64, recipe: RecipeName) -> Ordering {
-        match front.cmp(&recipe.front) {
-            Ordering::Equal => name.cmp(self.text(recipe.place)),
-            other => other,
-        }
-    }
-
-    /// The submodule of this name, if there is one.
-    pub fn find_module(&self, node: &ModuleNode<'src>, name: &str) -> Option<usize> {
-        let mut rest = node.submodules.as_slice();
-        while !rest.is_empty() {
-            let (front, back) = rest.split_at(rest.len() / 2);
-            let Some((middle, behind)) = back.split_first() else {
-                return None;
-            };
-            match name.cmp(self.module_text(*middle)) {
-                Ordering::Less => rest = front,
-                Ordering::Equal => return Some(*middle),
-                Ordering::Greater => rest = behind,
-            }
-        }
-        None
-    }
-
-    /// The name's text of the item at the place, empty where it has none.
-    fn text(&self, place: Place) -> &'src str
-        ensures { result.now ≡ spec.text_of (spec.name_at self.now place) }
-    {
-        match self.name(place) {
-            Some(name) => name.lexeme(),
-            None => "",
-        }
-    }
-
-    /// The name's text of the module at the place, empty where it has none.
-    fn module_text(&self, module: usize) -> &'src str {
-        match self.modules.get(module) {
-            Some(node) => match &node.name {
-                Some(name) => name.lexeme(),
-                None => "",
-            },
-            None => "",
-        }
-    }
-
-    /// What the name leads to in a module: a recipe, a submodule, or neither. Aliases don't count.
-    fn step(&self, module: usize, name: &str) -> Target {
-        let Some(node) = self.modules.get(module) else {
-            return Target::Nothing;
-        };
-        match self.find_recipe(node, name) {
-            Some(place) => Target::Recipe { module, place },
-            None => match self.find_module(node, name) {
-                Some(module) => Target::Module(module),
-                None => Target::Nothing,
-            },
-        }
-    }
-
-    /// What the path leads to from the module on: each name but the last is a submodule's, and the
-    /// last that of a recipe or of a submodule. Aliases don't count, nor do disabled recipes.
-    pub fn target(&self, module: usize, names: &[Name<'src>]) -> Target {
-        let mut target = Target::Module(module);
-        for name in names {
-            match target {
-                Target::Module(module) => target = self.step(module, name.lexeme()),
-                Target::Recipe { .. } | Target::Nothing => return Target::Nothing,
-            }
-        }
-        target
     }
 }

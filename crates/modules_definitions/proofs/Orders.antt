@@ -3,7 +3,7 @@ use Rattle.std.proofs.Common.{◌≡◌, ◌∙◌, ◌<◌, ◌≤◌, ◌+◌,
 use Rattle.std.specs.Prelude.{◌≢◌, Contains, slice_get}
 use Rattle.std.specs.List.Sorted.{IsSorted}
 use Rattle.std.proofs.lemmas.List.{get_or_default}
-use Rattle.modules_definitions.specs.Fronts.{AreBytes, front_of}
+use Rattle.modules_compilation.specs.Fronts.{AreBytes, front_of}
 use Rattle.modules_definitions.proofs.Fronts.{fronts_agree}
 use Rattle.std.specs.Cmp.{IsStrictWeakOrder, IsTotalOrder, tied_itself}
 use Rattle.std.specs.Cmp.Lexicographic.{slice_cmp}

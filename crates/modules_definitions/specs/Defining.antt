@@ -12,7 +12,7 @@ use Rattle.modules_compilation.specs.declared.module_node.ModuleNode.{ModuleNode
 use Rattle.modules_compilation.specs.declared.place.Place.{Place}
 use Rattle.tree_attribute_sets.specs.Sets.{is_enabled, items_of}
 use Rattle.modules_compilation.specs.Places.{items_in}
-use Rattle.modules_definitions.specs.Fronts.{AreBytes, front_of}
+use Rattle.modules_compilation.specs.Fronts.{AreBytes, front_of}
 use Rattle.modules_definitions.specs.declared.definition.Definition.{Definition}
 use Rattle.modules_definitions.specs.declared.definition.Kind.{Kind}
 use Rattle.modules_definitions.specs.declared.definition.Kind.TheVariants.{Alias as AliasKind, Disabled as DisabledKind, Function as FunctionKind, Module as ModuleKind, Recipe as RecipeKind, Set as SetKind, Unexport as UnexportKind, Variable as VariableKind}

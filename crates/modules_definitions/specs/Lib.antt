@@ -1,5 +1,4 @@
 pub mod Defining
-pub mod Fronts
 pub mod Gathering
 pub mod Keeping
 pub mod Lists

@@ -6,9 +6,8 @@ ghost use Rattle.modules_definitions.specs.Keeping.{ShareName, front_cmp, place_
 ghost use Rattle.std.specs.Cmp.Lexicographic.{slice_cmp};
 ghost use Rattle.std.specs.Ordering.{nat_cmp, ordering_then};
 
-use crate::front::front;
 use just_text::Name;
-use modules_compilation::Place;
+use modules_compilation::{Place, front};
 use std::cmp::Ordering;
 
 /// Names of one space are told apart from one another.

@@ -4,7 +4,6 @@
 mod definition;
 mod file_range;
 mod found;
-mod front;
 mod keep;
 mod lists;
 

@@ -1,5 +1,4 @@
 pub mod Searching
-pub mod Fronted
 pub mod Pieces
 pub mod Named
 pub mod Counting

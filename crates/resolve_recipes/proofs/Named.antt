@@ -13,7 +13,7 @@ use Rattle.std.proofs.lemmas.Slice.Eq.{bytes_eq-Decides}
 use Rattle.modules_compilation.specs.Tables.{text_cmp}
 use Rattle.modules_compilation.specs.declared.compilation.Compilation.{Compilation}
 use Rattle.modules_compilation.specs.declared.recipe_name.RecipeName.{RecipeName}
-use Rattle.resolve_recipes.specs.Fronts.{front_of}
+use Rattle.modules_compilation.specs.Fronts.{front_of}
 use Rattle.resolve_recipes.specs.Named.{AllByName, AreByFront, AreByName, HasFront, IsByName, first_named, key_cmp, module_text, places_of, row_key, submodule_in, text_at}
 use Rattle.resolve_recipes.specs.Leading.{leads_from, module_from, name_texts}
 use Rattle.modules_compilation.specs.declared.module_node.ModuleNode.{ModuleNode}

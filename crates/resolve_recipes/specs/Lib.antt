@@ -1,4 +1,3 @@
-pub mod Fronts
 pub mod Named
 pub mod Leading
 pub mod Counts

@@ -12,7 +12,7 @@ use Rattle.modules_compilation.specs.declared.compilation.Compilation.{Compilati
 use Rattle.modules_compilation.specs.declared.module_node.ModuleNode.{ModuleNode}
 use Rattle.modules_compilation.specs.declared.place.Place.{Place}
 use Rattle.modules_compilation.specs.declared.recipe_name.RecipeName.{RecipeName}
-use Rattle.resolve_recipes.specs.Fronts.{front_of}
+use Rattle.modules_compilation.specs.Fronts.{front_of}
 
 -- the first of these that has the name
 abbrev pub first_named : {X : Type 0} → (X → List ℕ) → List X → List ℕ → Option X

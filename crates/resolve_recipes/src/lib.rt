@@ -3,7 +3,6 @@
 
 pub mod aliases;
 pub mod fault;
-pub mod fronts;
 pub mod item_places;
 mod names;
 pub mod needs;

@@ -2,8 +2,7 @@
 ghost use Rattle.std.specs.Prelude.{◌≡◌, Some, slice_get};
 ghost use Rattle.resolve_recipes.specs.Named.{AreByFront, AreByName, IsByName, first_named, key_cmp, module_text, recipe_of, row_key, submodule_in, text_at};
 
-use crate::fronts::front;
-use modules_compilation::{Compilation, ModuleNode, Place, RecipeName};
+use modules_compilation::{Compilation, ModuleNode, Place, RecipeName, front};
 use std::cmp::Ordering;
 
 /// The name's text of the item at the place, empty where it has none.

@@ -1,6 +1,6 @@
 -- A comparison halves what is left.
 use Rattle.std.proofs.Common.{sym, ap, ◌∙◌}
-use Rattle.resolve_recipes.specs.Fronts.{front_of}
+use Rattle.modules_compilation.specs.Fronts.{front_of}
 use Rattle.resolve_recipes.specs.Named.{key_cmp, row_key}
 use Rattle.resolve_recipes.proofs.Named.{by_front, key_total}
 use Rattle.resolve_recipes.proofs.Searching.{starts, ends, lowered, met, raised}

@@ -1,6 +1,6 @@
 -- What is sought is the first in what is left, or what was found last.
 use Rattle.std.proofs.Common.{length}
-use Rattle.resolve_recipes.specs.Fronts.{front_of}
+use Rattle.modules_compilation.specs.Fronts.{front_of}
 use Rattle.resolve_recipes.specs.Named.{AreByFront, row_key}
 use Rattle.resolve_recipes.proofs.Named.{key_total}
 use Rattle.resolve_recipes.proofs.Searching.{IsSearching}

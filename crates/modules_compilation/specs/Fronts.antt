@@ -1,5 +1,5 @@
 -- The fronts of names.
-use Rattle.std.specs.Prelude.{ℕ, zero, suc, ◌+◌, ◌*◌, List, [], ◌∷◌, fold}
+use Rattle.std.specs.Prelude.{ℕ, zero, suc, ◌+◌, ◌*◌, ◌<◌, List, [], ◌∷◌, fold, length, slice_index_or as get_or}
 
 -- so many bytes of a text, zeros after a shorter one
 abbrev pub bytes_of : ℕ → List ℕ → List ℕ
@@ -13,3 +13,7 @@ with_byte number byte = number * 256 + byte
 -- the first eight bytes of a text as a number, the first byte the highest
 unfoldable pub front_of : List ℕ → ℕ
 front_of text = fold with_byte 0 (bytes_of 8 text)
+
+-- each number is one of eight bits
+abbrev pub AreBytes : List ℕ → Type 0
+AreBytes text = (i : ℕ) → i < length text → get_or text i 0 < 256

@@ -1,7 +1,7 @@
 -- A byte more.
 use Rattle.std.proofs.Common.{arith, ap, ◌∙◌, get_or}
-use Rattle.resolve_recipes.proofs.Fronted.{front_bounded, front_fits, front_grows, front_whole}
-use Rattle.resolve_recipes.proofs.fronts.front.Goals as goal
+use Rattle.modules_compilation.proofs.Fronted.{front_bounded, front_fits, front_grows, front_whole}
+use Rattle.modules_compilation.proofs.recipe_name.front.Goals as goal
 
 pub overflow_mul-front : goal.overflow_mul-front
 overflow_mul-front c = omega (arith, front_fits c.loop-place.front c.loop-place.place 0 c.loop-place-test.true (omega arith) c.loop-place.invariant.1)

@@ -1,22 +1,22 @@
 -- Of two texts with different fronts the one with the lesser front comes first in byte order.
-use Rattle.std.proofs.Common.{◌≡◌, ℕ, zero, suc, ◌+◌, ◌*◌, ◌^◌, ◌<◌, ◌≤◌, inl, inr, List, [], ◌∷◌, ◌++◌, length, get_or, take, take-suc, refl, sym, ap, subst, ◌∙◌, arith}
+use Rattle.std.proofs.Common.{◌≡◌, ℕ, zero, suc, ◌+◌, ◌*◌, ◌^◌, ◌<◌, ◌≤◌, inl, inr, List, [], ◌∷◌, length, get_or, take, take-suc, refl, sym, ap, subst, ◌∙◌, arith}
 use Rattle.std.specs.Prelude.{fold}
 use Rattle.std.specs.Cmp.Lexicographic.{slice_cmp}
 use Rattle.std.specs.Ordering.{nat_cmp, ordering_then}
-use Rattle.std.specs.declared.cmp.Ordering.{Ordering}
-use Rattle.std.specs.declared.cmp.Ordering.TheVariants.{Less, Equal, Greater}
+use Rattle.std.specs.declared.cmp.Ordering.TheVariants.{Less, Equal}
 use Rattle.std.proofs.lemmas.Bool.{cases_lt, lt-ltb, le-ltb, eq-eqb}
 use Rattle.std.proofs.lemmas.List.{take_all}
 use Rattle.std.proofs.lemmas.List.Sums.{fold_push}
 use Rattle.std.proofs.lemmas.Nat.{pow-add}
 use Rattle.std.proofs.Math.Pow.{pow_mono}
-use Rattle.resolve_recipes.specs.Fronts.{bytes_of, with_byte, front_of}
+use Rattle.modules_compilation.specs.Fronts.{AreBytes, bytes_of, front_of, with_byte}
 
-abbrev pub AreBytes : List ℕ → Type 0
-AreBytes text = (i : ℕ) → get_or text i 0 < 256
+-- the same of each place, also behind the end
+abbrev AreSmall : List ℕ → Type 0
+AreSmall text = (i : ℕ) → get_or text i 0 < 256
 
 -- a greater number stays greater, whatever bytes follow
-stays : (k : ℕ) (s t : List ℕ) (m n : ℕ) → AreBytes s → m < n → fold with_byte m (bytes_of k s) < fold with_byte n (bytes_of k t)
+stays : (k : ℕ) (s t : List ℕ) (m n : ℕ) → AreSmall s → m < n → fold with_byte m (bytes_of k s) < fold with_byte n (bytes_of k t)
 stays zero s t m n small lt = lt
 stays (suc k) [] [] m n small lt = stays k [] [] (with_byte m 0) (with_byte n 0) small (omega (arith, lt))
 stays (suc k) [] (y ∷ t) m n small lt = stays k [] t (with_byte m 0) (with_byte n y) small (omega (arith, lt))
@@ -27,12 +27,17 @@ no_bytes : (i : ℕ) → get_or {A = ℕ} [] i 0 < 256
 no_bytes zero = omega arith
 no_bytes (suc i) = omega arith
 
+all_small : (text : List ℕ) → AreBytes text → AreSmall text
+all_small [] small i = no_bytes i
+all_small (b ∷ text) small zero = small 0 (omega arith)
+all_small (b ∷ text) small (suc i) = all_small text (λ j lt. small (suc j) (omega (arith, lt))) i
+
 -- nothing is less than the empty text
 none_less : {G : Type 0} (s : List ℕ) → slice_cmp nat_cmp s [] ≡ Less → G
 none_less [] e = absurd (cc e)
 none_less (x ∷ s) e = absurd (cc e)
 
-lesser : (k : ℕ) (s t : List ℕ) (n : ℕ) → AreBytes s → AreBytes t → fold with_byte n (bytes_of k s) < fold with_byte n (bytes_of k t) → slice_cmp nat_cmp s t ≡ Less
+lesser : (k : ℕ) (s t : List ℕ) (n : ℕ) → AreSmall s → AreSmall t → fold with_byte n (bytes_of k s) < fold with_byte n (bytes_of k t) → slice_cmp nat_cmp s t ≡ Less
 lesser zero s t n small small' lt = absurd (omega (arith, lt))
 lesser (suc k) [] [] n small small' lt = absurd (omega (arith, lt))
 lesser (suc k) [] (y ∷ t) n small small' lt = refl
@@ -58,7 +63,7 @@ lesser (suc k) (x ∷ s) (y ∷ t) n small small' lt = elim (cases_lt x y) [
 
 pub front_less : (s t : List ℕ) → AreBytes s → AreBytes t → front_of s < front_of t → slice_cmp nat_cmp s t ≡ Less
 unfolding front_of
-front_less s t small small' lt = lesser 8 s t 0 small small' lt
+front_less s t small small' lt = lesser 8 s t 0 (all_small s small) (all_small t small') lt
 
 -- ---- the number byte by byte
 
