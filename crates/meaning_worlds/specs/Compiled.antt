@@ -1,5 +1,5 @@
 -- What a compilation stands for: files, modules and lists of places, told by keys and names.
-use Rattle.std.specs.Prelude.{◌≡◌, ◌⊎◌, ◌≤◌, ◌<◌, ◌+◌, ◌-◌, ◌↔◌, ℕ, min, true, false, List, Option, Some, None, map, length, slice_get, take, drop, Contains, []}
+use Rattle.std.specs.Prelude.{◌≡◌, ◌⊎◌, ◌≤◌, ◌<◌, ◌+◌, ◌-◌, ◌↔◌, ℕ, min, true, false, List, ◌∷◌, ◌++◌, Option, Some, None, map, length, slice_get, take, drop, Contains, []}
 use Rattle.std.specs.List.{flat_map}
 use Rattle.std.specs.List.Sorted.{IsStrictlySortedBy}
 use Rattle.std.specs.Ordering.{nat_cmp}
