@@ -1,6 +1,6 @@
 -- What modules keep, and why they are refused.
 use Rattle.std.proofs.Common.{◌≡◌, ◌∙◌, ◌<◌, ◌≤◌, ◌+◌, ◌-◌, ℕ, zero, suc, Bool, List, [], ◌∷◌, length, slice_set, take, drop, Option, Some, None, Result, Ok, Err, sym, ap, ap₂, subst, refl, arith, inl, inr}
-use Rattle.std.specs.Prelude.{◌≢◌, IfOk, OnOk, slice_get}
+use Rattle.std.specs.Prelude.{◌≢◌, IfErr, IfOk, OnOk, slice_get}
 use Rattle.std.specs.Option.{option_and_then, option_map}
 use Rattle.std.proofs.lemmas.Bool.Decides.{eqb_tells, leb_tells}
 use Rattle.std.proofs.lemmas.List.{drop-take, drop_all, length-set, length-take-le, take_all}
@@ -37,6 +37,28 @@ kept_gives (Err e) p f = tt
 pub kept_clear : {T E P : Type 0} {Q R : T → Type 0} (r : Result T E) → OnOk r P → IfOk r Q → ((x : T) → P → Q x → R x) → IfOk r R
 kept_clear (Ok x) p q f = f x p q
 kept_clear (Err e) p q f = tt
+
+pub kept_both : {T E : Type 0} {P Q R : T → Type 0} (r : Result T E) → IfOk r P → IfOk r Q → ((x : T) → P x → Q x → R x) → IfOk r R
+kept_both (Ok x) p q f = f x p q
+kept_both (Err e) p q f = tt
+
+pub refusal_gives : {T E : Type 0} {P Q : E → Type 0} (r : Result T E) → IfErr r P → ((e : E) → P e → Q e) → IfErr r Q
+refusal_gives (Ok x) p f = tt
+refusal_gives (Err e) p f = f e p
+
+pub or_gives : (P Q : Error → Type 0) (e : Error) → (P e → Q e) → OrMemory P e → OrMemory Q e
+or_gives P Q e f (inl m) = inl m
+or_gives P Q e f (inr p) = inr (f p)
+
+pub same_Ok : {T E : Type 0} (x y : T) → ◌≡◌ {A = Result T E} (Ok x) (Ok y) → x ≡ y
+same_Ok x y e = cc e
+
+pub no_value : {T E : Type 0} (e : E) (x : T) → ◌≡◌ {A = Result T E} (Err e) (Ok x) → ⊥
+no_value e x f = absurd (cc f)
+
+-- what holds of the value of an outcome
+pub ok_holds : {T E : Type 0} (P : T → Type 0) (r : Result T E) (x : T) → r ≡ Ok x → IfOk r P → P x
+ok_holds P r x e h = subst (λ o. IfOk o P) e h
 
 pub ok_says : {T E P : Type 0} (r : Result T E) → P → OnOk r P
 ok_says (Ok x) p = p
@@ -227,9 +249,15 @@ filled_whole os unstable before after h k node e = elim (slice_get_cases before.
   | inr p ↦ let le = p.0 in let lt = slice_get_within after.modules.items k node e in let count = h.count in absurd (omega arith)
 ]
 
-pub ends_filled : (os : Os) (unstable : Bool) (before after : Compilation) {U : Type 0} (outcome : Result U Error) (r : Result Compilation Error) → r ≡ unless_refused after outcome → OnOk outcome (AreFilled os unstable before after) → IfOk r (AreFilled os unstable before)
-ends_filled os unstable before after (Ok done) r e h = subst (λ o. IfOk o (AreFilled os unstable before)) (sym e) h
-ends_filled os unstable before after (Err refused) r e h = subst (λ o. IfOk o (AreFilled os unstable before)) (sym e) tt
+-- what holds where an outcome is no refusal
+pub ends_so : (P : Compilation → Type 0) (after : Compilation) {U : Type 0} (outcome : Result U Error) (r : Result Compilation Error) → r ≡ unless_refused after outcome → OnOk outcome (P after) → IfOk r P
+ends_so P after (Ok done) r e h = subst (λ o. IfOk o P) (sym e) h
+ends_so P after (Err refused) r e h = subst (λ o. IfOk o P) (sym e) tt
+
+-- what holds of the refusal that an outcome is
+pub ends_refused : (P : Error → Type 0) (after : Compilation) {U : Type 0} (outcome : Result U Error) (r : Result Compilation Error) → r ≡ unless_refused after outcome → IfErr outcome P → IfErr r P
+ends_refused P after (Ok done) r e h = subst (λ o. IfErr o P) (sym e) tt
+ends_refused P after (Err refused) r e h = subst (λ o. IfErr o P) (sym e) h
 
 -- ---- one module is changed
 

@@ -6,3 +6,7 @@ pub mod Items
 pub mod Keeping
 pub mod Outcomes
 pub mod Recipes
+pub mod Pairs
+pub mod ByName
+pub mod Aliases
+pub mod Refusing

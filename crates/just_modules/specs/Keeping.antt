@@ -1,6 +1,11 @@
 -- What modules keep, and why they are refused.
 use Rattle.std.specs.Prelude.{◌≡◌, ◌≢◌, ◌⊎◌, ◌<◌, ℕ, Bool, List, [], Some, None, drop, take, length, slice_get}
+use Rattle.std.specs.BTreeMap.{BTreeMap}
+use Rattle.std.specs.declared.string.String.{String}
+use Rattle.just_text.specs.Numbers.{Numbers}
 use Rattle.just_text.specs.declared.os.Os.{Os}
+use Rattle.parse_expressions.specs.Literals.{Expansion}
+use Rattle.semver.specs.declared.Version.{Version}
 use Rattle.modules_compilation.specs.declared.compilation.Compilation.{Compilation}
 use Rattle.modules_compilation.specs.declared.error.Error.{Error}
 use Rattle.modules_compilation.specs.declared.error.Error.TheVariants.{OutOfMemory}
@@ -12,6 +17,7 @@ use Rattle.modules_definitions.specs.Lists.{Gains}
 use Rattle.modules_definitions.specs.declared.definition.Definition.{Definition}
 use Rattle.modules_definitions.specs.declared.file_range.FileRange.{FileRange}
 use Rattle.modules_definitions.specs.declared.keep.Allowed.{Allowed}
+use Rattle.modules_sources.specs.Loaded.{AreLoaded}
 use Rattle.just_modules.specs.Exports.{export_refusal, first_unexported}
 use Rattle.just_modules.specs.ItemRules.{BreaksFiles, IsNamedBy}
 use Rattle.just_modules.specs.Settings.{allowed_by, truths_of}
@@ -114,8 +120,8 @@ module _ (os : Os) (unstable : Bool) where
         → (filled : ModuleNode) × (slice_get after.modules.items k ≡ Some filled) × IsFilled os unstable before.files.items before.modules.items node filled
 
   -- the compilation comes of one that was loaded
-  abbrev pub IsSettled : Compilation → Type 0
-  IsSettled compilation = (loaded : Compilation) × AreFilled loaded compilation
+  abbrev pub IsSettled : {Y Z : Type 0} → BTreeMap (String Y) (String Z) → Expansion → Version → Numbers → Bool → Compilation → Type 0
+  IsSettled sources expansion version start is_read compilation = (loaded : Compilation) × AreLoaded sources expansion version os start is_read loaded × AreFilled loaded compilation
 
   -- no rule on items is broken in a module
   abbrev pub AreWhole : Compilation → Type 0

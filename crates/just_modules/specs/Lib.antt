@@ -3,3 +3,5 @@ pub mod ItemRules
 pub mod Keeping
 pub mod Lists
 pub mod Settings
+pub mod Aliases
+pub mod Refused

@@ -1,12 +1,20 @@
 //! From texts to modules.
-ghost use Rattle.std.specs.Prelude.{[], ◌≡◌, ◌&&◌, ◌||◌, ℕ, List, IfErr, IfOk, OnOk, Ok, Err, Some, None, bytes_eq, slice_get};
+ghost use Rattle.std.specs.Prelude.{[], ◌≡◌, ◌≢◌, ◌&&◌, ◌||◌, ℕ, Bool, true, List, IfErr, IfOk, OnOk, Ok, Err, Some, None, bytes_eq, slice_get};
 ghost use Rattle.modules_compilation.specs.declared.compilation.Compilation.{Compilation};
 ghost use Rattle.modules_compilation.specs.declared.module_node.ModuleNode.{ModuleNode};
 ghost use Rattle.modules_definitions.specs.Keeping.{AreInOrder, AreKept};
 ghost use Rattle.modules_definitions.specs.Lists.{Gains, is_same_kind};
 ghost use Rattle.modules_definitions.specs.declared.definition.Definition.{Definition};
 ghost use Rattle.modules_definitions.specs.declared.definition.Kind.TheVariants as kinds;
+ghost use Rattle.just_text.specs.Numbers.{Numbers};
+ghost use Rattle.modules_sources.specs.Loaded.{IsRootRead, first_numbers};
+ghost use Rattle.resolve_recipes.specs.Named.{AllByName};
+ghost use Rattle.modules_compilation.specs.declared.compilation.Target.TheVariants as targets;
+ghost use Rattle.modules_compilation.specs.declared.error.Error.TheVariants as refusals;
+ghost use Rattle.resolve_recipes.specs.Leading.{target_in};
+ghost use Rattle.just_modules.specs.Aliases.{AllAliasesLead, AllLead, IsAliasUnknown, IsUnknownAmong, IsUnknownAt, Leads, LeadsAt};
 ghost use Rattle.just_modules.specs.Exports as spec;
+ghost use Rattle.just_modules.specs.Refused.{IsUnsettled, IsRefused as IsCompileRefused};
 ghost use Rattle.just_modules.specs.Keeping.{files_of, AreClear, AreFilled, AreKeptOf, AreRefused, AreRefusedIn, AreWhole, IsChangedAt, IsFilled, IsFirstRefused, IsRefused, IsSettled, Keeps, OrMemory};
 
 use crate::rules::check_files;
@@ -15,7 +23,7 @@ use just_host::Config;
 use justfile_syntax::{Alias, Expander, Item, Namepath};
 use modules_compilation::{Compilation, Error, File, ModuleNode, Place, Target};
 use modules_definitions::{Allowed, Definition, FileRange, Kind, definitions, kept, put_all};
-use modules_sources::{Parsed, items_of, load_modules, load_root};
+use modules_sources::{Parsed, load_modules, load_root};
 use resolve_recipes::target;
 use std::alloc::{AllocError, Global};
 use std::collections::{BTreeMap, BTreeSet};
@@ -264,7 +272,9 @@ fn keep_all<'src>(
 }
 
 /// The refusal of an alias that stands for nothing.
-fn unknown_target<'src>(alias: &Alias<'src, Namepath<'src>>) -> Result<Error<'src>, AllocError> {
+fn unknown_target<'src>(alias: &Alias<'src, Namepath<'src>>) -> Result<Error<'src>, AllocError>
+    ensures { IfOk result (λ error. error ≡ refusals.UnknownAliasTarget alias.now.name alias.now.target) }
+{
     Ok(Error::UnknownAliasTarget {
         alias: alias.name,
         target: alias.target.clone()?,
@@ -276,40 +286,30 @@ fn check_alias<'src>(
     compilation: &Compilation<'src>,
     module: usize,
     alias: &Alias<'src, Namepath<'src>>,
-) -> Result<(), Error<'src>> {
+) -> Result<(), Error<'src>>
+    ensures clear { OnOk result (AllByName compilation.now → Leads compilation.now «module» alias.now) }
+    ensures refused { IfErr result (OrMemory (λ error. AllByName compilation.now → (target_in compilation.now «module» alias.now.target ≡ targets.Nothing) × (error ≡ refusals.UnknownAliasTarget alias.now.name alias.now.target))) }
+{
     match target(compilation, module, alias.target.names()) {
         Target::Nothing => Err(unknown_target(alias)?),
         Target::Recipe { .. } | Target::Module(_) => Ok(()),
     }
 }
 
-/// Refuses the item where it is an alias that stands for nothing that is seen from the module.
-fn check_item<'src>(
-    compilation: &Compilation<'src>,
-    module: usize,
-    item: &Item<'src>,
-) -> Result<(), Error<'src>> {
-    match item {
-        Item::Alias(alias) => check_alias(compilation, module, alias),
-        _ => Ok(()),
-    }
-}
-
-/// Refuses the alias at the place where it stands for nothing that is seen from the module.
+/// Refuses the alias at the place, if one stands there, where it stands for nothing that is seen from
+/// the module.
 fn check_place<'src>(
     compilation: &Compilation<'src>,
     module: usize,
     place: Place,
-) -> Result<(), Error<'src>> {
-    let files = compilation.files.as_slice();
-    if place.file >= files.len() {
-        return Ok(());
+) -> Result<(), Error<'src>>
+    ensures clear { OnOk result (AllByName compilation.now → LeadsAt compilation.now «module» place) }
+    ensures refused { IfErr result (OrMemory (λ error. AllByName compilation.now → IsUnknownAt compilation.now «module» place error)) }
+{
+    match compilation.alias(place) {
+        Some(alias) => check_alias(compilation, module, alias),
+        None => Ok(()),
     }
-    let items = items_of(&files[place.file]);
-    if place.item >= items.len() {
-        return Ok(());
-    }
-    check_item(compilation, module, &items[place.item])
 }
 
 /// Refuses the first alias of a module that stands for nothing.
@@ -317,18 +317,30 @@ fn check_aliases<'src>(
     compilation: &Compilation<'src>,
     module: usize,
     aliases: &[Place],
-) -> Result<(), Error<'src>> {
+) -> Result<(), Error<'src>>
+    ensures clear { OnOk result (AllByName compilation.now → AllLead compilation.now «module» aliases.now) }
+    ensures refused { IfErr result (OrMemory (λ error. AllByName compilation.now → IsUnknownAmong compilation.now «module» aliases.now error)) }
+{
     for place in aliases {
-        check_place(compilation, module, *place)?;
+        match check_place(compilation, module, *place) {
+            Ok(()) => {}
+            Err(refusal) => return Err(refusal),
+        }
     }
     Ok(())
 }
 
 /// Refuses the first alias that stands for nothing.
-fn check_all_aliases<'src>(compilation: &Compilation<'src>) -> Result<(), Error<'src>> {
+fn check_all_aliases<'src>(compilation: &Compilation<'src>) -> Result<(), Error<'src>>
+    ensures clear { OnOk result (AllByName compilation.now → AllAliasesLead compilation.now) }
+    ensures refused { IfErr result (OrMemory (λ error. AllByName compilation.now → IsAliasUnknown compilation.now error)) }
+{
     let modules = compilation.modules.as_slice();
     for module in 0..modules.len() {
-        check_aliases(compilation, module, modules[module].aliases.as_slice())?;
+        match check_aliases(compilation, module, modules[module].aliases.as_slice()) {
+            Ok(()) => {}
+            Err(refusal) => return Err(refusal),
+        }
     }
     Ok(())
 }
@@ -339,7 +351,9 @@ fn settle<'src>(
     compilation: &mut Compilation<'src>,
     config: &Config,
 ) -> Result<(), Error<'src>>
-    ensures { OnOk result (AreFilled config.now.os config.now.unstable compilation.old compilation.new) }
+    ensures filled { OnOk result (AreFilled config.now.os config.now.unstable compilation.old compilation.new) }
+    ensures aliases { OnOk result (AllByName compilation.new → AllAliasesLead compilation.new) }
+    ensures refused { IfErr result (OrMemory (IsUnsettled config.now.os config.now.unstable compilation.old)) }
 {
     match keep_all(alloc, compilation, config) {
         Ok(()) => check_all_aliases(compilation),
@@ -354,6 +368,8 @@ fn settled<'src>(
     loaded: Result<Compilation<'src>, Error<'src>>,
 ) -> Result<Compilation<'src>, Error<'src>>
     ensures filled { IfOk result (λ compilation. (before : Compilation) × (loaded.entry ≡ Ok before) × AreFilled config.now.os config.now.unstable before compilation) }
+    ensures aliases { IfOk result (λ compilation. AllByName compilation → AllAliasesLead compilation) }
+    ensures unsettled { IfErr result (λ error. (before : Compilation) → loaded.entry ≡ Ok before → OrMemory (IsUnsettled config.now.os config.now.unstable before) error) }
     ensures refused { IfErr loaded.entry (λ error. result ≡ Err error) }
 {
     match loaded {
@@ -379,8 +395,11 @@ impl Compiler {
         sources: &'src BTreeMap<String, String>,
         root: &'src str,
     ) -> Result<Compilation<'src>, Error<'src>>
-        ensures filled { IfOk result (IsSettled config.now.os config.now.unstable) }
+        ensures filled { IfOk result (IsSettled config.now.os config.now.unstable sources.now (E.expansion expander.now) config.now.version first_numbers true) }
+        ensures by_name { IfOk result AllByName }
+        ensures aliases { IfOk result AllAliasesLead }
         ensures whole { IfOk result (AreWhole config.now.os config.now.unstable) }
+        ensures refused { IfErr result (λ error. error ≢ refusals.OutOfMemory → IsCompileRefused config.now.os config.now.unstable sources.now (E.expansion expander.now) config.now.version first_numbers true root.now error) }
     {
         let loaded = load_root(alloc, config, expander, sources, root);
         settled(alloc, config, loaded)
@@ -395,8 +414,11 @@ impl Compiler {
         root: &'src str,
         parsed: Parsed<'src>,
     ) -> Result<Compilation<'src>, Error<'src>>
-        ensures filled { IfOk result (IsSettled config.now.os config.now.unstable) }
+        ensures filled { IfOk result (λ compilation. (start : Numbers) (is_read : Bool) → (is_read ≡ true → IsRootRead sources.now (E.expansion expander.now) config.now.version start root.now parsed.entry) → IsSettled config.now.os config.now.unstable sources.now (E.expansion expander.now) config.now.version start is_read compilation) }
+        ensures by_name { IfOk result AllByName }
+        ensures aliases { IfOk result AllAliasesLead }
         ensures whole { IfOk result (AreWhole config.now.os config.now.unstable) }
+        ensures refused { IfErr result (λ error. error ≢ refusals.OutOfMemory → (start : Numbers) (is_read : Bool) → (is_read ≡ true → IsRootRead sources.now (E.expansion expander.now) config.now.version start root.now parsed.entry) → IsCompileRefused config.now.os config.now.unstable sources.now (E.expansion expander.now) config.now.version start is_read root.now error) }
     {
         let loaded = load_modules(alloc, config, expander, sources, root, parsed);
         settled(alloc, config, loaded)

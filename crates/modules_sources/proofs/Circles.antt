@@ -1,7 +1,7 @@
 -- A walk that ends where it began doesn't rise all the way.
 use Rattle.std.proofs.Common.{◌≡◌, sym, ◌∙◌, ap, subst, ◌<◌, ◌≤◌, ◌+◌, ◌-◌, ◌∷◌, [], ℕ, zero, suc, List, Some, refl, arith, length, drop, get_or}
 use Rattle.std.specs.Prelude.{slice_get}
-use Rattle.std.proofs.lemmas.Option.{none-some, same_Some, slice_get_within, slice_get-get_or}
+use Rattle.std.proofs.lemmas.Option.{none-some, same_Some, slice_get-get_or}
 use Rattle.modules_compilation.specs.declared.error.Error.{Error}
 use Rattle.modules_compilation.specs.declared.module_node.File.{File as LoadedFile}
 use Rattle.resolve_order.specs.Needs.{IsCycle}

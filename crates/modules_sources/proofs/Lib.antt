@@ -7,3 +7,7 @@ pub mod Reaching
 pub mod Circles
 pub mod Loading
 pub mod Noting
+pub mod Ordering
+pub mod Bounded
+pub mod Closing
+pub mod Entering

@@ -1,5 +1,5 @@
 -- Files that are read one after the other.
-use Rattle.std.proofs.Common.{◌≡◌, ◌≢◌, sym, ◌∙◌, ap, subst, ◌<◌, ◌+◌, ◌++◌, ◌∷◌, [], ℕ, List, refl, arith, length, map, take, get_or, append_assoc}
+use Rattle.std.proofs.Common.{◌≡◌, ◌≢◌, sym, ◌∙◌, ap, subst, ◌<◌, ◌+◌, ◌++◌, ◌∷◌, [], ℕ, List, refl, length, map, take, get_or, append_assoc}
 use Rattle.std.proofs.lemmas.List.{append-nil, take-map}
 use Rattle.just_text.specs.Numbers.{Numbers}
 use Rattle.just_text.specs.declared.compile_error.CompileError.{CompileError}

@@ -1,5 +1,5 @@
 -- A submodule that is noted at its parent.
-use Rattle.std.proofs.Common.{◌≡◌, ◌≢◌, sym, ◌∙◌, ap, subst, ◌<◌, ◌≤◌, [], ◌∷◌, ℕ, zero, suc, List, Some, None, refl, arith, length, get_or, set, length-set}
+use Rattle.std.proofs.Common.{◌≡◌, ◌≢◌, sym, ◌∙◌, ap, subst, ◌<◌, ◌≤◌, [], ◌∷◌, ℕ, zero, suc, List, Some, refl, arith, length, get_or, set, length-set}
 use Rattle.std.specs.Prelude.{slice_get}
 use Rattle.std.proofs.lemmas.Option.{get_or_from_slice_get, none-some, slice_get_past}
 use Rattle.modules_compilation.specs.declared.module_node.ModuleNode.{ModuleNode}

@@ -1,6 +1,7 @@
 -- What follows of an outcome.
-use Rattle.std.proofs.Common.{◌≡◌, Result, Ok, Err, subst}
+use Rattle.std.proofs.Common.{◌≡◌, Result, Ok, Err, sym, subst}
 use Rattle.std.specs.Prelude.{IfErr, IfOk, OnOk}
+use Rattle.modules_compilation.specs.Places.{unless_refused}
 
 pub on_ok : {T E P Q : Type 0} (r : Result T E) → OnOk r P → (P → Q) → OnOk r Q
 on_ok (Ok x) p f = f p
@@ -24,3 +25,21 @@ ok_holds P r x e h = subst (λ o. IfOk o P) e h
 
 pub err_holds : {T E : Type 0} (P : E → Type 0) (r : Result T E) (x : E) → r ≡ Err x → IfErr r P → P x
 err_holds P r x e h = subst (λ o. IfErr o P) e h
+
+pub ok_says : {T E P : Type 0} (r : Result T E) → P → OnOk r P
+ok_says (Ok x) p = p
+ok_says (Err e) p = tt
+
+pub four_ok : {T E P Q R S G : Type 0} (r : Result T E) → OnOk r P → OnOk r Q → OnOk r R → OnOk r S → (P → Q → R → S → G) → OnOk r G
+four_ok (Ok x) p q s t f = f p q s t
+four_ok (Err e) p q s t f = tt
+
+-- what holds where an outcome is no refusal
+pub unless : {A B E : Type 0} (P : A → Type 0) (a : A) (outcome : Result B E) (r : Result A E) → r ≡ unless_refused a outcome → OnOk outcome (P a) → IfOk r P
+unless P a (Ok done) r e h = subst (λ o. IfOk o P) (sym e) h
+unless P a (Err refused) r e h = subst (λ o. IfOk o P) (sym e) tt
+
+-- what holds of the refusal that an outcome is
+pub refused_so : {A B E : Type 0} (P : E → Type 0) (a : A) (outcome : Result B E) (r : Result A E) → r ≡ unless_refused a outcome → IfErr outcome P → IfErr r P
+refused_so P a (Ok done) r e h = subst (λ o. IfErr o P) (sym e) tt
+refused_so P a (Err refused) r e h = subst (λ o. IfErr o P) (sym e) h

@@ -1,16 +1,14 @@
 -- Files that are reached, one after the other.
-use Rattle.std.proofs.Common.{◌≡◌, ◌≢◌, ◌⊎◌, inl, inr, sym, ◌∙◌, ap, subst, Bool, true, false, not, cond, ◌||◌, ◌<◌, ◌≤◌, ◌+◌, ◌++◌, ◌∷◌, [], ℕ, zero, suc, List, Option, Some, None, refl, arith, length, length-append, map, take, get_or, append_assoc}
+use Rattle.std.proofs.Common.{◌≡◌, ◌⊎◌, inl, inr, sym, ◌∙◌, ap, subst, Bool, true, false, not, cond, ◌||◌, ◌<◌, ◌+◌, ◌++◌, ◌∷◌, [], ℕ, zero, suc, List, Option, Some, None, refl, length, length-append, map, take, get_or}
 use Rattle.std.specs.Prelude.{if◌then◌else◌, is_some, option_map, slice_get}
-use Rattle.std.specs.BTreeMap.{BTreeMap, is_at}
+use Rattle.std.specs.BTreeMap.{is_at}
 use Rattle.std.specs.Cmp.Lexicographic.{slice_cmp}
 use Rattle.std.specs.Ordering.{nat_cmp}
-use Rattle.std.specs.Borrow.{Bor}
-use Rattle.std.specs.List.{list_any}
 use Rattle.std.specs.Map.{lookup, update}
 use Rattle.std.specs.Str.{bytes_eq}
-use Rattle.std.proofs.lemmas.Bool.{cases_Bool, cases_lt, false≢true}
+use Rattle.std.proofs.lemmas.Bool.{false≢true}
 use Rattle.std.proofs.lemmas.List.{append-nil, map-append, take_more}
-use Rattle.std.proofs.lemmas.Option.{none-some, same_Some, slice_get-get_or, slice_get-map, slice_get_within}
+use Rattle.std.proofs.lemmas.Option.{none-some, same_Some, slice_get-get_or, slice_get-map}
 use Rattle.std.proofs.lemmas.Slice.Eq.{bytes_eq-Decides}
 use Rattle.modules_compilation.specs.declared.source.Source.{Source}
 use Rattle.modules_files.specs.Chosen.{File, view}
@@ -222,7 +220,7 @@ new_one_more keys (f ∷ files) file = by_test (is_among keys f.0) refl (new_one
         ∙ ap (λ b. cond b (new_files keys files) (f ∷ new_files (keys ++ f.0 ∷ []) files) ++ new_files (with_new (with_key keys f.0) files) (file ∷ [])) (sym e)
 
 -- places stay where they are
-places_kept : (keys : List Text) (key : Text) (files : List File) (row : List ℕ) → ArePlaces keys files row → ArePlaces (with_key keys key) files row
+pub places_kept : (keys : List Text) (key : Text) (files : List File) (row : List ℕ) → ArePlaces keys files row → ArePlaces (with_key keys key) files row
 places_kept keys key [] [] e = refl
 places_kept keys key [] (p ∷ row) e = absurd (cc e)
 places_kept keys key (f ∷ files) [] e = absurd (cc e)

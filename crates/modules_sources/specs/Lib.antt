@@ -5,3 +5,5 @@ pub mod Imports
 pub mod Reached
 pub mod Nodes
 pub mod Loading
+pub mod ReadingOrder
+pub mod Loaded

@@ -4,8 +4,8 @@ use Rattle.std.specs.Global.{Vec}
 use Rattle.modules_compilation.specs.declared.module_node.ModuleNode.{ModuleNode}
 use Rattle.modules_sources.specs.declared.queue.Pending.{Pending}
 
--- a module keeps nothing yet, and has no submodule
-pub record IsEmpty (node : ModuleNode) : Type 0 where
+-- a module keeps nothing yet
+pub record KeepsNothing (node : ModuleNode) : Type 0 where
   pub aliases : node.aliases.items ≡ []
   pub assignments : node.assignments.items ≡ []
   pub disabled : node.disabled.items ≡ []
@@ -14,7 +14,6 @@ pub record IsEmpty (node : ModuleNode) : Type 0 where
   pub recipe_names : node.recipe_names.items ≡ []
   pub sets : node.sets.items ≡ []
   pub unexports : node.unexports.items ≡ []
-  pub submodules : node.submodules.items ≡ []
 
 -- the node of a module that was to be loaded, whose files stand from a place to before another
 pub record IsNodeOf (pending : Pending) (first end : ℕ) (node : ModuleNode) : Type 0 where
@@ -24,7 +23,8 @@ pub record IsNodeOf (pending : Pending) (first end : ℕ) (node : ModuleNode) : 
   pub source : node.source ≡ pending.source.key
   pub first_file : node.first_file ≡ first
   pub end_file : node.end_file ≡ end
-  pub empty : IsEmpty node
+  pub empty : KeepsNothing node
+  pub submodules : node.submodules.items ≡ []
 
 -- the module has one submodule more, and is else as it was
 pub record HasOneMore (submodule : ℕ) (old new : ModuleNode) : Type 0 where

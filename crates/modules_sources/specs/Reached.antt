@@ -1,5 +1,5 @@
 -- The files that a module has reached, by their keys.
-use Rattle.std.specs.Prelude.{◌≡◌, ◌≤◌, ℕ, ◌+◌, Bool, true, false, cond, List, [], ◌∷◌, ◌++◌, length, map, slice_get, Option, Some, None}
+use Rattle.std.specs.Prelude.{◌≡◌, ◌≤◌, ℕ, ◌+◌, cond, List, [], ◌∷◌, ◌++◌, length, map, slice_get, Some}
 use Rattle.modules_compilation.specs.declared.error.Error.{Error}
 use Rattle.modules_compilation.specs.declared.module_node.File.{File as LoadedFile}
 use Rattle.modules_files.specs.Chosen.{File}

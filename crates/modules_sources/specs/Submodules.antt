@@ -83,12 +83,16 @@ abbrev pub IsCircular : Error → Text → Text → Type 0
 IsCircular (CircularImport current other) importer imported = (current.now ≡ importer) × (other.now ≡ imported)
 IsCircular other importer imported = ⊥
 
+-- the files of the modules above
+abbrev pub Above : Type 0
+Above = BTreeSet (Bor Text)
+
 -- none of these has the file of a module above
-abbrev pub NoneAbove : BTreeSet (Bor Text) → List Found → Type 0
+abbrev pub NoneAbove : Above → List Found → Type 0
 NoneAbove above found = list_any (λ submodule. has_text above submodule.file.0) found ≡ false
 
 -- one of these has the file of a module above, and none before it; that and the current file are told
-pub record IsBack (above : BTreeSet (Bor Text)) (current : Text) (found : List Found) (refusal : Error) : Type 0 where
+pub record IsBack (above : Above) (current : Text) (found : List Found) (refusal : Error) : Type 0 where
   pub earlier : List Found
   pub submodule : Found
   pub later : List Found
@@ -97,7 +101,7 @@ pub record IsBack (above : BTreeSet (Bor Text)) (current : Text) (found : List F
   pub has : has_text above submodule.file.0 ≡ true
   pub told : IsCircular refusal current submodule.file.0
 
-module _ (files : Files) (os : Os) (all : List LoadedFile) (above : BTreeSet (Bor Text)) where
+module _ (files : Files) (os : Os) (all : List LoadedFile) (above : Above) where
   -- the submodules of the file at a place, none of which has the file of a module above
   pub record AreBelow (place : ℕ) (found : List Found) : Type 0 where
     pub found_all : AreFound files os (key_of (slice_get all place)) (items_in all place) found

@@ -1,9 +1,16 @@
 //! Loading files into modules.
-ghost use Rattle.std.specs.Prelude.{◌≡◌, ◌≢◌, ◌+◌, ◌++◌, ◌∷◌, [], ◌<◌, ◌≤◌, length, map, List, Ok, Err, true, false, IfErr, IfOk, OnOk};
+ghost use Rattle.std.specs.Prelude.{◌≡◌, ◌≢◌, ◌+◌, ◌-◌, ◌++◌, ◌∷◌, [], ◌<◌, ◌≤◌, ℕ, Bool, length, map, drop, List, None, Ok, Err, true, false, IfErr, IfOk, OnOk};
 ghost use Rattle.modules_compilation.specs.declared.error.Error.TheVariants as refusals;
 ghost use Rattle.modules_compilation.specs.declared.module_node.File.{File as LoadedFile};
 ghost use Rattle.modules_files.specs.Chosen.{view};
+ghost use Rattle.modules_files.specs.Found.{AreGrouped, source_keys};
+ghost use Rattle.just_text.specs.Numbers.{Numbers};
+ghost use Rattle.modules_compilation.specs.declared.module_node.ModuleNode.{ModuleNode};
+ghost use Rattle.modules_sources.specs.Loaded.{AreLoaded, AreLoadedSoFar, IsBegun, IsBelowRefused, IsLoadRefused, IsNextRefused, IsRefused, IsRootMissing, IsRootRead, IsSource, first_numbers};
 ghost use Rattle.modules_sources.specs.Loading.{AreRead, IsRead, IsTurn, IsTurnRefused, IsUnread, IsUnreadAmong, refusal_by};
+ghost use Rattle.modules_sources.specs.Nodes.{IsNodeOf, IsNoted};
+ghost use Rattle.modules_sources.specs.ReadingOrder.{AreFilesOf, AreNoted, AreNumbered, AreRefused, IsModuleRefused, IsOwnAlone, IsRefusedBehind};
+ghost use Rattle.modules_sources.specs.Submodules.{Above, AreWaiting, IsRefusedAmong, Waiting, waiting_view};
 
 use crate::imports::{Reached, depth_behind};
 use crate::nodes::add_node;
@@ -167,9 +174,14 @@ impl<'src, 'a, E: Expander> Loader<'src, 'a, E> {
         reached: &mut Reached<'src>,
         module: usize,
         first: usize,
-    ) -> Result<(), Error<'src>> {
-        for count in 0..self.files.sources.len() {
-            let place = first.saturating_add(count);
+    ) -> Result<(), Error<'src>>
+        ensures numbers { OnOk result ((start : Numbers) → AreNumbered start files.old.items numerator.old → AreNumbered start files.new.items numerator.new) }
+        ensures grown { OnOk result ((more : List LoadedFile) × (files.new.items ≡ files.old.items ++ more)) }
+        ensures noted { OnOk result ((own : List ℕ) → first ≤ length files.old.items → AreNoted self.now.files.sources.now (E.expansion self.now.expander.now) self.now.config.now.version «module» own 0 (drop first files.old.items) reached.old → AreNoted self.now.files.sources.now (E.expansion self.now.expander.now) self.now.config.now.version «module» own (length (drop first files.new.items)) (drop first files.new.items) reached.new) }
+        ensures refused { IfErr result (λ refusal. refusal ≢ refusals.OutOfMemory → (own : List ℕ) → first ≤ length files.old.items → AreNoted self.now.files.sources.now (E.expansion self.now.expander.now) self.now.config.now.version «module» own 0 (drop first files.old.items) reached.old → IsRefusedBehind self.now.files.sources.now (E.expansion self.now.expander.now) self.now.config.now.version «module» own first refusal) }
+    {
+        let end = first.saturating_add(self.files.sources.len());
+        for place in first..end {
             if !self.load_imports(alloc, files, numerator, reached, module, place)? {
                 return Ok(());
             }
@@ -189,7 +201,12 @@ impl<'src, 'a, E: Expander> Loader<'src, 'a, E> {
         key: &'src str,
         module: usize,
         first: usize,
-    ) -> Result<(), Error<'src>> {
+    ) -> Result<(), Error<'src>>
+        ensures numbers { OnOk result ((start : Numbers) → AreNumbered start files.old.items numerator.old → AreNumbered start files.new.items numerator.new) }
+        ensures grown { OnOk result ((more : List LoadedFile) × (files.new.items ≡ files.old.items ++ more)) }
+        ensures own_files { OnOk result (first ≤ length files.old.items → IsOwnAlone self.now.files.sources.now (E.expansion self.now.expander.now) self.now.config.now.version «module» key.now (drop first files.old.items) → AreFilesOf self.now.files.sources.now (E.expansion self.now.expander.now) self.now.config.now.version «module» key.now (drop first files.new.items)) }
+        ensures refused { IfErr result (λ refusal. refusal ≢ refusals.OutOfMemory → first ≤ length files.old.items → IsOwnAlone self.now.files.sources.now (E.expansion self.now.expander.now) self.now.config.now.version «module» key.now (drop first files.old.items) → AreRefused self.now.files.sources.now (E.expansion self.now.expander.now) self.now.config.now.version «module» key.now first refusal) }
+    {
         let mut reached = Reached::new(alloc);
         reached.begin(key)?;
         self.load_reached(alloc, files, numerator, &mut reached, module, first)?;
@@ -204,7 +221,12 @@ impl<'src, 'a, E: Expander> Loader<'src, 'a, E> {
         numerator: &mut Numerator,
         source: Source<'src>,
         module: usize,
-    ) -> Result<(), Error<'src>> {
+    ) -> Result<(), Error<'src>>
+        ensures numbers { OnOk result ((start : Numbers) → AreNumbered start files.old.items numerator.old → AreNumbered start files.new.items numerator.new) }
+        ensures grown { OnOk result ((more : List LoadedFile) × (files.new.items ≡ files.old.items ++ more)) }
+        ensures own_files { OnOk result (IsSource self.now.files.sources.now (view source.entry) → AreFilesOf self.now.files.sources.now (E.expansion self.now.expander.now) self.now.config.now.version «module» source.entry.key.now (drop (length files.old.items) files.new.items)) }
+        ensures refused { IfErr result (λ refusal. refusal ≢ refusals.OutOfMemory → IsSource self.now.files.sources.now (view source.entry) → IsModuleRefused self.now.files.sources.now (E.expansion self.now.expander.now) self.now.config.now.version «module» (view source.entry) (length files.old.items) refusal) }
+    {
         let first = files.len();
         self.load_file(alloc, files, numerator, source, module, 0)?;
         self.load_files(alloc, files, numerator, source.key, module, first)
@@ -220,7 +242,9 @@ impl<'src, 'a, E: Expander> Loader<'src, 'a, E> {
         queue: &mut Queue<'src>,
         next: &Pending<'src>,
     ) -> Result<(), Error<'src>>
-        ensures { OnOk result (length compilation.new.modules.items ≡ length compilation.old.modules.items + 1) }
+        ensures one_more { OnOk result (length compilation.new.modules.items ≡ length compilation.old.modules.items + 1) }
+        ensures loaded { OnOk result ((start : Numbers) (is_read : Bool) → AreLoadedSoFar self.now.files.sources.now (E.expansion self.now.expander.now) self.now.config.now.version self.now.config.now.os start is_read self.now.files compilation.old numerator.old (queue.old.pending.items ++ next.now ∷ []) → AreLoadedSoFar self.now.files.sources.now (E.expansion self.now.expander.now) self.now.config.now.version self.now.config.now.os start is_read self.now.files compilation.new numerator.new queue.new.pending.items) }
+        ensures refused { IfErr result (λ refusal. refusal ≢ refusals.OutOfMemory → (start : Numbers) (is_read : Bool) → AreLoadedSoFar self.now.files.sources.now (E.expansion self.now.expander.now) self.now.config.now.version self.now.config.now.os start is_read self.now.files compilation.old numerator.old (queue.old.pending.items ++ next.now ∷ []) → IsLoadRefused self.now.files.sources.now (E.expansion self.now.expander.now) self.now.config.now.version self.now.files self.now.config.now.os (length compilation.old.modules.items) (length compilation.old.files.items) (view next.now.source) refusal) }
     {
         let module = compilation.modules.len();
         let first = compilation.files.len();
@@ -238,7 +262,10 @@ impl<'src, 'a, E: Expander> Loader<'src, 'a, E> {
         numerator: &mut Numerator,
         queue: &mut Queue<'src>,
     ) -> Result<bool, Error<'src>>
-        ensures { IfOk result (λ loaded. loaded ≡ true → length compilation.old.modules.items < length compilation.new.modules.items) }
+        ensures one_more { IfOk result (λ loaded. loaded ≡ true → length compilation.old.modules.items < length compilation.new.modules.items) }
+        ensures ended { IfOk result (λ loaded. loaded ≡ false → queue.new.pending.items ≡ []) }
+        ensures loaded { OnOk result ((start : Numbers) (is_read : Bool) → AreLoadedSoFar self.now.files.sources.now (E.expansion self.now.expander.now) self.now.config.now.version self.now.config.now.os start is_read self.now.files compilation.old numerator.old queue.old.pending.items → AreLoadedSoFar self.now.files.sources.now (E.expansion self.now.expander.now) self.now.config.now.version self.now.config.now.os start is_read self.now.files compilation.new numerator.new queue.new.pending.items) }
+        ensures refused { IfErr result (λ refusal. refusal ≢ refusals.OutOfMemory → (start : Numbers) (is_read : Bool) → AreLoadedSoFar self.now.files.sources.now (E.expansion self.now.expander.now) self.now.config.now.version self.now.config.now.os start is_read self.now.files compilation.old numerator.old queue.old.pending.items → IsNextRefused self.now.files.sources.now (E.expansion self.now.expander.now) self.now.config.now.version self.now.config.now.os start is_read self.now.files refusal) }
     {
         let Some(next) = queue.pop() else {
             return Ok(false);
@@ -254,7 +281,11 @@ impl<'src, 'a, E: Expander> Loader<'src, 'a, E> {
         compilation: &mut Compilation<'src>,
         numerator: &mut Numerator,
         queue: &mut Queue<'src>,
-    ) -> Result<(), Error<'src>> {
+    ) -> Result<(), Error<'src>>
+        ensures ended { OnOk result (queue.new.pending.items ≡ []) }
+        ensures loaded { OnOk result ((start : Numbers) (is_read : Bool) → AreLoadedSoFar self.now.files.sources.now (E.expansion self.now.expander.now) self.now.config.now.version self.now.config.now.os start is_read self.now.files compilation.old numerator.old queue.old.pending.items → AreLoadedSoFar self.now.files.sources.now (E.expansion self.now.expander.now) self.now.config.now.version self.now.config.now.os start is_read self.now.files compilation.new numerator.new queue.new.pending.items) }
+        ensures refused { IfErr result (λ refusal. refusal ≢ refusals.OutOfMemory → (start : Numbers) (is_read : Bool) → AreLoadedSoFar self.now.files.sources.now (E.expansion self.now.expander.now) self.now.config.now.version self.now.config.now.os start is_read self.now.files compilation.old numerator.old queue.old.pending.items → IsNextRefused self.now.files.sources.now (E.expansion self.now.expander.now) self.now.config.now.version self.now.config.now.os start is_read self.now.files refusal) }
+    {
         while self.load_next(alloc, compilation, numerator, queue)? {}
         Ok(())
     }
@@ -267,7 +298,10 @@ impl<'src, 'a, E: Expander> Loader<'src, 'a, E> {
         numerator: &mut Numerator,
         queue: &mut Queue<'src>,
         root: &Pending<'src>,
-    ) -> Result<(), Error<'src>> {
+    ) -> Result<(), Error<'src>>
+        ensures loaded { OnOk result ((start : Numbers) (is_read : Bool) → root.now.parent ≡ None → root.now.item ≡ None → queue.old.pending.items ≡ [] → IsBegun self.now.files.sources.now (E.expansion self.now.expander.now) self.now.config.now.version self.now.config.now.os start is_read root.now.source.key.now compilation.old numerator.old → AreLoadedSoFar self.now.files.sources.now (E.expansion self.now.expander.now) self.now.config.now.version self.now.config.now.os start is_read self.now.files compilation.new numerator.new queue.new.pending.items) }
+        ensures refused { IfErr result (λ refusal. refusal ≢ refusals.OutOfMemory → (start : Numbers) (is_read : Bool) → IsBegun self.now.files.sources.now (E.expansion self.now.expander.now) self.now.config.now.version self.now.config.now.os start is_read root.now.source.key.now compilation.old numerator.old → is_read ≡ true → (text : List ℕ) × IsLoadRefused self.now.files.sources.now (E.expansion self.now.expander.now) self.now.config.now.version self.now.files self.now.config.now.os 0 0 (root.now.source.key.now, text) refusal) }
+    {
         let files = &mut compilation.files;
         self.load_files(alloc, files, numerator, root.source.key, 0, 0)?;
         let os = self.config.os;
@@ -281,7 +315,10 @@ impl<'src, 'a, E: Expander> Loader<'src, 'a, E> {
         compilation: &mut Compilation<'src>,
         numerator: &mut Numerator,
         root: Source<'src>,
-    ) -> Result<(), Error<'src>> {
+    ) -> Result<(), Error<'src>>
+        ensures loaded { OnOk result ((start : Numbers) (is_read : Bool) → AreGrouped (source_keys self.now.files.sources.now) self.now.files.folders.now.justfiles → IsBegun self.now.files.sources.now (E.expansion self.now.expander.now) self.now.config.now.version self.now.config.now.os start is_read root.entry.key.now compilation.old numerator.old → AreLoaded self.now.files.sources.now (E.expansion self.now.expander.now) self.now.config.now.version self.now.config.now.os start is_read compilation.new) }
+        ensures refused { IfErr result (λ refusal. refusal ≢ refusals.OutOfMemory → (start : Numbers) (is_read : Bool) → AreGrouped (source_keys self.now.files.sources.now) self.now.files.folders.now.justfiles → IsBegun self.now.files.sources.now (E.expansion self.now.expander.now) self.now.config.now.version self.now.config.now.os start is_read root.entry.key.now compilation.old numerator.old → IsBelowRefused self.now.files.sources.now (E.expansion self.now.expander.now) self.now.config.now.version self.now.config.now.os start is_read root.entry.key.now refusal) }
+    {
         let mut queue = Queue::new(alloc);
         let own = Pending {
             source: root,
@@ -305,7 +342,11 @@ fn add_module<'src>(
     next: &Pending<'src>,
     first: usize,
 ) -> Result<(), Error<'src>>
-    ensures { OnOk result (length compilation.new.modules.items ≡ length compilation.old.modules.items + 1) }
+    ensures one_more { OnOk result (length compilation.new.modules.items ≡ length compilation.old.modules.items + 1) }
+    ensures node { OnOk result ((node : ModuleNode) × IsNodeOf next.now first (length compilation.old.files.items) node × IsNoted next.now.parent (length compilation.old.modules.items) (compilation.old.modules.items ++ node ∷ []) compilation.new.modules.items) }
+    ensures files { OnOk result (compilation.new.files.items ≡ compilation.old.files.items) }
+    ensures pending { OnOk result ((above : Above) × (more : List Waiting) × AreWaiting files.now os compilation.old.files.items above (length compilation.old.modules.items) first (length compilation.old.files.items - first) more × (map waiting_view queue.new.pending.items ≡ map waiting_view queue.old.pending.items ++ more)) }
+    ensures refused { IfErr result (λ refusal. refusal ≢ refusals.OutOfMemory → (above : Above) × IsRefusedAmong files.now os compilation.old.files.items above (length compilation.old.modules.items) first (length compilation.old.files.items - first) refusal) }
 {
     let module = compilation.modules.len();
     add_node(alloc, compilation, next, first)?;
@@ -323,7 +364,10 @@ fn load_found<'a, 'src, E: Expander>(
     compilation: &mut Compilation<'src>,
     numerator: &mut Numerator,
     root: Source<'src>,
-) -> Result<(), Error<'src>> {
+) -> Result<(), Error<'src>>
+    ensures loaded { OnOk result ((start : Numbers) (is_read : Bool) → AreGrouped (source_keys files.entry.sources.now) files.entry.folders.now.justfiles → IsBegun files.entry.sources.now (E.expansion expander.now) config.now.version config.now.os start is_read root.entry.key.now compilation.old numerator.old → AreLoaded files.entry.sources.now (E.expansion expander.now) config.now.version config.now.os start is_read compilation.new) }
+    ensures refused { IfErr result (λ refusal. refusal ≢ refusals.OutOfMemory → (start : Numbers) (is_read : Bool) → AreGrouped (source_keys files.entry.sources.now) files.entry.folders.now.justfiles → IsBegun files.entry.sources.now (E.expansion expander.now) config.now.version config.now.os start is_read root.entry.key.now compilation.old numerator.old → IsBelowRefused files.entry.sources.now (E.expansion expander.now) config.now.version config.now.os start is_read root.entry.key.now refusal) }
+{
     let loader = Loader {
         config,
         expander,
@@ -342,7 +386,10 @@ fn load_behind<'src, E: Expander>(
     compilation: &mut Compilation<'src>,
     numerator: &mut Numerator,
     root: Source<'src>,
-) -> Result<(), Error<'src>> {
+) -> Result<(), Error<'src>>
+    ensures loaded { OnOk result ((start : Numbers) (is_read : Bool) → IsBegun sources.now (E.expansion expander.now) config.now.version config.now.os start is_read root.entry.key.now compilation.old numerator.old → AreLoaded sources.now (E.expansion expander.now) config.now.version config.now.os start is_read compilation.new) }
+    ensures refused { IfErr result (λ refusal. refusal ≢ refusals.OutOfMemory → (start : Numbers) (is_read : Bool) → IsBegun sources.now (E.expansion expander.now) config.now.version config.now.os start is_read root.entry.key.now compilation.old numerator.old → IsBelowRefused sources.now (E.expansion expander.now) config.now.version config.now.os start is_read root.entry.key.now refusal) }
+{
     let folders = Folders::new(alloc, sources)?;
     let files = Files {
         sources,
@@ -355,7 +402,10 @@ fn load_behind<'src, E: Expander>(
 fn root_source<'src>(
     sources: &'src BTreeMap<String, String>,
     root: &'src str,
-) -> Result<Source<'src>, Error<'src>> {
+) -> Result<Source<'src>, Error<'src>>
+    ensures found { IfOk result (λ source. (source.key.now ≡ root.now) × IsSource sources.now (view source)) }
+    ensures missing { IfErr result (λ refusal. IsRootMissing sources.now root.now refusal) }
+{
     if !is_clean(root) {
         return Err(Error::MissingRoot(root));
     }
@@ -373,7 +423,10 @@ fn load_text<'src, E: Expander>(
     sources: &'src BTreeMap<String, String>,
     compilation: &mut Compilation<'src>,
     root: &'src str,
-) -> Result<(), Error<'src>> {
+) -> Result<(), Error<'src>>
+    ensures loaded { OnOk result (compilation.old.files.items ≡ [] → compilation.old.modules.items ≡ [] → AreLoaded sources.now (E.expansion expander.now) config.now.version config.now.os first_numbers true compilation.new) }
+    ensures refused { IfErr result (λ refusal. refusal ≢ refusals.OutOfMemory → compilation.old.files.items ≡ [] → compilation.old.modules.items ≡ [] → IsRefused sources.now (E.expansion expander.now) config.now.version config.now.os first_numbers true root.now refusal) }
+{
     let source = root_source(sources, root)?;
     let mut numerator = Numerator::new(CONSTANT_COUNT);
     let read = read_file(alloc, config, expander, &mut numerator, source, 0, 0);
@@ -394,7 +447,10 @@ fn add_root<'src>(
     compilation: &mut Compilation<'src>,
     root: &'src str,
     ast: Ast<'src>,
-) -> Result<(), AllocError> {
+) -> Result<(), AllocError>
+    ensures files { OnOk result (compilation.new.files.items ≡ compilation.old.files.items ++ record { key = root.entry; «module» = 0; depth = 0; ast = ast.entry } ∷ []) }
+    ensures modules { OnOk result (compilation.new.modules.items ≡ compilation.old.modules.items) }
+{
     compilation.add_file(File {
         key: root,
         module: 0,
@@ -413,7 +469,10 @@ fn load_parsed<'src, E: Expander>(
     compilation: &mut Compilation<'src>,
     root: &'src str,
     parsed: Parsed<'src>,
-) -> Result<(), Error<'src>> {
+) -> Result<(), Error<'src>>
+    ensures loaded { OnOk result ((start : Numbers) (is_read : Bool) → compilation.old.files.items ≡ [] → compilation.old.modules.items ≡ [] → (is_read ≡ true → IsRootRead sources.now (E.expansion expander.now) config.now.version start root.now parsed.entry) → AreLoaded sources.now (E.expansion expander.now) config.now.version config.now.os start is_read compilation.new) }
+    ensures refused { IfErr result (λ refusal. refusal ≢ refusals.OutOfMemory → (start : Numbers) (is_read : Bool) → compilation.old.files.items ≡ [] → compilation.old.modules.items ≡ [] → (is_read ≡ true → IsRootRead sources.now (E.expansion expander.now) config.now.version start root.now parsed.entry) → IsRefused sources.now (E.expansion expander.now) config.now.version config.now.os start is_read root.now refusal) }
+{
     let Parsed { ast, mut numerator } = parsed;
     add_root(compilation, root, ast)?;
     let source = root_source(sources, root)?;
@@ -440,7 +499,10 @@ pub fn load_root<'src, E: Expander>(
     expander: &E,
     sources: &'src BTreeMap<String, String>,
     root: &'src str,
-) -> Result<Compilation<'src>, Error<'src>> {
+) -> Result<Compilation<'src>, Error<'src>>
+    ensures loaded { IfOk result (AreLoaded sources.now (E.expansion expander.now) config.now.version config.now.os first_numbers true) }
+    ensures refused { IfErr result (λ refusal. refusal ≢ refusals.OutOfMemory → IsRefused sources.now (E.expansion expander.now) config.now.version config.now.os first_numbers true root.now refusal) }
+{
     let mut compilation = Compilation::new(alloc);
     let outcome = load_text(alloc, config, expander, sources, &mut compilation, root);
     compilation.unless_refused(outcome)
@@ -454,7 +516,10 @@ pub fn load_modules<'src, E: Expander>(
     sources: &'src BTreeMap<String, String>,
     root: &'src str,
     parsed: Parsed<'src>,
-) -> Result<Compilation<'src>, Error<'src>> {
+) -> Result<Compilation<'src>, Error<'src>>
+    ensures loaded { IfOk result (λ compilation. (start : Numbers) (is_read : Bool) → (is_read ≡ true → IsRootRead sources.now (E.expansion expander.now) config.now.version start root.now parsed.entry) → AreLoaded sources.now (E.expansion expander.now) config.now.version config.now.os start is_read compilation) }
+    ensures refused { IfErr result (λ refusal. refusal ≢ refusals.OutOfMemory → (start : Numbers) (is_read : Bool) → (is_read ≡ true → IsRootRead sources.now (E.expansion expander.now) config.now.version start root.now parsed.entry) → IsRefused sources.now (E.expansion expander.now) config.now.version config.now.os start is_read root.now refusal) }
+{
     let mut compilation = Compilation::new(alloc);
     let outcome = load_parsed(
         alloc,

@@ -1,5 +1,5 @@
 //! Modules that are still to load, and the files above them.
-ghost use Rattle.std.specs.Prelude.{◌≡◌, ◌+◌, [], ◌∷◌, ◌++◌, OnOk, length, true, false, option_to_list};
+ghost use Rattle.std.specs.Prelude.{◌≡◌, ◌+◌, [], ◌∷◌, ◌++◌, None, OnOk, length, true, false, option_to_list};
 ghost use Rattle.modules_files.specs.Found.{has_text};
 ghost use Rattle.modules_sources.specs.Queue.{IsChain, chain_keys, cut_to, is_among};
 
@@ -64,6 +64,7 @@ impl<'src> Queue<'src> {
     /// Takes the module that is the next to load, if there is one.
     pub fn pop(&mut self) -> Option<Pending<'src>>
         ensures pending { self.old.pending.items ≡ self.new.pending.items ++ option_to_list result }
+        ensures none { result ≡ None → self.new.pending.items ≡ [] }
         ensures chain { self.new.chain ≡ self.old.chain }
         ensures keys { self.new.keys ≡ self.old.keys }
     {

@@ -1,5 +1,5 @@
 -- What recipes read, and what is opened from there.
-use Rattle.std.proofs.Common.{◌≡◌, ◌⊎◌, inl, inr, ℕ, zero, suc, ◌+◌, ◌<◌, ◌≤◌, min, Bool, true, false, if◌then◌else◌, nat_eq, nat_lt, eqb-true, eq-eqb, List, [], ◌∷◌, ◌++◌, append_assoc, drop, length, map, get_or, Option, Some, None, refl, ap, sym, subst, ◌∙◌, ◌↔◌, arith}
+use Rattle.std.proofs.Common.{◌≡◌, ◌⊎◌, inl, inr, ℕ, zero, suc, ◌+◌, ◌<◌, ◌≤◌, min, Bool, true, false, if◌then◌else◌, nat_eq, nat_lt, eqb-true, eq-eqb, List, [], ◌∷◌, ◌++◌, append_assoc, drop, length, map, get_or, Option, Some, None, refl, ap, sym, subst, ◌∙◌, arith}
 use Rattle.std.specs.Prelude.{slice_get, Contains}
 use Rattle.std.proofs.lemmas.Bool.{cases_lt, cases_order, le-ltb, lt-ltb}
 use Rattle.std.proofs.lemmas.List.{append-nil, length-map}

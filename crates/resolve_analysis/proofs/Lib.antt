@@ -6,3 +6,4 @@ pub mod Ranges
 pub mod Mapped
 pub mod Rows
 pub mod Kept
+pub mod Numbered

@@ -3,3 +3,4 @@ pub mod Unions
 pub mod Reads
 pub mod Opening
 pub mod Views
+pub mod Numbered

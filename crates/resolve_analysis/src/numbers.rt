@@ -1,10 +1,14 @@
 //! Numbers for all variables that are read.
+ghost use Rattle.std.specs.Prelude.{◌≡◌, map};
+ghost use Rattle.resolve_recipes.specs.Named.{AllByName};
+ghost use Rattle.resolve_analysis.specs.Numbered.{IsNumbered, file_names, names_of};
+
 use just_text::Numerator;
 use just_value::{CONSTANT_COUNT, constants};
 use modules_compilation::{Compilation, File, ModuleNode};
 use resolve_references::number_item;
 use std::alloc::{AllocError, Global};
-use tree_items::ExpressionContext;
+use tree_items::{ExpressionContext, Item};
 
 /// The names of the constants.
 fn constant_names<'src>(alloc: Global) -> Result<ExpressionContext<'src>, AllocError> {
@@ -45,13 +49,44 @@ fn all_names<'src>(
     Ok(all)
 }
 
+/// Numbers the variables of the items, which see these names.
+fn number_items<'src>(
+    alloc: Global,
+    items: &mut Vec<Item<'src>>,
+    names: &ExpressionContext<'src>,
+) -> Result<(), AllocError>
+    ensures { names_of items.new.items ≡ names_of items.old.items }
+{
+    for place in 0..items.len() {
+        number_item(alloc, &mut items[place], names)?;
+    }
+    Ok(())
+}
+
+/// Numbers the variables of the file, which see the names of its module.
 fn number_file<'src>(
     alloc: Global,
     file: &mut File<'src>,
-    names: &ExpressionContext<'src>,
-) -> Result<(), AllocError> {
-    for item in file.ast.items.iter_mut() {
-        number_item(alloc, item, names)?;
+    all: &[ExpressionContext<'src>],
+) -> Result<(), AllocError>
+    ensures { file_names file.new ≡ file_names file.old }
+{
+    match all.get(file.module) {
+        Some(names) => number_items(alloc, &mut file.ast.items, names),
+        None => Ok(()),
+    }
+}
+
+/// Numbers the variables of the files, each of which sees the names of its module.
+fn number_files<'src>(
+    alloc: Global,
+    files: &mut Vec<File<'src>>,
+    all: &[ExpressionContext<'src>],
+) -> Result<(), AllocError>
+    ensures { map file_names files.new.items ≡ map file_names files.old.items }
+{
+    for place in 0..files.len() {
+        number_file(alloc, &mut files[place], all)?;
     }
     Ok(())
 }
@@ -63,12 +98,10 @@ fn number_file<'src>(
 pub fn number_variables<'src>(
     alloc: Global,
     compilation: &mut Compilation<'src>,
-) -> Result<(), AllocError> {
+) -> Result<(), AllocError>
+    ensures numbered { IsNumbered compilation.old compilation.new }
+    ensures by_name { AllByName compilation.old → AllByName compilation.new }
+{
     let all = all_names(alloc, &*compilation)?;
-    for file in compilation.files.iter_mut() {
-        if let Some(names) = all.get(file.module) {
-            number_file(alloc, file, names)?;
-        }
-    }
-    Ok(())
+    number_files(alloc, &mut compilation.files, all.as_slice())
 }

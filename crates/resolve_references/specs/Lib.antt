@@ -1,5 +1,6 @@
 pub mod Faults
 pub mod Functions
 pub mod ItemReferences
+pub mod Numbered
 pub mod Places
 pub mod References

@@ -1,4 +1,7 @@
 //! Numbers for the variables of items, in place.
+ghost use Rattle.std.specs.Prelude.{◌≡◌};
+ghost use Rattle.resolve_references.specs.Numbered.{IsNumberedItem, IsSameRecipe};
+
 use std::alloc::{AllocError, Global};
 use tree_attributes::{Interpreter, Setting};
 use tree_expressions::Expression;
@@ -94,7 +97,9 @@ fn number_rest<'src>(
     alloc: Global,
     recipe: &mut Recipe<'src, UnresolvedDependency<'src>>,
     names: &Names<'_, 'src>,
-) {
+)
+    ensures { IsSameRecipe recipe.old recipe.new }
+{
     number_dependencies(recipe.priors.as_mut_slice(), names);
     number_dependencies(recipe.subsequents.as_mut_slice(), names);
     number_body(recipe.body.as_mut_slice(), names);
@@ -111,7 +116,9 @@ fn number_recipe<'src>(
     alloc: Global,
     recipe: &mut Recipe<'src, UnresolvedDependency<'src>>,
     bindings: &ExpressionContext<'src>,
-) -> Result<(), AllocError> {
+) -> Result<(), AllocError>
+    ensures { IsSameRecipe recipe.old recipe.new }
+{
     let parameters = number_parameters(alloc, recipe.parameters.as_mut_slice(), bindings)?;
     number_rest(
         alloc,
@@ -140,13 +147,17 @@ fn number_function<'src>(
     alloc: Global,
     function: &mut FunctionDefinition<'src>,
     bindings: &ExpressionContext<'src>,
-) -> Result<(), AllocError> {
+) -> Result<(), AllocError>
+    ensures { function.new ≡ record function.old { body = function.new.body } }
+{
     let parameters = function_names(alloc, function.parameters.as_slice())?;
     resolve_variables(&mut function.body, &parameters, bindings);
     Ok(())
 }
 
-fn number_set(set: &mut Set, names: &Names) {
+fn number_set(set: &mut Set, names: &Names)
+    ensures { set.new.name ≡ set.old.name }
+{
     match &mut set.value {
         Setting::DotenvCommand(expression)
         | Setting::DotenvFilename(expression)
@@ -169,7 +180,9 @@ pub fn number_item<'src>(
     alloc: Global,
     item: &mut Item<'src>,
     bindings: &ExpressionContext<'src>,
-) -> Result<(), AllocError> {
+) -> Result<(), AllocError>
+    ensures { IsNumberedItem item.old item.new }
+{
     match item {
         Item::Assignment(assignment) => {
             let none = ExpressionContext::new(alloc);

@@ -19,6 +19,6 @@ returns c = record {
     recipe_names = c.new-6.ensures.items;
     sets = c.new-7.ensures.items;
     unexports = c.new-8.ensures.items;
-    submodules = c.new-9.ensures.items;
   };
+  submodules = c.new-9.ensures.items;
 }

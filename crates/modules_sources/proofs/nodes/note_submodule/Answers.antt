@@ -1,5 +1,5 @@
 -- The parent, if there is one, has one submodule more.
-use Rattle.std.proofs.Common.{◌<◌, ◌≤◌, length, set, sym, subst, refl, arith}
+use Rattle.std.proofs.Common.{◌<◌, length, set, sym, subst, refl, arith}
 use Rattle.modules_sources.specs.Nodes.{IsNoted}
 use Rattle.modules_sources.proofs.Noting.{noted_nowhere, noted_there}
 use Rattle.modules_sources.proofs.nodes.note_submodule.Goals as goal

@@ -1,5 +1,5 @@
 -- One file more, and all of them.
-use Rattle.std.proofs.Common.{◌≤◌, map, subst, ◌∙◌, refl, arith, length}
+use Rattle.std.proofs.Common.{map, subst, ◌∙◌, refl, arith, length}
 use Rattle.std.proofs.lemmas.Result.{err_from_is_err_and}
 use Rattle.modules_sources.specs.Submodules.{AreBelow, IsRefusedAt, waiting_view}
 use Rattle.modules_sources.proofs.Waiting.{refused_there, there_done, there_further, there_none}

@@ -1,5 +1,5 @@
 -- The file's submodules wait, or one of them is refused.
-use Rattle.std.proofs.Common.{◌≡◌, map, ap, sym, subst, ◌∙◌, ◌++◌, inl, inr}
+use Rattle.std.proofs.Common.{map, ap, subst, ◌∙◌, ◌++◌, inl, inr}
 use Rattle.std.specs.Prelude.{slice_get}
 use Rattle.std.proofs.lemmas.Result.{err_from_is_err_and}
 use Rattle.modules_compilation.specs.Places.{items_in}

@@ -1,5 +1,5 @@
 -- The submodules of a file that is there, or of none.
-use Rattle.std.proofs.Common.{get_or, ◌≡◌, ◌≢◌, ◌∙◌, List, ℕ, Some, ap, map, refl, sym, subst, arith, ◌<◌, length}
+use Rattle.std.proofs.Common.{get_or, ◌≡◌, ◌∙◌, List, ℕ, Some, ap, map, refl, sym, subst, arith, ◌<◌, length}
 use Rattle.std.specs.Prelude.{slice_get}
 use Rattle.std.proofs.lemmas.Result.{IfOk-weaker, IfErr-weaker}
 use Rattle.std.proofs.lemmas.Option.{same_Some, slice_get_past, slice_get_read}

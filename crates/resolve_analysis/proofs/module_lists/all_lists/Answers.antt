@@ -1,5 +1,5 @@
 -- One module more.
-use Rattle.std.proofs.Common.{◌≡◌, ◌<◌, ◌∙◌, ap, arith, get_or, length}
+use Rattle.std.proofs.Common.{◌<◌, ◌∙◌, ap, arith, get_or, length}
 use Rattle.resolve_analysis.specs.Lists.{kept_by, kept_in}
 use Rattle.resolve_analysis.proofs.Mapped.{mapped_more}
 use Rattle.resolve_analysis.proofs.module_lists.all_lists.Goals as goal

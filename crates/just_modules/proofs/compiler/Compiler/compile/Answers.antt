@@ -1,9 +1,33 @@
 -- What was loaded is settled.
-use Rattle.just_modules.proofs.Keeping.{filled_whole, kept_gives}
+use Rattle.std.proofs.Common.{true}
+use Rattle.modules_sources.specs.Loaded.{AreLoaded, first_numbers}
+use Rattle.just_modules.proofs.Refusing.{refused_by_either}
+use Rattle.just_modules.proofs.ByName.{all_by_name, fresh_of}
+use Rattle.just_modules.proofs.Keeping.{filled_whole, kept_both, kept_gives, ok_holds}
 use Rattle.just_modules.proofs.compiler.Compiler.compile.Goals as goal
 
 pub returns-clause-filled : goal.returns-clause-filled
-returns-clause-filled g c = kept_gives c.settled.result c.settled.ensures.filled (λ compilation h. (h.0, h.2))
+returns-clause-filled g c = kept_gives c.settled.result c.settled.ensures.filled (λ compilation h. (
+  h.0,
+  ok_holds (AreLoaded c.args.sources.now (g.E.Expander.expansion c.args.expander.now) c.args.config.now.version c.args.config.now.os first_numbers true) c.load_root-loaded.result h.0 h.1 c.load_root-loaded.ensures.loaded,
+  h.2,
+))
+
+pub returns-clause-by_name : goal.returns-clause-by_name
+returns-clause-by_name g c = kept_gives c.settled.result c.settled.ensures.filled (λ compilation h.
+    let loaded = ok_holds (AreLoaded c.args.sources.now (g.E.Expander.expansion c.args.expander.now) c.args.config.now.version c.args.config.now.os first_numbers true) c.load_root-loaded.result h.0 h.1 c.load_root-loaded.ensures.loaded in
+    all_by_name c.args.config.now.os c.args.config.now.unstable h.0 compilation h.2
+    (fresh_of c.args.sources.now (g.E.Expander.expansion c.args.expander.now) c.args.config.now.version c.args.config.now.os first_numbers true h.0 loaded))
 
 pub returns-clause-whole : goal.returns-clause-whole
 returns-clause-whole g c = kept_gives c.settled.result c.settled.ensures.filled (λ compilation h. filled_whole c.args.config.now.os c.args.config.now.unstable h.0 compilation h.2)
+
+pub returns-clause-aliases : goal.returns-clause-aliases
+returns-clause-aliases g c = kept_both c.settled.result (returns-clause-by_name g c) c.settled.ensures.aliases (λ compilation all lead. lead all)
+
+pub returns-clause-refused : goal.returns-clause-refused
+returns-clause-refused g c =
+    let sources = c.args.sources.now in
+    let expansion = g.E.Expander.expansion c.args.expander.now in
+    let version = c.args.config.now.version in
+    refused_by_either sources expansion version c.args.config.now.os c.args.config.now.unstable first_numbers true c.args.root.now c.load_root-loaded.result c.settled.result c.load_root-loaded.ensures.loaded c.load_root-loaded.ensures.refused c.settled.ensures.refused c.settled.ensures.unsettled

@@ -1,9 +1,47 @@
 -- What was loaded is settled.
-use Rattle.just_modules.proofs.Keeping.{filled_whole, kept_gives}
+use Rattle.std.proofs.Common.{◌≡◌, Bool, true, false}
+use Rattle.std.proofs.lemmas.Bool.{false≢true}
+use Rattle.just_text.specs.Numbers.{Numbers}
+use Rattle.modules_compilation.specs.declared.compilation.Compilation.{Compilation}
+use Rattle.modules_sources.specs.Loaded.{AreLoaded, IsRootRead, first_numbers}
+use Rattle.just_modules.specs.Refused.{IsRefused}
+use Rattle.just_modules.proofs.Refusing.{refused_by_either, refused_under}
+use Rattle.just_modules.proofs.ByName.{all_by_name, fresh_of}
+use Rattle.just_modules.proofs.Keeping.{filled_whole, kept_both, kept_gives, ok_holds, refusal_gives}
 use Rattle.just_modules.proofs.compiler.Compiler.compile_parsed.Goals as goal
 
 pub returns-clause-filled : goal.returns-clause-filled
-returns-clause-filled g c = kept_gives c.settled.result c.settled.ensures.filled (λ compilation h. (h.0, h.2))
+returns-clause-filled g c = kept_gives c.settled.result c.settled.ensures.filled (λ compilation h start is_read read.
+    let sources = c.args.sources.now in
+    let expansion = g.E.Expander.expansion c.args.expander.now in
+    let version = c.args.config.now.version in
+    let loaded = ok_holds (λ (loaded : Compilation). (start : Numbers) (is_read : Bool) → (is_read ≡ true → IsRootRead sources expansion version start c.args.root.now c.args.parsed) → AreLoaded sources expansion version c.args.config.now.os start is_read loaded)
+    c.load_modules-loaded.result h.0 h.1 c.load_modules-loaded.ensures.loaded in
+    (h.0, loaded start is_read read, h.2))
+
+pub returns-clause-by_name : goal.returns-clause-by_name
+returns-clause-by_name g c = kept_gives c.settled.result c.settled.ensures.filled (λ compilation h.
+    let sources = c.args.sources.now in
+    let expansion = g.E.Expander.expansion c.args.expander.now in
+    let version = c.args.config.now.version in
+    let loaded = ok_holds (λ (loaded : Compilation). (start : Numbers) (is_read : Bool) → (is_read ≡ true → IsRootRead sources expansion version start c.args.root.now c.args.parsed) → AreLoaded sources expansion version c.args.config.now.os start is_read loaded)
+    c.load_modules-loaded.result h.0 h.1 c.load_modules-loaded.ensures.loaded in
+    all_by_name c.args.config.now.os c.args.config.now.unstable h.0 compilation h.2
+    (fresh_of sources expansion version c.args.config.now.os first_numbers false h.0 (loaded first_numbers false (λ e. absurd (false≢true e)))))
 
 pub returns-clause-whole : goal.returns-clause-whole
 returns-clause-whole g c = kept_gives c.settled.result c.settled.ensures.filled (λ compilation h. filled_whole c.args.config.now.os c.args.config.now.unstable h.0 compilation h.2)
+
+pub returns-clause-aliases : goal.returns-clause-aliases
+returns-clause-aliases g c = kept_both c.settled.result (returns-clause-by_name g c) c.settled.ensures.aliases (λ compilation all lead. lead all)
+
+pub returns-clause-refused : goal.returns-clause-refused
+returns-clause-refused g c =
+    let sources = c.args.sources.now in
+    let expansion = g.E.Expander.expansion c.args.expander.now in
+    let version = c.args.config.now.version in
+    let os = c.args.config.now.os in
+    let root = c.args.root.now in
+    refused_under (λ start is_read. is_read ≡ true → IsRootRead sources expansion version start root c.args.parsed) (λ start is_read. IsRefused os c.args.config.now.unstable sources expansion version start is_read root) c.settled.result (λ start is_read read.
+    refused_by_either sources expansion version os c.args.config.now.unstable start is_read root c.load_modules-loaded.result c.settled.result (kept_gives c.load_modules-loaded.result c.load_modules-loaded.ensures.loaded (λ loaded are. are start is_read read))
+    (refusal_gives c.load_modules-loaded.result c.load_modules-loaded.ensures.refused (λ e refused n. refused n start is_read read)) c.settled.ensures.refused c.settled.ensures.unsettled)

@@ -1,5 +1,5 @@
 -- One file more, and the row.
-use Rattle.std.proofs.Common.{map, ap, ◌∙◌, ◌++◌, ◌∷◌, [], refl, subst}
+use Rattle.std.proofs.Common.{map, ap, ◌∙◌, ◌∷◌, [], refl, subst}
 use Rattle.std.proofs.lemmas.List.{map-append, take_all}
 use Rattle.modules_files.specs.Chosen.{view}
 use Rattle.resolve_order.specs.Needs.{rows}

@@ -1,5 +1,5 @@
 -- What is left is the chain that is cut.
-use Rattle.std.proofs.Common.{[], ap, sym, ◌∙◌, arith, length}
+use Rattle.std.proofs.Common.{ap, sym, ◌∙◌, arith}
 use Rattle.modules_sources.specs.Queue.{cut_to}
 use Rattle.modules_sources.proofs.Chains.{none_of_length}
 use Rattle.modules_sources.proofs.queue.Queue.cut_behind.Goals as goal

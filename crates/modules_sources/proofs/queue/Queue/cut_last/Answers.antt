@@ -1,5 +1,5 @@
 -- The last is taken off, unless it is the parent.
-use Rattle.std.proofs.Common.{arith, ◌≡◌, ◌++◌, ◌∷◌, ◌-◌, [], ap, sym, refl, true, false, ◌∙◌, length, take, Some, rules}
+use Rattle.std.proofs.Common.{arith, ◌≡◌, ◌++◌, ◌∷◌, ◌-◌, [], ap, sym, refl, true, false, ◌∙◌, length, take, Some}
 use Rattle.std.specs.Prelude.{slice_get}
 use Rattle.modules_sources.specs.Queue.{cut_to, is_parent}
 use Rattle.modules_sources.proofs.Chains.{chain_shorter, compared, cut_here, cut_shorter, nothing_left, popped}

@@ -1,0 +1,176 @@
+-- Modules as they are loaded, and those that wait.
+use Rattle.std.specs.Prelude.{◌≡◌, ◌<◌, ◌≤◌, ℕ, Bool, true, List, [], take, drop, length, map, Option, Some, slice_get, ◌⊎◌, ◌-◌, false, None}
+use Rattle.std.specs.BTreeMap.{BTreeMap}
+use Rattle.std.specs.Option.{option_and_then}
+use Rattle.std.specs.declared.string.String.{String}
+use Rattle.just_text.specs.Numbers.{Numbers}
+use Rattle.just_text.specs.declared.name.Name.{Name}
+use Rattle.just_text.specs.declared.os.Os.{Os}
+use Rattle.tree_items.specs.Files.{item_shapes}
+use Rattle.parse_expressions.specs.Literals.{Expansion}
+use Rattle.justfile_syntax.specs.Numbered.{AreInOrder}
+use Rattle.justfile_syntax.specs.Reads.{Reads}
+use Rattle.semver.specs.declared.Version.{Version}
+use Rattle.modules_compilation.specs.Paths.{is_clean}
+use Rattle.modules_compilation.specs.Places.{items_in}
+use Rattle.modules_compilation.specs.declared.compilation.Compilation.{Compilation}
+use Rattle.modules_compilation.specs.declared.error.Error.{Error}
+use Rattle.modules_compilation.specs.declared.error.Error.TheVariants.{MissingRoot}
+use Rattle.modules_compilation.specs.declared.module_node.File.{File as LoadedFile}
+use Rattle.modules_compilation.specs.declared.module_node.ModuleNode.{ModuleNode}
+use Rattle.modules_compilation.specs.declared.place.Place.{Place}
+use Rattle.modules_files.specs.Chosen.{File}
+use Rattle.modules_files.specs.Found.{AreGrouped, file_at, source_keys, source_of}
+use Rattle.modules_files.specs.declared.search.Files.{Files}
+use Rattle.modules_sources.specs.Items.{ModuleParts, module_of}
+use Rattle.modules_sources.specs.Nodes.{KeepsNothing}
+use Rattle.modules_sources.specs.Loading.{IsUnread}
+use Rattle.modules_sources.specs.ReadingOrder.{AreFilesOf, AreNumbered, IsModuleRefused, IsOwnAlone}
+use Rattle.modules_sources.specs.Submodules.{Above, AreWaiting, IsRefusedAmong, Waiting, waiting_view}
+use Rattle.modules_sources.specs.declared.load.Parsed.{Parsed}
+use Rattle.modules_sources.specs.declared.queue.Pending.{Pending}
+
+-- the refusal tells that this root is missing
+abbrev pub IsMissingRoot : Error → List ℕ → Type 0
+IsMissingRoot (MissingRoot root) own = root.now ≡ own
+IsMissingRoot other own = ⊥
+
+-- the submodule at a place of some files, if the operating system enables one there
+abbrev pub submodule_at : Os → List LoadedFile → Place → Option ModuleParts
+submodule_at os files place = option_and_then (module_of os) (slice_get (items_in files place.file) place.item)
+
+-- a module's name is that of its item, where it has one
+abbrev pub IsNameOf : Os → List LoadedFile → Option Place → Option Name → Type 0
+IsNameOf os files item name = (place : Place) → item ≡ Some place → (line : ModuleParts) × (submodule_at os files place ≡ Some line) × (name ≡ Some line.0)
+
+-- the files of a module
+abbrev pub files_of : List LoadedFile → ModuleNode → List LoadedFile
+files_of files node = drop node.first_file (take node.end_file files)
+
+-- the numbers after those of the constants
+abbrev pub first_numbers : Numbers
+first_numbers = record { constants = 29; bindings = 29; recipes = 0 }
+
+-- a module is loaded for what waited
+pub record IsLoadedFor (waiting : Waiting) (node : ModuleNode) : Type 0 where
+  pub source : node.source.now ≡ waiting.file.0
+  pub parent : node.parent ≡ waiting.parent
+  pub item : node.item ≡ waiting.item
+  pub name : node.name ≡ waiting.name
+
+-- what waits is one of these, or a module is loaded for it
+abbrev pub IsKnown : List ModuleNode → List Waiting → Waiting → Type 0
+IsKnown modules waits waiting = ((i : ℕ) × (slice_get waits i ≡ Some waiting)) ⊎ ((place : ℕ) × (node : ModuleNode) × (slice_get modules place ≡ Some node) × IsLoadedFor waiting node)
+
+-- the submodules of the module at a place are those whose parent it is
+pub record AreInner (modules : List ModuleNode) (place : ℕ) (node : ModuleNode) : Type 0 where
+  pub listed : (inner : ℕ) (submodule : ModuleNode) → slice_get modules inner ≡ Some submodule → submodule.parent ≡ Some place → (i : ℕ) × (slice_get node.submodules.items i ≡ Some inner)
+  pub only : (i inner : ℕ) → slice_get node.submodules.items i ≡ Some inner → (submodule : ModuleNode) × (slice_get modules inner ≡ Some submodule) × (submodule.parent ≡ Some place)
+
+module _ (lookup : Files) (os : Os) (files : List LoadedFile) (modules : List ModuleNode) (waits : List Waiting) where
+  -- each submodule that the files of the module at a place have waits or is loaded
+  pub record IsFollowedUp (place : ℕ) (node : ModuleNode) : Type 0 where
+    pub above : Above
+    pub found : List Waiting
+    pub are : AreWaiting lookup os files above place node.first_file (node.end_file - node.first_file) found
+    pub known : (i : ℕ) (waiting : Waiting) → slice_get found i ≡ Some waiting → IsKnown modules waits waiting
+    pub inner : AreInner modules place node
+
+  abbrev pub AllFollowedUp : Type 0
+  AllFollowedUp = (place : ℕ) (node : ModuleNode) → slice_get modules place ≡ Some node → IsFollowedUp place node
+
+module _ {Y Z : Type 0} (sources : BTreeMap (String Y) (String Z)) where
+  -- files are looked up in these sources
+  pub record IsLookupOf (lookup : Files) : Type 0 where
+    pub same : (key : List ℕ) → source_of lookup.sources.now key ≡ source_of sources key
+    pub grouped : AreGrouped (source_keys sources) lookup.folders.now.justfiles
+
+  -- this is the text at its key
+  abbrev pub IsSource : File → Type 0
+  IsSource file = file_at sources (Some file.0) ≡ Some file
+
+  module _ (os : Os) (files : List LoadedFile) where
+    -- what waits is a file with its text, for a submodule of one of so many modules
+    pub record IsAwaited (count : ℕ) (waiting : Waiting) : Type 0 where
+      pub source : IsSource waiting.file
+      pub named : IsNameOf os files waiting.item waiting.name
+      pub parent : (place : ℕ) → waiting.parent ≡ Some place → place < count
+
+    -- so do all of these
+    abbrev pub AreAwaited : ℕ → List Waiting → Type 0
+    AreAwaited count waits = (i : ℕ) (waiting : Waiting) → slice_get waits i ≡ Some waiting → IsAwaited count waiting
+
+  -- the root's key is no clean path, or none of the sources
+  pub record IsRootMissing (own : List ℕ) (refusal : Error) : Type 0 where
+    pub missing : (is_clean own ≡ false) ⊎ (file_at sources (Some own) ≡ None)
+    pub told : IsMissingRoot refusal own
+
+  module _ (expansion : Expansion) (version : Version) where
+    -- the root's text was read, and has the next numbers
+    pub record IsRootRead (start : Numbers) (own : List ℕ) (parsed : Parsed) : Type 0 where
+      pub text : List ℕ
+      pub there : source_of sources own ≡ Some text
+      pub says : Reads expansion version text (item_shapes parsed.ast.items.items)
+      pub numbered : AreInOrder start parsed.numerator parsed.ast.items.items
+
+    -- why a module is refused that has this file: by its files, which begin at a place, or by one of their submodules
+    pub data IsLoadRefused (lookup : Files) (os : Os) (place first : ℕ) (source : File) (refusal : Error) : Type 0 where
+      files_refused : IsModuleRefused sources expansion version place source first refusal → IsLoadRefused lookup os place first source refusal
+      submodule_refused : (files : List LoadedFile) (above : Above) → AreFilesOf sources expansion version place source.0 (drop first files) → IsRefusedAmong lookup os files above place first (length files - first) refusal
+          → IsLoadRefused lookup os place first source refusal
+
+    -- Modules that are loaded, in a justfile whose root may be known to be read: numbers begin after these then.
+    module _ (os : Os) (start : Numbers) (is_read : Bool) where
+      -- the root's file alone is there
+      pub record IsBegun (own : List ℕ) (compilation : Compilation) (numbers : Numbers) : Type 0 where
+        pub none : compilation.modules.items ≡ []
+        pub alone : is_read ≡ true → IsOwnAlone sources expansion version 0 own compilation.files.items
+        pub numbered : is_read ≡ true → AreNumbered start compilation.files.items numbers
+
+      -- the module at a place keeps nothing yet and stands after its parent; its files are all that its own file leads to
+      pub record IsLoaded (files : List LoadedFile) (place : ℕ) (node : ModuleNode) : Type 0 where
+        pub empty : KeepsNothing node
+        pub named : IsNameOf os files node.item node.name
+        pub parent : (above : ℕ) → node.parent ≡ Some above → above < place
+        pub within : node.end_file ≤ length files
+        pub own_files : is_read ≡ true → AreFilesOf sources expansion version place node.source.now (files_of files node)
+
+      abbrev pub AllLoaded : List LoadedFile → List ModuleNode → Type 0
+      AllLoaded files modules = (place : ℕ) (node : ModuleNode) → slice_get modules place ≡ Some node → IsLoaded files place node
+
+      -- some modules are loaded, and others wait
+      pub record AreLoadedSoFar (lookup : Files) (compilation : Compilation) (numbers : Numbers) (pending : List Pending) : Type 0 where
+        pub numbered : is_read ≡ true → AreNumbered start compilation.files.items numbers
+        pub modules : AllLoaded compilation.files.items compilation.modules.items
+        pub waiting : AreAwaited os compilation.files.items (length compilation.modules.items) (map waiting_view pending)
+        pub followed : AllFollowedUp lookup os compilation.files.items compilation.modules.items (map waiting_view pending)
+
+      -- some modules are loaded, and one that waits is refused
+      pub record IsNextRefused (lookup : Files) (refusal : Error) : Type 0 where
+        pub compilation : Compilation
+        pub numbers : Numbers
+        pub pending : List Pending
+        pub loaded : AreLoadedSoFar lookup compilation numbers pending
+        pub next : Waiting
+        pub awaited : IsAwaited os compilation.files.items (length compilation.modules.items) next
+        pub refused : IsLoadRefused lookup os (length compilation.modules.items) (length compilation.files.items) next.file refusal
+
+      -- the module of a root that was read is refused, or one below it
+      pub data IsBelowRefused (own : List ℕ) (refusal : Error) : Type 0 where
+        refused_root : (lookup : Files) → IsLookupOf lookup → (is_read ≡ true → (text : List ℕ) × IsLoadRefused lookup os 0 0 (own, text) refusal) → IsBelowRefused own refusal
+        refused_below : (lookup : Files) → IsLookupOf lookup → IsNextRefused lookup refusal → IsBelowRefused own refusal
+
+      -- all modules are loaded
+      pub record AreLoaded (compilation : Compilation) : Type 0 where
+        pub numbers : Numbers
+        pub numbered : is_read ≡ true → AreNumbered start compilation.files.items numbers
+        pub modules : AllLoaded compilation.files.items compilation.modules.items
+        pub lookup : Files
+        pub looks_up : IsLookupOf lookup
+        pub followed : AllFollowedUp lookup os compilation.files.items compilation.modules.items []
+
+    -- why a justfile is refused as it is loaded: its root is missing or says nothing, or else a module is refused
+    pub data IsRefused (os : Os) (start : Numbers) (is_read : Bool) (own : List ℕ) (refusal : Error) : Type 0 where
+      root_missing : IsRootMissing own refusal → IsRefused os start is_read own refusal
+      root_unread : (source : File) → source.0 ≡ own → IsSource source → (used : Numbers) → IsUnread expansion version 0 0 source used refusal → IsRefused os start is_read own refusal
+      below_refused : IsBelowRefused os start is_read own refusal → IsRefused os start is_read own refusal
