@@ -179,9 +179,9 @@ module _ (files : List File) (name : Name) (place : Place) where
 abbrev pub AreFresh : Os → List File → List ModuleNode → Type 0
 AreFresh os files modules = (place : ℕ) (node : ModuleNode) → slice_get modules place ≡ Some node → KeepsNothing node × IsNameOf os files node.item node.name
 
-pub fresh_of : {Y Z : Type 0} (sources : BTreeMap (String Y) (String Z)) (expansion : Expansion) (version : Version) (os : Os) (start : Numbers) (is_read : Bool) (compilation : Compilation) → AreLoaded sources expansion version os start is_read compilation
+pub fresh_of : {Y Z : Type 0} (sources : BTreeMap (String Y) (String Z)) (expansion : Expansion) (version : Version) (os : Os) (start : Numbers) (is_read : Bool) (root : List ℕ) (compilation : Compilation) → AreLoaded sources expansion version os start is_read root compilation
     → AreFresh os compilation.files.items compilation.modules.items
-fresh_of sources expansion version os start is_read compilation loaded place node e = let l = loaded.modules place node e in (l.empty, l.named)
+fresh_of sources expansion version os start is_read root compilation loaded place node e = let l = loaded.modules place node e in (l.empty, l.named)
 
 module _ (os : Os) (unstable : Bool) (before after : Compilation) (h : AreFilled os unstable before after) (fresh : AreFresh os before.files.items before.modules.items) where
   -- a submodule has the name of its definition

@@ -15,16 +15,16 @@ use Rattle.just_modules.specs.Refused.{IsRefused, alias_refused, loading_refused
 use Rattle.just_modules.proofs.ByName.{all_by_name, fresh_of}
 
 module _ {Y Z : Type 0} (sources : BTreeMap (String Y) (String Z)) (expansion : Expansion) (version : Version) (os : Os) (unstable : Bool) (start : Numbers) (is_read : Bool) (root : List ℕ) where
-  unsettled_refused : (loaded : Compilation) (e : Error) → AreLoaded sources expansion version os start is_read loaded → IsUnsettled os unstable loaded e → IsRefused os unstable sources expansion version start is_read root e
+  unsettled_refused : (loaded : Compilation) (e : Error) → AreLoaded sources expansion version os start is_read root loaded → IsUnsettled os unstable loaded e → IsRefused os unstable sources expansion version start is_read root e
   unsettled_refused loaded e are (inl first) = module_refused loaded are first
   unsettled_refused loaded e are (inr (filled, is, unknown)) =
-      alias_refused loaded filled are is (unknown (all_by_name os unstable loaded filled is (fresh_of sources expansion version os start is_read loaded are)))
+      alias_refused loaded filled are is (unknown (all_by_name os unstable loaded filled is (fresh_of sources expansion version os start is_read root loaded are)))
 
-  settled_refused : (loaded : Compilation) (e : Error) → AreLoaded sources expansion version os start is_read loaded → OrMemory (IsUnsettled os unstable loaded) e → e ≢ OutOfMemory → IsRefused os unstable sources expansion version start is_read root e
+  settled_refused : (loaded : Compilation) (e : Error) → AreLoaded sources expansion version os start is_read root loaded → OrMemory (IsUnsettled os unstable loaded) e → e ≢ OutOfMemory → IsRefused os unstable sources expansion version start is_read root e
   settled_refused loaded e are (inl m) n = absurd (n m)
   settled_refused loaded e are (inr u) n = unsettled_refused loaded e are u
 
-  pub refused_by_either : (loaded : Result Compilation Error) (r : Result Compilation Error) → IfOk loaded (AreLoaded sources expansion version os start is_read) → IfErr loaded (λ e. e ≢ OutOfMemory → IsLoadingRefused sources expansion version os start is_read root e)
+  pub refused_by_either : (loaded : Result Compilation Error) (r : Result Compilation Error) → IfOk loaded (AreLoaded sources expansion version os start is_read root) → IfErr loaded (λ e. e ≢ OutOfMemory → IsLoadingRefused sources expansion version os start is_read root e)
       → IfErr loaded (λ e. r ≡ Err e) → IfErr r (λ e. (before : Compilation) → loaded ≡ Ok before → OrMemory (IsUnsettled os unstable before) e) → IfErr r (λ e. e ≢ OutOfMemory → IsRefused os unstable sources expansion version start is_read root e)
   refused_by_either (Ok before) (Ok after) are refused same unsettled = tt
   refused_by_either (Ok before) (Err e) are refused same unsettled = λ n. settled_refused before e are (unsettled before refl) n

@@ -120,8 +120,8 @@ module _ (os : Os) (unstable : Bool) where
         → (filled : ModuleNode) × (slice_get after.modules.items k ≡ Some filled) × IsFilled os unstable before.files.items before.modules.items node filled
 
   -- the compilation comes of one that was loaded
-  abbrev pub IsSettled : {Y Z : Type 0} → BTreeMap (String Y) (String Z) → Expansion → Version → Numbers → Bool → Compilation → Type 0
-  IsSettled sources expansion version start is_read compilation = (loaded : Compilation) × AreLoaded sources expansion version os start is_read loaded × AreFilled loaded compilation
+  abbrev pub IsSettled : {Y Z : Type 0} → BTreeMap (String Y) (String Z) → Expansion → Version → Numbers → Bool → List ℕ → Compilation → Type 0
+  IsSettled sources expansion version start is_read root compilation = (loaded : Compilation) × AreLoaded sources expansion version os start is_read root loaded × AreFilled loaded compilation
 
   -- no rule on items is broken in a module
   abbrev pub AreWhole : Compilation → Type 0

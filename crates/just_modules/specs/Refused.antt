@@ -21,5 +21,5 @@ module _ (os : Os) (unstable : Bool) where
   -- the justfile is refused as it is loaded, or it is loaded and refused by what its modules define
   pub data IsRefused {Y Z : Type 0} (sources : BTreeMap (String Y) (String Z)) (expansion : Expansion) (version : Version) (start : Numbers) (is_read : Bool) (root : List ℕ) (error : Error) : Type 0 where
     loading_refused : IsLoadingRefused sources expansion version os start is_read root error → IsRefused sources expansion version start is_read root error
-    module_refused : (loaded : Compilation) → AreLoaded sources expansion version os start is_read loaded → IsFirstRefused os unstable loaded error → IsRefused sources expansion version start is_read root error
-    alias_refused : (loaded filled : Compilation) → AreLoaded sources expansion version os start is_read loaded → AreFilled os unstable loaded filled → IsAliasUnknown filled error → IsRefused sources expansion version start is_read root error
+    module_refused : (loaded : Compilation) → AreLoaded sources expansion version os start is_read root loaded → IsFirstRefused os unstable loaded error → IsRefused sources expansion version start is_read root error
+    alias_refused : (loaded filled : Compilation) → AreLoaded sources expansion version os start is_read root loaded → AreFilled os unstable loaded filled → IsAliasUnknown filled error → IsRefused sources expansion version start is_read root error

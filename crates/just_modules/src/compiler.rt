@@ -395,7 +395,7 @@ impl Compiler {
         sources: &'src BTreeMap<String, String>,
         root: &'src str,
     ) -> Result<Compilation<'src>, Error<'src>>
-        ensures filled { IfOk result (IsSettled config.now.os config.now.unstable sources.now (E.expansion expander.now) config.now.version first_numbers true) }
+        ensures filled { IfOk result (IsSettled config.now.os config.now.unstable sources.now (E.expansion expander.now) config.now.version first_numbers true root.now) }
         ensures by_name { IfOk result AllByName }
         ensures aliases { IfOk result AllAliasesLead }
         ensures whole { IfOk result (AreWhole config.now.os config.now.unstable) }
@@ -414,7 +414,7 @@ impl Compiler {
         root: &'src str,
         parsed: Parsed<'src>,
     ) -> Result<Compilation<'src>, Error<'src>>
-        ensures filled { IfOk result (λ compilation. (start : Numbers) (is_read : Bool) → (is_read ≡ true → IsRootRead sources.now (E.expansion expander.now) config.now.version start root.now parsed.entry) → IsSettled config.now.os config.now.unstable sources.now (E.expansion expander.now) config.now.version start is_read compilation) }
+        ensures filled { IfOk result (λ compilation. (start : Numbers) (is_read : Bool) → (is_read ≡ true → IsRootRead sources.now (E.expansion expander.now) config.now.version start root.now parsed.entry) → IsSettled config.now.os config.now.unstable sources.now (E.expansion expander.now) config.now.version start is_read root.now compilation) }
         ensures by_name { IfOk result AllByName }
         ensures aliases { IfOk result AllAliasesLead }
         ensures whole { IfOk result (AreWhole config.now.os config.now.unstable) }

@@ -9,7 +9,7 @@ use Rattle.modules_compilation.specs.declared.module_node.File.{File as LoadedFi
 use Rattle.modules_compilation.specs.declared.module_node.ModuleNode.{ModuleNode}
 use Rattle.modules_files.specs.declared.search.Files.{Files}
 use Rattle.modules_sources.specs.Items.{key_of}
-use Rattle.modules_sources.specs.Loaded.{AllFollowedUp, AreInner, IsFollowedUp, IsKnown, IsLoadedFor}
+use Rattle.modules_sources.specs.Loaded.{AllFollowedUp, AreInner, IsFollowedUp, IsKnown, IsLoadedFor, HasRoot}
 use Rattle.modules_sources.specs.Nodes.{HasOneMore, IsNodeOf, IsNoted}
 use Rattle.modules_sources.specs.Submodules.{Above, AreFound, AreWaiting, waiting_none, waiting_more, Waiting, waiting_view}
 use Rattle.modules_sources.specs.declared.queue.Pending.{Pending}
@@ -101,6 +101,18 @@ came_from parent submodule old new is place after e =
     let was = there_within old place (omega (arith, lt, many)) in
     let t = goes_to parent submodule old new is place was.0 was.1 in
     (was.0, was.1, subst (IsNotedNode parent submodule place was.0) (same_Some t.0 after (sym t.1 ∙ e)) t.2)
+
+-- the root's module stays the first
+pub root_still : (own : List ℕ) (next : Pending) (modules after : List ModuleNode) (node : ModuleNode) → IsNoted next.parent (length modules) (modules ++ node ∷ []) after → HasRoot own modules → HasRoot own after
+root_still own next modules after node noted h =
+    let t = goes_to next.parent (length modules) (modules ++ node ∷ []) after noted 0 h.node (kept_left modules (node ∷ []) 0 h.node h.first) in
+    record { node = t.0; first = t.1; source = ap (λ s. s.now) t.2.same.source ∙ h.source; parent = t.2.same.parent ∙ h.parent; item = t.2.same.item ∙ h.item; name = t.2.same.name ∙ h.name }
+
+-- a module that has no parent is the first of none
+pub first_root : (root : Pending) (end : ℕ) (node : ModuleNode) (after : List ModuleNode) → root.parent ≡ None → root.item ≡ None → root.name ≡ None → IsNodeOf root 0 end node → IsNoted root.parent 0 (node ∷ []) after → HasRoot root.source.key.now after
+first_root root end node after no_parent no_item no_name is noted =
+    let t = goes_to root.parent 0 (node ∷ []) after noted 0 node refl in
+    record { node = t.0; first = t.1; source = ap (λ s. s.now) (t.2.same.source ∙ is.source); parent = t.2.same.parent ∙ is.parent ∙ no_parent; item = t.2.same.item ∙ is.item ∙ no_item; name = t.2.same.name ∙ is.name ∙ no_name }
 
 parent_or_not : (parent : Option ℕ) (place : ℕ) → (parent ≡ Some place) ⊎ (parent ≡ Some place → ⊥)
 parent_or_not None place = inr (λ f. absurd (cc f))

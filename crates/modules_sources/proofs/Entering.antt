@@ -23,7 +23,7 @@ use Rattle.modules_files.specs.Chosen.{File, module_answer}
 use Rattle.modules_files.specs.Found.{file_at}
 use Rattle.modules_files.specs.declared.search.Files.{Files}
 use Rattle.modules_sources.specs.Items.{ModuleParts, key_of, module_of}
-use Rattle.modules_sources.specs.Loaded.{AllFollowedUp, AllLoaded, AreAwaited, AreLoadedSoFar, IsAwaited, IsLoaded, IsNameOf, IsSource, files_of, submodule_at, IsBegun, IsRootRead}
+use Rattle.modules_sources.specs.Loaded.{AllFollowedUp, AllLoaded, AreAwaited, AreLoadedSoFar, IsAwaited, IsLoaded, IsNameOf, IsSource, files_of, submodule_at, IsBegun, IsRootRead, HasRoot}
 use Rattle.modules_sources.specs.Nodes.{HasOneMore, IsNodeOf, IsNoted}
 use Rattle.modules_sources.specs.ReadingOrder.{AreFilesOf, AreNumbered, numbered_more, numbered_none}
 use Rattle.modules_sources.specs.Submodules.{Above, AreBelow, AreFound, found_none, found_more, AreWaiting, waiting_none, waiting_more, Found, Gives, Waiting, found_at, waiting, waiting_view}
@@ -31,7 +31,7 @@ use Rattle.modules_sources.specs.declared.queue.Pending.{Pending}
 use Rattle.std.specs.Borrow.{Bor}
 use Rattle.modules_compilation.specs.declared.source.Source.{Source}
 use Rattle.modules_sources.specs.declared.load.Parsed.{Parsed}
-use Rattle.modules_sources.proofs.Closing.{followed_further}
+use Rattle.modules_sources.proofs.Closing.{followed_further, first_root}
 use Rattle.modules_sources.proofs.Ordering.{found_source}
 use Rattle.modules_sources.proofs.Reaching.{end_cases, kept_left}
 
@@ -277,14 +277,15 @@ module _ (lookup : Files) (expansion : Expansion) (version : Version) (os : Os) 
       → after.files.items ≡ files ++ more → (is_read ≡ true → AreNumbered start after.files.items gone)
       → (is_read ≡ true → AreFilesOf lookup.sources.now expansion version (length modules) next.source.key.now (drop (length files) after.files.items))
       → IsNodeOf next (length files) (length after.files.items) node → IsNoted next.parent (length modules) (modules ++ node ∷ []) after.modules.items → length after.modules.items ≡ length modules + 1
-      → AreWaiting lookup os after.files.items above (length modules) (length files) (length after.files.items - length files) found → map waiting_view left ≡ waits ++ found
-      → AreLoadedSoFar lookup.sources.now expansion version os start is_read lookup after gone left
-  entered files modules after gone next waits left more node above found loaded awaited followed named below grown numbered own_files is noted one_more waiting whole =
+      → AreWaiting lookup os after.files.items above (length modules) (length files) (length after.files.items - length files) found → map waiting_view left ≡ waits ++ found → (own : List ℕ) → HasRoot own after.modules.items
+      → AreLoadedSoFar lookup.sources.now expansion version os start is_read lookup own after gone left
+  entered files modules after gone next waits left more node above found loaded awaited followed named below grown numbered own_files is noted one_more waiting whole own root =
       let sources = lookup.sources.now in
       let count = length modules in
       let lt : count < count + 1 = omega arith in
       let node_is = subst (λ fs. IsNodeOf next (length files) (length fs) node) grown is in
       record {
+        root = root;
         numbered = numbered;
         modules = subst (λ fs. AllLoaded sources expansion version os start is_read fs after.modules.items) (sym grown)
             (modules_further sources expansion version os start is_read files more modules after.modules.items next node loaded named below node_is
@@ -299,14 +300,15 @@ module _ (lookup : Files) (expansion : Expansion) (version : Version) (os : Os) 
       }
 
   -- the root's module
-  pub root_entered : (modules : List ModuleNode) (after : Compilation) (gone : Numbers) (root : Pending) (left : List Pending) (node : ModuleNode) (above : Above) (found : List Waiting) → modules ≡ [] → root.parent ≡ None → root.item ≡ None
+  pub root_entered : (modules : List ModuleNode) (after : Compilation) (gone : Numbers) (root : Pending) (left : List Pending) (node : ModuleNode) (above : Above) (found : List Waiting) → modules ≡ [] → root.parent ≡ None → root.item ≡ None → root.name ≡ None
       → (is_read ≡ true → AreNumbered start after.files.items gone) → (is_read ≡ true → AreFilesOf lookup.sources.now expansion version 0 root.source.key.now after.files.items)
       → IsNodeOf root 0 (length after.files.items) node → IsNoted root.parent (length modules) (modules ++ node ∷ []) after.modules.items → length after.modules.items ≡ length modules + 1
-      → AreWaiting lookup os after.files.items above (length modules) 0 (length after.files.items - 0) found → map waiting_view left ≡ found → AreLoadedSoFar lookup.sources.now expansion version os start is_read lookup after gone left
-  root_entered modules after gone root left node above found none no_parent no_item numbered own_files is noted one_more waiting whole =
+      → AreWaiting lookup os after.files.items above (length modules) 0 (length after.files.items - 0) found → map waiting_view left ≡ found → AreLoadedSoFar lookup.sources.now expansion version os start is_read lookup root.source.key.now after gone left
+  root_entered modules after gone root left node above found none no_parent no_item no_name numbered own_files is noted one_more waiting whole =
       entered [] [] after gone root [] left after.files.items node above found (λ place n e. absurd (none-some n e)) (λ i w e. absurd (none-some w e)) (λ place n e. absurd (none-some n e)) (λ place e. absurd (none-some place (sym no_item ∙ e)))
       (λ place e. absurd (none-some place (sym no_parent ∙ e))) refl numbered own_files is (subst (λ ms. IsNoted root.parent (length ms) (ms ++ node ∷ []) after.modules.items) none noted) (one_more ∙ ap (λ ms. length ms + 1) none)
-      (subst (λ ms. AreWaiting lookup os after.files.items above (length ms) 0 (length after.files.items - 0) found) none waiting) whole
+      (subst (λ ms. AreWaiting lookup os after.files.items above (length ms) 0 (length after.files.items - 0) found) none waiting) whole root.source.key.now
+      (first_root root (length after.files.items) node after.modules.items no_parent no_item no_name is (subst (λ ms. IsNoted root.parent (length ms) (ms ++ node ∷ []) after.modules.items) none noted))
 
 -- the root that was read is the only file
 pub root_begun : {Y Z : Type 0} (sources : BTreeMap (String Y) (String Z)) (expansion : Expansion) (version : Version) (os : Os) (start : Numbers) (is_read : Bool) (root : Bor (List ℕ)) (parsed : Parsed) (source : Source) (compilation : Compilation)

@@ -51,6 +51,15 @@ files_of files node = drop node.first_file (take node.end_file files)
 abbrev pub first_numbers : Numbers
 first_numbers = record { constants = 29; bindings = 29; recipes = 0 }
 
+-- the first module is that of the root, which has this key
+pub record HasRoot (own : List ℕ) (modules : List ModuleNode) : Type 0 where
+  pub node : ModuleNode
+  pub first : slice_get modules 0 ≡ Some node
+  pub source : node.source.now ≡ own
+  pub parent : node.parent ≡ None
+  pub item : node.item ≡ None
+  pub name : node.name ≡ None
+
 -- a module is loaded for what waited
 pub record IsLoadedFor (waiting : Waiting) (node : ModuleNode) : Type 0 where
   pub source : node.source.now ≡ waiting.file.0
@@ -138,19 +147,20 @@ module _ {Y Z : Type 0} (sources : BTreeMap (String Y) (String Z)) where
       abbrev pub AllLoaded : List LoadedFile → List ModuleNode → Type 0
       AllLoaded files modules = (place : ℕ) (node : ModuleNode) → slice_get modules place ≡ Some node → IsLoaded files place node
 
-      -- some modules are loaded, and others wait
-      pub record AreLoadedSoFar (lookup : Files) (compilation : Compilation) (numbers : Numbers) (pending : List Pending) : Type 0 where
+      -- the root's module and some others are loaded, and others wait
+      pub record AreLoadedSoFar (lookup : Files) (own : List ℕ) (compilation : Compilation) (numbers : Numbers) (pending : List Pending) : Type 0 where
+        pub root : HasRoot own compilation.modules.items
         pub numbered : is_read ≡ true → AreNumbered start compilation.files.items numbers
         pub modules : AllLoaded compilation.files.items compilation.modules.items
         pub waiting : AreAwaited os compilation.files.items (length compilation.modules.items) (map waiting_view pending)
         pub followed : AllFollowedUp lookup os compilation.files.items compilation.modules.items (map waiting_view pending)
 
       -- some modules are loaded, and one that waits is refused
-      pub record IsNextRefused (lookup : Files) (refusal : Error) : Type 0 where
+      pub record IsNextRefused (lookup : Files) (own : List ℕ) (refusal : Error) : Type 0 where
         pub compilation : Compilation
         pub numbers : Numbers
         pub pending : List Pending
-        pub loaded : AreLoadedSoFar lookup compilation numbers pending
+        pub loaded : AreLoadedSoFar lookup own compilation numbers pending
         pub next : Waiting
         pub awaited : IsAwaited os compilation.files.items (length compilation.modules.items) next
         pub refused : IsLoadRefused lookup os (length compilation.modules.items) (length compilation.files.items) next.file refusal
@@ -158,10 +168,11 @@ module _ {Y Z : Type 0} (sources : BTreeMap (String Y) (String Z)) where
       -- the module of a root that was read is refused, or one below it
       pub data IsBelowRefused (own : List ℕ) (refusal : Error) : Type 0 where
         refused_root : (lookup : Files) → IsLookupOf lookup → (is_read ≡ true → (text : List ℕ) × IsLoadRefused lookup os 0 0 (own, text) refusal) → IsBelowRefused own refusal
-        refused_below : (lookup : Files) → IsLookupOf lookup → IsNextRefused lookup refusal → IsBelowRefused own refusal
+        refused_below : (lookup : Files) → IsLookupOf lookup → IsNextRefused lookup own refusal → IsBelowRefused own refusal
 
-      -- all modules are loaded
-      pub record AreLoaded (compilation : Compilation) : Type 0 where
+      -- the root's module and all below it are loaded
+      pub record AreLoaded (own : List ℕ) (compilation : Compilation) : Type 0 where
+        pub root : HasRoot own compilation.modules.items
         pub numbers : Numbers
         pub numbered : is_read ≡ true → AreNumbered start compilation.files.items numbers
         pub modules : AllLoaded compilation.files.items compilation.modules.items

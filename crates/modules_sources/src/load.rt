@@ -243,8 +243,8 @@ impl<'src, 'a, E: Expander> Loader<'src, 'a, E> {
         next: &Pending<'src>,
     ) -> Result<(), Error<'src>>
         ensures one_more { OnOk result (length compilation.new.modules.items ≡ length compilation.old.modules.items + 1) }
-        ensures loaded { OnOk result ((start : Numbers) (is_read : Bool) → AreLoadedSoFar self.now.files.sources.now (E.expansion self.now.expander.now) self.now.config.now.version self.now.config.now.os start is_read self.now.files compilation.old numerator.old (queue.old.pending.items ++ next.now ∷ []) → AreLoadedSoFar self.now.files.sources.now (E.expansion self.now.expander.now) self.now.config.now.version self.now.config.now.os start is_read self.now.files compilation.new numerator.new queue.new.pending.items) }
-        ensures refused { IfErr result (λ refusal. refusal ≢ refusals.OutOfMemory → (start : Numbers) (is_read : Bool) → AreLoadedSoFar self.now.files.sources.now (E.expansion self.now.expander.now) self.now.config.now.version self.now.config.now.os start is_read self.now.files compilation.old numerator.old (queue.old.pending.items ++ next.now ∷ []) → IsLoadRefused self.now.files.sources.now (E.expansion self.now.expander.now) self.now.config.now.version self.now.files self.now.config.now.os (length compilation.old.modules.items) (length compilation.old.files.items) (view next.now.source) refusal) }
+        ensures loaded { OnOk result ((start : Numbers) (is_read : Bool) (own : List ℕ) → AreLoadedSoFar self.now.files.sources.now (E.expansion self.now.expander.now) self.now.config.now.version self.now.config.now.os start is_read self.now.files own compilation.old numerator.old (queue.old.pending.items ++ next.now ∷ []) → AreLoadedSoFar self.now.files.sources.now (E.expansion self.now.expander.now) self.now.config.now.version self.now.config.now.os start is_read self.now.files own compilation.new numerator.new queue.new.pending.items) }
+        ensures refused { IfErr result (λ refusal. refusal ≢ refusals.OutOfMemory → (start : Numbers) (is_read : Bool) (own : List ℕ) → AreLoadedSoFar self.now.files.sources.now (E.expansion self.now.expander.now) self.now.config.now.version self.now.config.now.os start is_read self.now.files own compilation.old numerator.old (queue.old.pending.items ++ next.now ∷ []) → IsLoadRefused self.now.files.sources.now (E.expansion self.now.expander.now) self.now.config.now.version self.now.files self.now.config.now.os (length compilation.old.modules.items) (length compilation.old.files.items) (view next.now.source) refusal) }
     {
         let module = compilation.modules.len();
         let first = compilation.files.len();
@@ -264,8 +264,8 @@ impl<'src, 'a, E: Expander> Loader<'src, 'a, E> {
     ) -> Result<bool, Error<'src>>
         ensures one_more { IfOk result (λ loaded. loaded ≡ true → length compilation.old.modules.items < length compilation.new.modules.items) }
         ensures ended { IfOk result (λ loaded. loaded ≡ false → queue.new.pending.items ≡ []) }
-        ensures loaded { OnOk result ((start : Numbers) (is_read : Bool) → AreLoadedSoFar self.now.files.sources.now (E.expansion self.now.expander.now) self.now.config.now.version self.now.config.now.os start is_read self.now.files compilation.old numerator.old queue.old.pending.items → AreLoadedSoFar self.now.files.sources.now (E.expansion self.now.expander.now) self.now.config.now.version self.now.config.now.os start is_read self.now.files compilation.new numerator.new queue.new.pending.items) }
-        ensures refused { IfErr result (λ refusal. refusal ≢ refusals.OutOfMemory → (start : Numbers) (is_read : Bool) → AreLoadedSoFar self.now.files.sources.now (E.expansion self.now.expander.now) self.now.config.now.version self.now.config.now.os start is_read self.now.files compilation.old numerator.old queue.old.pending.items → IsNextRefused self.now.files.sources.now (E.expansion self.now.expander.now) self.now.config.now.version self.now.config.now.os start is_read self.now.files refusal) }
+        ensures loaded { OnOk result ((start : Numbers) (is_read : Bool) (own : List ℕ) → AreLoadedSoFar self.now.files.sources.now (E.expansion self.now.expander.now) self.now.config.now.version self.now.config.now.os start is_read self.now.files own compilation.old numerator.old queue.old.pending.items → AreLoadedSoFar self.now.files.sources.now (E.expansion self.now.expander.now) self.now.config.now.version self.now.config.now.os start is_read self.now.files own compilation.new numerator.new queue.new.pending.items) }
+        ensures refused { IfErr result (λ refusal. refusal ≢ refusals.OutOfMemory → (start : Numbers) (is_read : Bool) (own : List ℕ) → AreLoadedSoFar self.now.files.sources.now (E.expansion self.now.expander.now) self.now.config.now.version self.now.config.now.os start is_read self.now.files own compilation.old numerator.old queue.old.pending.items → IsNextRefused self.now.files.sources.now (E.expansion self.now.expander.now) self.now.config.now.version self.now.config.now.os start is_read self.now.files own refusal) }
     {
         let Some(next) = queue.pop() else {
             return Ok(false);
@@ -283,8 +283,8 @@ impl<'src, 'a, E: Expander> Loader<'src, 'a, E> {
         queue: &mut Queue<'src>,
     ) -> Result<(), Error<'src>>
         ensures ended { OnOk result (queue.new.pending.items ≡ []) }
-        ensures loaded { OnOk result ((start : Numbers) (is_read : Bool) → AreLoadedSoFar self.now.files.sources.now (E.expansion self.now.expander.now) self.now.config.now.version self.now.config.now.os start is_read self.now.files compilation.old numerator.old queue.old.pending.items → AreLoadedSoFar self.now.files.sources.now (E.expansion self.now.expander.now) self.now.config.now.version self.now.config.now.os start is_read self.now.files compilation.new numerator.new queue.new.pending.items) }
-        ensures refused { IfErr result (λ refusal. refusal ≢ refusals.OutOfMemory → (start : Numbers) (is_read : Bool) → AreLoadedSoFar self.now.files.sources.now (E.expansion self.now.expander.now) self.now.config.now.version self.now.config.now.os start is_read self.now.files compilation.old numerator.old queue.old.pending.items → IsNextRefused self.now.files.sources.now (E.expansion self.now.expander.now) self.now.config.now.version self.now.config.now.os start is_read self.now.files refusal) }
+        ensures loaded { OnOk result ((start : Numbers) (is_read : Bool) (own : List ℕ) → AreLoadedSoFar self.now.files.sources.now (E.expansion self.now.expander.now) self.now.config.now.version self.now.config.now.os start is_read self.now.files own compilation.old numerator.old queue.old.pending.items → AreLoadedSoFar self.now.files.sources.now (E.expansion self.now.expander.now) self.now.config.now.version self.now.config.now.os start is_read self.now.files own compilation.new numerator.new queue.new.pending.items) }
+        ensures refused { IfErr result (λ refusal. refusal ≢ refusals.OutOfMemory → (start : Numbers) (is_read : Bool) (own : List ℕ) → AreLoadedSoFar self.now.files.sources.now (E.expansion self.now.expander.now) self.now.config.now.version self.now.config.now.os start is_read self.now.files own compilation.old numerator.old queue.old.pending.items → IsNextRefused self.now.files.sources.now (E.expansion self.now.expander.now) self.now.config.now.version self.now.config.now.os start is_read self.now.files own refusal) }
     {
         while self.load_next(alloc, compilation, numerator, queue)? {}
         Ok(())
@@ -299,7 +299,7 @@ impl<'src, 'a, E: Expander> Loader<'src, 'a, E> {
         queue: &mut Queue<'src>,
         root: &Pending<'src>,
     ) -> Result<(), Error<'src>>
-        ensures loaded { OnOk result ((start : Numbers) (is_read : Bool) → root.now.parent ≡ None → root.now.item ≡ None → queue.old.pending.items ≡ [] → IsBegun self.now.files.sources.now (E.expansion self.now.expander.now) self.now.config.now.version self.now.config.now.os start is_read root.now.source.key.now compilation.old numerator.old → AreLoadedSoFar self.now.files.sources.now (E.expansion self.now.expander.now) self.now.config.now.version self.now.config.now.os start is_read self.now.files compilation.new numerator.new queue.new.pending.items) }
+        ensures loaded { OnOk result ((start : Numbers) (is_read : Bool) → root.now.parent ≡ None → root.now.item ≡ None → root.now.name ≡ None → queue.old.pending.items ≡ [] → IsBegun self.now.files.sources.now (E.expansion self.now.expander.now) self.now.config.now.version self.now.config.now.os start is_read root.now.source.key.now compilation.old numerator.old → AreLoadedSoFar self.now.files.sources.now (E.expansion self.now.expander.now) self.now.config.now.version self.now.config.now.os start is_read self.now.files root.now.source.key.now compilation.new numerator.new queue.new.pending.items) }
         ensures refused { IfErr result (λ refusal. refusal ≢ refusals.OutOfMemory → (start : Numbers) (is_read : Bool) → IsBegun self.now.files.sources.now (E.expansion self.now.expander.now) self.now.config.now.version self.now.config.now.os start is_read root.now.source.key.now compilation.old numerator.old → is_read ≡ true → (text : List ℕ) × IsLoadRefused self.now.files.sources.now (E.expansion self.now.expander.now) self.now.config.now.version self.now.files self.now.config.now.os 0 0 (root.now.source.key.now, text) refusal) }
     {
         let files = &mut compilation.files;
@@ -316,7 +316,7 @@ impl<'src, 'a, E: Expander> Loader<'src, 'a, E> {
         numerator: &mut Numerator,
         root: Source<'src>,
     ) -> Result<(), Error<'src>>
-        ensures loaded { OnOk result ((start : Numbers) (is_read : Bool) → AreGrouped (source_keys self.now.files.sources.now) self.now.files.folders.now.justfiles → IsBegun self.now.files.sources.now (E.expansion self.now.expander.now) self.now.config.now.version self.now.config.now.os start is_read root.entry.key.now compilation.old numerator.old → AreLoaded self.now.files.sources.now (E.expansion self.now.expander.now) self.now.config.now.version self.now.config.now.os start is_read compilation.new) }
+        ensures loaded { OnOk result ((start : Numbers) (is_read : Bool) → AreGrouped (source_keys self.now.files.sources.now) self.now.files.folders.now.justfiles → IsBegun self.now.files.sources.now (E.expansion self.now.expander.now) self.now.config.now.version self.now.config.now.os start is_read root.entry.key.now compilation.old numerator.old → AreLoaded self.now.files.sources.now (E.expansion self.now.expander.now) self.now.config.now.version self.now.config.now.os start is_read root.entry.key.now compilation.new) }
         ensures refused { IfErr result (λ refusal. refusal ≢ refusals.OutOfMemory → (start : Numbers) (is_read : Bool) → AreGrouped (source_keys self.now.files.sources.now) self.now.files.folders.now.justfiles → IsBegun self.now.files.sources.now (E.expansion self.now.expander.now) self.now.config.now.version self.now.config.now.os start is_read root.entry.key.now compilation.old numerator.old → IsBelowRefused self.now.files.sources.now (E.expansion self.now.expander.now) self.now.config.now.version self.now.config.now.os start is_read root.entry.key.now refusal) }
     {
         let mut queue = Queue::new(alloc);
@@ -365,7 +365,7 @@ fn load_found<'a, 'src, E: Expander>(
     numerator: &mut Numerator,
     root: Source<'src>,
 ) -> Result<(), Error<'src>>
-    ensures loaded { OnOk result ((start : Numbers) (is_read : Bool) → AreGrouped (source_keys files.entry.sources.now) files.entry.folders.now.justfiles → IsBegun files.entry.sources.now (E.expansion expander.now) config.now.version config.now.os start is_read root.entry.key.now compilation.old numerator.old → AreLoaded files.entry.sources.now (E.expansion expander.now) config.now.version config.now.os start is_read compilation.new) }
+    ensures loaded { OnOk result ((start : Numbers) (is_read : Bool) → AreGrouped (source_keys files.entry.sources.now) files.entry.folders.now.justfiles → IsBegun files.entry.sources.now (E.expansion expander.now) config.now.version config.now.os start is_read root.entry.key.now compilation.old numerator.old → AreLoaded files.entry.sources.now (E.expansion expander.now) config.now.version config.now.os start is_read root.entry.key.now compilation.new) }
     ensures refused { IfErr result (λ refusal. refusal ≢ refusals.OutOfMemory → (start : Numbers) (is_read : Bool) → AreGrouped (source_keys files.entry.sources.now) files.entry.folders.now.justfiles → IsBegun files.entry.sources.now (E.expansion expander.now) config.now.version config.now.os start is_read root.entry.key.now compilation.old numerator.old → IsBelowRefused files.entry.sources.now (E.expansion expander.now) config.now.version config.now.os start is_read root.entry.key.now refusal) }
 {
     let loader = Loader {
@@ -387,7 +387,7 @@ fn load_behind<'src, E: Expander>(
     numerator: &mut Numerator,
     root: Source<'src>,
 ) -> Result<(), Error<'src>>
-    ensures loaded { OnOk result ((start : Numbers) (is_read : Bool) → IsBegun sources.now (E.expansion expander.now) config.now.version config.now.os start is_read root.entry.key.now compilation.old numerator.old → AreLoaded sources.now (E.expansion expander.now) config.now.version config.now.os start is_read compilation.new) }
+    ensures loaded { OnOk result ((start : Numbers) (is_read : Bool) → IsBegun sources.now (E.expansion expander.now) config.now.version config.now.os start is_read root.entry.key.now compilation.old numerator.old → AreLoaded sources.now (E.expansion expander.now) config.now.version config.now.os start is_read root.entry.key.now compilation.new) }
     ensures refused { IfErr result (λ refusal. refusal ≢ refusals.OutOfMemory → (start : Numbers) (is_read : Bool) → IsBegun sources.now (E.expansion expander.now) config.now.version config.now.os start is_read root.entry.key.now compilation.old numerator.old → IsBelowRefused sources.now (E.expansion expander.now) config.now.version config.now.os start is_read root.entry.key.now refusal) }
 {
     let folders = Folders::new(alloc, sources)?;
@@ -424,7 +424,7 @@ fn load_text<'src, E: Expander>(
     compilation: &mut Compilation<'src>,
     root: &'src str,
 ) -> Result<(), Error<'src>>
-    ensures loaded { OnOk result (compilation.old.files.items ≡ [] → compilation.old.modules.items ≡ [] → AreLoaded sources.now (E.expansion expander.now) config.now.version config.now.os first_numbers true compilation.new) }
+    ensures loaded { OnOk result (compilation.old.files.items ≡ [] → compilation.old.modules.items ≡ [] → AreLoaded sources.now (E.expansion expander.now) config.now.version config.now.os first_numbers true root.now compilation.new) }
     ensures refused { IfErr result (λ refusal. refusal ≢ refusals.OutOfMemory → compilation.old.files.items ≡ [] → compilation.old.modules.items ≡ [] → IsRefused sources.now (E.expansion expander.now) config.now.version config.now.os first_numbers true root.now refusal) }
 {
     let source = root_source(sources, root)?;
@@ -470,7 +470,7 @@ fn load_parsed<'src, E: Expander>(
     root: &'src str,
     parsed: Parsed<'src>,
 ) -> Result<(), Error<'src>>
-    ensures loaded { OnOk result ((start : Numbers) (is_read : Bool) → compilation.old.files.items ≡ [] → compilation.old.modules.items ≡ [] → (is_read ≡ true → IsRootRead sources.now (E.expansion expander.now) config.now.version start root.now parsed.entry) → AreLoaded sources.now (E.expansion expander.now) config.now.version config.now.os start is_read compilation.new) }
+    ensures loaded { OnOk result ((start : Numbers) (is_read : Bool) → compilation.old.files.items ≡ [] → compilation.old.modules.items ≡ [] → (is_read ≡ true → IsRootRead sources.now (E.expansion expander.now) config.now.version start root.now parsed.entry) → AreLoaded sources.now (E.expansion expander.now) config.now.version config.now.os start is_read root.now compilation.new) }
     ensures refused { IfErr result (λ refusal. refusal ≢ refusals.OutOfMemory → (start : Numbers) (is_read : Bool) → compilation.old.files.items ≡ [] → compilation.old.modules.items ≡ [] → (is_read ≡ true → IsRootRead sources.now (E.expansion expander.now) config.now.version start root.now parsed.entry) → IsRefused sources.now (E.expansion expander.now) config.now.version config.now.os start is_read root.now refusal) }
 {
     let Parsed { ast, mut numerator } = parsed;
@@ -500,7 +500,7 @@ pub fn load_root<'src, E: Expander>(
     sources: &'src BTreeMap<String, String>,
     root: &'src str,
 ) -> Result<Compilation<'src>, Error<'src>>
-    ensures loaded { IfOk result (AreLoaded sources.now (E.expansion expander.now) config.now.version config.now.os first_numbers true) }
+    ensures loaded { IfOk result (AreLoaded sources.now (E.expansion expander.now) config.now.version config.now.os first_numbers true root.now) }
     ensures refused { IfErr result (λ refusal. refusal ≢ refusals.OutOfMemory → IsRefused sources.now (E.expansion expander.now) config.now.version config.now.os first_numbers true root.now refusal) }
 {
     let mut compilation = Compilation::new(alloc);
@@ -517,7 +517,7 @@ pub fn load_modules<'src, E: Expander>(
     root: &'src str,
     parsed: Parsed<'src>,
 ) -> Result<Compilation<'src>, Error<'src>>
-    ensures loaded { IfOk result (λ compilation. (start : Numbers) (is_read : Bool) → (is_read ≡ true → IsRootRead sources.now (E.expansion expander.now) config.now.version start root.now parsed.entry) → AreLoaded sources.now (E.expansion expander.now) config.now.version config.now.os start is_read compilation) }
+    ensures loaded { IfOk result (λ compilation. (start : Numbers) (is_read : Bool) → (is_read ≡ true → IsRootRead sources.now (E.expansion expander.now) config.now.version start root.now parsed.entry) → AreLoaded sources.now (E.expansion expander.now) config.now.version config.now.os start is_read root.now compilation) }
     ensures refused { IfErr result (λ refusal. refusal ≢ refusals.OutOfMemory → (start : Numbers) (is_read : Bool) → (is_read ≡ true → IsRootRead sources.now (E.expansion expander.now) config.now.version start root.now parsed.entry) → IsRefused sources.now (E.expansion expander.now) config.now.version config.now.os start is_read root.now refusal) }
 {
     let mut compilation = Compilation::new(alloc);

@@ -12,7 +12,7 @@ returns-clause-loaded g c =
     let sources = c.args.sources.now in
     let expansion = g.E.Expander.expansion c.args.expander.now in
     let version = c.args.config.now.version in
-    unless (λ (compilation : Compilation). (start : Numbers) (is_read : Bool) → (is_read ≡ true → IsRootRead sources expansion version start c.args.root.now c.args.parsed) → AreLoaded sources expansion version c.args.config.now.os start is_read compilation)
+    unless (λ (compilation : Compilation). (start : Numbers) (is_read : Bool) → (is_read ≡ true → IsRootRead sources expansion version start c.args.root.now c.args.parsed) → AreLoaded sources expansion version c.args.config.now.os start is_read c.args.root.now compilation)
     c.load_parsed-outcome.new.compilation c.load_parsed-outcome.result c.unless_refused.result c.unless_refused.ensures
     (on_ok c.load_parsed-outcome.result c.load_parsed-outcome.ensures.loaded (λ on start is_read. on start is_read c.new-compilation.ensures.files c.new-compilation.ensures.modules))
 

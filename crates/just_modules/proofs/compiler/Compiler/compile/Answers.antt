@@ -9,15 +9,15 @@ use Rattle.just_modules.proofs.compiler.Compiler.compile.Goals as goal
 pub returns-clause-filled : goal.returns-clause-filled
 returns-clause-filled g c = kept_gives c.settled.result c.settled.ensures.filled (λ compilation h. (
   h.0,
-  ok_holds (AreLoaded c.args.sources.now (g.E.Expander.expansion c.args.expander.now) c.args.config.now.version c.args.config.now.os first_numbers true) c.load_root-loaded.result h.0 h.1 c.load_root-loaded.ensures.loaded,
+  ok_holds (AreLoaded c.args.sources.now (g.E.Expander.expansion c.args.expander.now) c.args.config.now.version c.args.config.now.os first_numbers true c.args.root.now) c.load_root-loaded.result h.0 h.1 c.load_root-loaded.ensures.loaded,
   h.2,
 ))
 
 pub returns-clause-by_name : goal.returns-clause-by_name
 returns-clause-by_name g c = kept_gives c.settled.result c.settled.ensures.filled (λ compilation h.
-    let loaded = ok_holds (AreLoaded c.args.sources.now (g.E.Expander.expansion c.args.expander.now) c.args.config.now.version c.args.config.now.os first_numbers true) c.load_root-loaded.result h.0 h.1 c.load_root-loaded.ensures.loaded in
+    let loaded = ok_holds (AreLoaded c.args.sources.now (g.E.Expander.expansion c.args.expander.now) c.args.config.now.version c.args.config.now.os first_numbers true c.args.root.now) c.load_root-loaded.result h.0 h.1 c.load_root-loaded.ensures.loaded in
     all_by_name c.args.config.now.os c.args.config.now.unstable h.0 compilation h.2
-    (fresh_of c.args.sources.now (g.E.Expander.expansion c.args.expander.now) c.args.config.now.version c.args.config.now.os first_numbers true h.0 loaded))
+    (fresh_of c.args.sources.now (g.E.Expander.expansion c.args.expander.now) c.args.config.now.version c.args.config.now.os first_numbers true c.args.root.now h.0 loaded))
 
 pub returns-clause-whole : goal.returns-clause-whole
 returns-clause-whole g c = kept_gives c.settled.result c.settled.ensures.filled (λ compilation h. filled_whole c.args.config.now.os c.args.config.now.unstable h.0 compilation h.2)

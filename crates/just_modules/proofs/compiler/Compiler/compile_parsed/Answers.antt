@@ -15,7 +15,7 @@ returns-clause-filled g c = kept_gives c.settled.result c.settled.ensures.filled
     let sources = c.args.sources.now in
     let expansion = g.E.Expander.expansion c.args.expander.now in
     let version = c.args.config.now.version in
-    let loaded = ok_holds (λ (loaded : Compilation). (start : Numbers) (is_read : Bool) → (is_read ≡ true → IsRootRead sources expansion version start c.args.root.now c.args.parsed) → AreLoaded sources expansion version c.args.config.now.os start is_read loaded)
+    let loaded = ok_holds (λ (loaded : Compilation). (start : Numbers) (is_read : Bool) → (is_read ≡ true → IsRootRead sources expansion version start c.args.root.now c.args.parsed) → AreLoaded sources expansion version c.args.config.now.os start is_read c.args.root.now loaded)
     c.load_modules-loaded.result h.0 h.1 c.load_modules-loaded.ensures.loaded in
     (h.0, loaded start is_read read, h.2))
 
@@ -24,10 +24,10 @@ returns-clause-by_name g c = kept_gives c.settled.result c.settled.ensures.fille
     let sources = c.args.sources.now in
     let expansion = g.E.Expander.expansion c.args.expander.now in
     let version = c.args.config.now.version in
-    let loaded = ok_holds (λ (loaded : Compilation). (start : Numbers) (is_read : Bool) → (is_read ≡ true → IsRootRead sources expansion version start c.args.root.now c.args.parsed) → AreLoaded sources expansion version c.args.config.now.os start is_read loaded)
+    let loaded = ok_holds (λ (loaded : Compilation). (start : Numbers) (is_read : Bool) → (is_read ≡ true → IsRootRead sources expansion version start c.args.root.now c.args.parsed) → AreLoaded sources expansion version c.args.config.now.os start is_read c.args.root.now loaded)
     c.load_modules-loaded.result h.0 h.1 c.load_modules-loaded.ensures.loaded in
     all_by_name c.args.config.now.os c.args.config.now.unstable h.0 compilation h.2
-    (fresh_of sources expansion version c.args.config.now.os first_numbers false h.0 (loaded first_numbers false (λ e. absurd (false≢true e)))))
+    (fresh_of sources expansion version c.args.config.now.os first_numbers false c.args.root.now h.0 (loaded first_numbers false (λ e. absurd (false≢true e)))))
 
 pub returns-clause-whole : goal.returns-clause-whole
 returns-clause-whole g c = kept_gives c.settled.result c.settled.ensures.filled (λ compilation h. filled_whole c.args.config.now.os c.args.config.now.unstable h.0 compilation h.2)

@@ -8,9 +8,10 @@ use Rattle.modules_sources.proofs.load.Loader.load_all.Goals as goal
 
 pub returns-clause-loaded : goal.returns-clause-loaded
 returns-clause-loaded g c = both_ok c.load_pending.result c.load_pending.ensures.loaded c.load_pending.ensures.ended (λ on ended start is_read grouped begun.
-    let all = on start is_read (c.in_ok-load_own.ensures.loaded start is_read refl refl c.new-queue.ensures.pending begun) in
+    let all = on start is_read c.args.root.key.now (c.in_ok-load_own.ensures.loaded start is_read refl refl refl c.new-queue.ensures.pending begun) in
     let after = c.load_pending.new.compilation in
     record {
+      root = all.root;
       numbers = c.load_pending.new.numerator;
       numbered = all.numbered;
       modules = all.modules;
@@ -26,4 +27,4 @@ returns-in_err-load_own-clause-refused g c =
 
 pub returns-clause-refused : goal.returns-clause-refused
 returns-clause-refused g c = if_err c.load_pending.result c.load_pending.ensures.refused (λ e refused n start is_read grouped begun.
-    refused_below c.args.self.now.files (record { same = λ key. refl; grouped = grouped }) (refused n start is_read (c.in_ok-load_own.ensures.loaded start is_read refl refl c.new-queue.ensures.pending begun)))
+    refused_below c.args.self.now.files (record { same = λ key. refl; grouped = grouped }) (refused n start is_read c.args.root.key.now (c.in_ok-load_own.ensures.loaded start is_read refl refl refl c.new-queue.ensures.pending begun)))

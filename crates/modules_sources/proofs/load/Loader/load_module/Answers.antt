@@ -4,6 +4,7 @@ use Rattle.modules_sources.specs.Nodes.{IsNodeOf}
 use Rattle.modules_sources.specs.ReadingOrder.{AreFilesOf, AreNumbered, IsModuleRefused}
 use Rattle.modules_sources.specs.Submodules.{AreWaiting, IsRefusedAmong, waiting_view}
 use Rattle.modules_sources.specs.Loaded.{AllFollowedUp, files_refused, submodule_refused}
+use Rattle.modules_sources.proofs.Closing.{root_still}
 use Rattle.modules_sources.proofs.Entering.{entered, map_last, one_taken}
 use Rattle.modules_sources.proofs.Outcomes.{four_ok, if_err}
 use Rattle.std.proofs.lemmas.Result.{err_from_is_err_and}
@@ -11,7 +12,7 @@ use Rattle.modules_files.specs.Chosen.{view}
 use Rattle.modules_sources.proofs.load.Loader.load_module.Goals as goal
 
 pub returns-clause-loaded : goal.returns-clause-loaded
-returns-clause-loaded g c = four_ok c.add_module.result c.add_module.ensures.one_more c.add_module.ensures.node c.add_module.ensures.files c.add_module.ensures.pending (λ one_more node files pending start is_read so.
+returns-clause-loaded g c = four_ok c.add_module.result c.add_module.ensures.one_more c.add_module.ensures.node c.add_module.ensures.files c.add_module.ensures.pending (λ one_more node files pending start is_read own so.
     let sources = c.args.self.now.files.sources.now in
     let expansion = g.E.Expander.expansion c.args.self.now.expander.now in
     let version = c.args.self.now.config.now.version in
@@ -34,12 +35,12 @@ returns-clause-loaded g c = four_ok c.add_module.result c.add_module.ensures.one
     (λ read. subst (λ fs. AreFilesOf sources expansion version (length old.modules.items) key (drop (length old.files.items) fs)) (sym files) (subst (λ n. AreFilesOf sources expansion version n key (drop (length old.files.items) now)) module_is (texts.own_files aw.source)))
     (subst (λ fs. IsNodeOf c.args.next.now (length old.files.items) (length fs) node.0) (sym files) (subst (λ n. IsNodeOf c.args.next.now n (length now) node.0) first node.1)) node.2 one_more
     (subst (λ fs. AreWaiting c.args.self.now.files os fs pending.0 (length old.modules.items) (length old.files.items) (length fs - length old.files.items) pending.1) (sym files)
-    (subst (λ n. AreWaiting c.args.self.now.files os now pending.0 (length old.modules.items) n (length now - n) pending.1) first pending.2)) pending.3)
+    (subst (λ n. AreWaiting c.args.self.now.files os now pending.0 (length old.modules.items) n (length now - n) pending.1) first pending.2)) pending.3 own (root_still own c.args.next.now old.modules.items after.modules.items node.0 node.2 so.root))
 
 pub returns-in_err-load_texts-clause-refused : goal.returns-in_err-load_texts-clause-refused
 returns-in_err-load_texts-clause-refused g c =
     let p = err_from_is_err_and c.from_residual.result c.from_residual.ensures.1 in
-    rw (p.1, p.2) (λ n start is_read so.
+    rw (p.1, p.2) (λ n start is_read own so.
     let sources = c.args.self.now.files.sources.now in
     let expansion = g.E.Expander.expansion c.args.self.now.expander.now in
     let version = c.args.self.now.config.now.version in
@@ -51,7 +52,7 @@ returns-in_err-load_texts-clause-refused g c =
     files_refused (subst (λ k. IsModuleRefused sources expansion version k (view c.args.next.now.source) (length old.files.items) c.in_err-load_texts.field-0.0) module_is (c.in_err-load_texts.ensures.refused n aw.source)))
 
 pub returns-clause-refused : goal.returns-clause-refused
-returns-clause-refused g c = if_err c.add_module.result c.add_module.ensures.refused (λ e refused n start is_read so.
+returns-clause-refused g c = if_err c.add_module.result c.add_module.ensures.refused (λ e refused n start is_read own so.
     let sources = c.args.self.now.files.sources.now in
     let expansion = g.E.Expander.expansion c.args.self.now.expander.now in
     let version = c.args.self.now.config.now.version in

@@ -8,9 +8,10 @@ use Rattle.std.proofs.lemmas.Result.{err_from_is_err_and}
 use Rattle.modules_sources.proofs.load.Loader.load_next.Goals as goal
 
 pub returns-in_default-clause-loaded : goal.returns-in_default-clause-loaded
-returns-in_default-clause-loaded g c = λ start is_read so.
+returns-in_default-clause-loaded g c = λ start is_read own so.
     let taken = c.pop.ensures.pending ∙ ap (λ o. c.pop.new.self.pending.items ++ option_to_list o) c.in_default.is in
     record {
+      root = so.root;
       numbered = so.numbered;
       modules = so.modules;
       waiting = none_taken c.args.self.now.files.sources.now (g.E.Expander.expansion c.args.self.now.expander.now) c.args.self.now.config.now.version c.args.self.now.config.now.os start is_read c.args.compilation.now.files.items (length c.args.compilation.now.modules.items)
@@ -21,9 +22,10 @@ returns-in_default-clause-loaded g c = λ start is_read so.
     }
 
 pub returns-clause-loaded : goal.returns-clause-loaded
-returns-clause-loaded g c = λ start is_read so.
+returns-clause-loaded g c = λ start is_read own so.
     let taken = c.pop.ensures.pending ∙ ap (λ o. c.pop.new.self.pending.items ++ option_to_list o) c.in-Some.is in
-    c.in_ok-load_module.ensures.loaded start is_read (record {
+    c.in_ok-load_module.ensures.loaded start is_read own (record {
+      root = so.root;
       numbered = so.numbered;
       modules = so.modules;
       waiting = subst (λ ps. AreAwaited c.args.self.now.files.sources.now c.args.self.now.config.now.os c.args.compilation.now.files.items (length c.args.compilation.now.modules.items) (map waiting_view ps)) taken so.waiting;
@@ -36,7 +38,7 @@ returns-in_default-clause-ended g c = λ e. c.pop.ensures.none c.in_default.is
 pub returns-in_err-load_module-clause-refused : goal.returns-in_err-load_module-clause-refused
 returns-in_err-load_module-clause-refused g c =
     let p = err_from_is_err_and c.from_residual.result c.from_residual.ensures.1 in
-    rw (p.1, p.2) (λ n start is_read so.
+    rw (p.1, p.2) (λ n start is_read own so.
     let sources = c.args.self.now.files.sources.now in
     let os = c.args.self.now.config.now.os in
     let old = c.args.compilation.now in
@@ -52,7 +54,8 @@ returns-in_err-load_module-clause-refused g c =
       loaded = so;
       next = waiting_view next;
       awaited = w.1;
-      refused = c.in_err-load_module.ensures.refused n start is_read (record {
+      refused = c.in_err-load_module.ensures.refused n start is_read own (record {
+        root = so.root;
         numbered = so.numbered;
         modules = so.modules;
         waiting = subst (λ ps. AreAwaited sources os old.files.items (length old.modules.items) (map waiting_view ps)) taken so.waiting;

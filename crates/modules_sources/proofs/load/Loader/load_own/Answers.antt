@@ -10,7 +10,7 @@ use Rattle.modules_sources.specs.Loaded.{files_refused, submodule_refused}
 use Rattle.modules_sources.proofs.load.Loader.load_own.Goals as goal
 
 pub returns-clause-loaded : goal.returns-clause-loaded
-returns-clause-loaded g c = four_ok c.add_module.result c.add_module.ensures.one_more c.add_module.ensures.node c.add_module.ensures.files c.add_module.ensures.pending (λ one_more node files pending start is_read no_parent no_item no_pending begun.
+returns-clause-loaded g c = four_ok c.add_module.result c.add_module.ensures.one_more c.add_module.ensures.node c.add_module.ensures.files c.add_module.ensures.pending (λ one_more node files pending start is_read no_parent no_item no_name no_pending begun.
     let sources = c.args.self.now.files.sources.now in
     let expansion = g.E.Expander.expansion c.args.self.now.expander.now in
     let version = c.args.self.now.config.now.version in
@@ -21,7 +21,7 @@ returns-clause-loaded g c = four_ok c.add_module.result c.add_module.ensures.one
     let now = c.load_files.new.files.items in
     let gone = c.load_files.new.numerator in
     let key = c.args.root.now.source.key.now in
-    root_entered c.args.self.now.files expansion version os start is_read old.modules.items after gone c.args.root.now c.add_module.new.queue.pending.items node.0 pending.0 pending.1 begun.none no_parent no_item
+    root_entered c.args.self.now.files expansion version os start is_read old.modules.items after gone c.args.root.now c.add_module.new.queue.pending.items node.0 pending.0 pending.1 begun.none no_parent no_item no_name
     (λ read. subst (λ fs. AreNumbered start fs gone) (sym files) (own.numbers start (begun.numbered read)))
     (λ read. subst (AreFilesOf sources expansion version 0 key) (sym files) (own.own_files (omega arith) (begun.alone read)))
     (subst (λ fs. IsNodeOf c.args.root.now 0 (length fs) node.0) (sym files) node.1) node.2 one_more
