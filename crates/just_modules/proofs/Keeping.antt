@@ -14,6 +14,7 @@ use Rattle.modules_compilation.specs.declared.module_node.File.{File}
 use Rattle.modules_compilation.specs.declared.module_node.ModuleNode.{ModuleNode}
 use Rattle.modules_compilation.specs.declared.place.Place.{Place}
 use Rattle.modules_definitions.specs.Defining.{AreDefinitions, Stands, named_at, submodule_at}
+use Rattle.modules_definitions.specs.Gathering.{AreApart, HaveOwnItems}
 use Rattle.modules_definitions.specs.Keeping.{AreInOrder, AreKept, IsRefused as IsRefusedTwice, memory, duplicate as twice}
 use Rattle.modules_definitions.specs.Lists.{Gains}
 use Rattle.modules_definitions.specs.declared.definition.Definition.{Definition}
@@ -22,7 +23,8 @@ use Rattle.modules_definitions.specs.declared.file_range.FileRange.{FileRange}
 use Rattle.modules_definitions.specs.declared.keep.Allowed.{Allowed}
 use Rattle.just_modules.specs.Exports.{export_refusal, first_unexported}
 use Rattle.just_modules.specs.Keeping.{AreClear, AreDefinitionsOf, AreFilled, AreKeptOf, AreRefused, export, duplicate, AreRefusedIn, by_item, by_definition, AreWhole, BreaksRange, IsChangedAt, IsFilled, IsFirstRefused, IsRefused, IsWhole, Keeps, OrMemory, files_of, range_of, truths_in}
-use Rattle.just_modules.specs.ItemRules.{BreaksFiles, IsNamedBy}
+use Rattle.just_modules.specs.ItemRules.{BreaksFiles}
+use Rattle.meaning_rules.specs.Told.{IsNamedBy}
 use Rattle.just_modules.specs.Settings.{allowed_by, truths_of}
 use Rattle.just_modules.specs.declared.truths.Truths.{Truths}
 use Rattle.meaning_worlds.specs.Given.{World}
@@ -142,7 +144,11 @@ module _ (files : List File) where
 
   module _ (os : Os) (unstable : Bool) (ms ns : List ModuleNode) (same : HaveSameItems ms ns) (node : ModuleNode) where
     are_there : (ds : List Definition) → AreDefinitionsOf os unstable files ms node ds → AreDefinitionsOf os unstable files ns node ds
-    are_there ds are = record { each = definitions_there os (range_of node) ms ns node.submodules.items ds same are.each; order = are.order }
+    are_there ds are = record {
+      each = definitions_there os (range_of node) ms ns node.submodules.items ds same are.each;
+      order = are.order;
+      apart = λ own. are.apart (λ i j inner other place e f a b. own i j inner other place e f (a.0, sym (same_submodule ms ns same inner) ∙ a.1) (b.0, sym (same_submodule ms ns same other) ∙ b.1));
+    }
 
     keeps_there : (kept : List Definition) → Keeps os unstable files ms node kept → Keeps os unstable files ns node kept
     keeps_there kept k = record { definitions = k.definitions; are = are_there k.definitions k.are; keeps = k.keeps }
@@ -336,10 +342,11 @@ module _ (os : Os) (unstable : Bool) (files : List File) (modules : List ModuleN
     refused_by error (inl m) = inl m
     refused_by error (inr r) = inr (record { definitions = ds; are = are; refused = r })
 
-  pub are_of : (submodules : List ℕ) (found ds : List Definition) → submodules ≡ node.submodules.items → ds ≡ found → AreDefinitions (Stands os files (range_of node) modules submodules) found → AreInOrder found → AreDefinitionsOf os unstable files modules node ds
-  are_of submodules found ds same is each order = subst (AreDefinitionsOf os unstable files modules node) (sym is) (record {
+  pub are_of : (submodules : List ℕ) (found ds : List Definition) → submodules ≡ node.submodules.items → ds ≡ found → AreDefinitions (Stands os files (range_of node) modules submodules) found → AreInOrder found → (HaveOwnItems files modules submodules → AreApart found) → AreDefinitionsOf os unstable files modules node ds
+  are_of submodules found ds same is each order apart = subst (AreDefinitionsOf os unstable files modules node) (sym is) (record {
     each = subst (λ s. AreDefinitions (Stands os files (range_of node) modules s) found) same each;
     order = order;
+    apart = λ own. apart (subst (HaveOwnItems files modules) (sym same) own);
   })
 
   module _ (place : ℕ) (at : slice_get modules place ≡ Some node) where

@@ -10,3 +10,13 @@ pub mod Pairs
 pub mod ByName
 pub mod Aliases
 pub mod Refusing
+pub mod Made
+pub mod Arguments
+pub mod Contained
+pub mod ItemLists
+pub mod ItemsRead
+pub mod ModuleExports
+pub mod ModuleFiles
+pub mod ModuleRules
+pub mod ModuleSettings
+pub mod PartLists

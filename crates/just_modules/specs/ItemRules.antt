@@ -1,7 +1,5 @@
 -- The rules on single items of a module, and the refusals that name them.
-use Rattle.std.specs.Prelude.{◌≡◌, ◌≢◌, ℕ, zero, suc, slice_get, ◌&&◌, Bool, true, false, ◌||◌, if◌then◌else◌, List, Option, Some, None, Contains, codes, bytes_eq}
-use Rattle.tree_items.specs.Paths.{path_names}
-use Rattle.just_text.specs.Tokens.{lexeme}
+use Rattle.std.specs.Prelude.{◌≡◌, ℕ, zero, suc, slice_get, ◌&&◌, Bool, true, false, ◌||◌, if◌then◌else◌, List, Option, Some, None, Contains, codes, bytes_eq}
 use Rattle.just_text.specs.declared.compile_error.CompileErrorKind.{CompileErrorKind}
 use Rattle.just_text.specs.declared.compile_error.CompileErrorKind.TheVariants.{ExtraLeadingWhitespace, GuardAndInfallible}
 use Rattle.tree_attributes.specs.declared.attribute.AttributeKind.TheVariants.{Cache, Script}
@@ -15,42 +13,12 @@ use Rattle.tree_items.specs.Files.{ItemShape, item_shape, function_item, recipe_
 use Rattle.tree_items.specs.Lines.{Piece, text, begins_with_space, is_continuation, sigils_of}
 use Rattle.tree_attribute_sets.specs.Sets.{shapes_in}
 use Rattle.tree_items.specs.Recipes.{RecipeShape, recipe_shape}
-use Rattle.modules_compilation.specs.declared.error.Error.{Error}
 use Rattle.modules_compilation.specs.declared.module_node.File.{File}
-use Rattle.modules_compilation.specs.declared.error.Error.TheVariants.{OutOfMemory, Syntax, MissingRoot, MissingImport, CircularImport, MissingModule, AmbiguousModule, Redefinition, DuplicateVariable, DuplicateSet, DuplicateUnexport, ExportUnexported, UnknownAliasTarget, UnstableFeature as UnstableError, ListsNeeded, CacheLeftOut, AttributeConflict}
 use Rattle.just_modules.specs.declared.truths.Truths.{Truths}
 use Rattle.just_modules.specs.Lists.{lists_of}
 use Rattle.meaning_worlds.specs.Given.{World}
 use Rattle.meaning_worlds.specs.Sources.{is_enabled}
-use Rattle.meaning_rules.specs.Rules.{Rule, syntax, missing_root, missing_import, circular_import, missing_module, ambiguous_module, redefinition, duplicate_variable, duplicate_set, duplicate_unexport, export_unexported, unknown_alias_target, unstable_feature, lists_needed, cache_left_out, attribute_conflict, has, first_of, last_of, begins_shebang, Excludes, UsesUnstable, IsOwnLine}
-
--- the rule that a refusal names, with its fields
-abbrev pub rule_of : Error → Option Rule
-rule_of OutOfMemory = None
-rule_of (Syntax refusal) = Some (syntax refusal.kind)
-rule_of (MissingRoot key) = Some (missing_root key.now)
-rule_of (MissingImport key) = Some (missing_import key)
-rule_of (CircularImport current import) = Some (circular_import current.now import.now)
-rule_of (MissingModule name) = Some (missing_module (lexeme name.token))
-rule_of (AmbiguousModule name found) = Some (ambiguous_module (lexeme name.token) found)
-rule_of (Redefinition name) = Some (redefinition (lexeme name.token))
-rule_of (DuplicateVariable name) = Some (duplicate_variable (lexeme name.token))
-rule_of (DuplicateSet name) = Some (duplicate_set (lexeme name.token))
-rule_of (DuplicateUnexport name) = Some (duplicate_unexport (lexeme name.token))
-rule_of (ExportUnexported name) = Some (export_unexported (lexeme name.token))
-rule_of (UnknownAliasTarget alias target) = Some (unknown_alias_target (lexeme alias.token) (path_names target))
-rule_of (UnstableError feature token) = Some (unstable_feature feature)
-rule_of (ListsNeeded feature token) = Some (lists_needed feature)
-rule_of (CacheLeftOut recipe) = Some (cache_left_out (lexeme recipe.token))
-rule_of (AttributeConflict recipe one other) = Some (attribute_conflict (lexeme recipe.token) one.now other.now)
-
--- the refusal names a rule that is broken
-abbrev pub IsNamedBy : (Rule → Type 0) → Error → Type 0
-IsNamedBy Breaks refusal = (rule : Rule) × (rule_of refusal ≡ Some rule) × Breaks rule
-
--- the same, unless memory ran out
-abbrev pub IsRefusedBy : (Rule → Type 0) → Error → Type 0
-IsRefusedBy Breaks refusal = refusal ≢ OutOfMemory → IsNamedBy Breaks refusal
+use Rattle.meaning_rules.specs.Rules.{Rule, syntax, unstable_feature, lists_needed, cache_left_out, attribute_conflict, has, first_of, last_of, begins_shebang, Excludes, UsesUnstable, IsOwnLine}
 
 -- what is wrong with a line of a body that doesn't go on with the one before
 pub data BreaksLine (guards : Bool) (line : List Piece) : CompileErrorKind → Type 0 where

@@ -12,6 +12,7 @@ use Rattle.modules_compilation.specs.declared.error.Error.TheVariants.{OutOfMemo
 use Rattle.modules_compilation.specs.declared.module_node.File.{File}
 use Rattle.modules_compilation.specs.declared.module_node.ModuleNode.{ModuleNode}
 use Rattle.modules_definitions.specs.Defining.{AreDefinitions, Stands}
+use Rattle.modules_definitions.specs.Gathering.{AreApart, HaveOwnItems}
 use Rattle.modules_definitions.specs.Keeping.{AreInOrder, AreKept, IsDuplicate, refusal_of}
 use Rattle.modules_definitions.specs.Lists.{Gains}
 use Rattle.modules_definitions.specs.declared.definition.Definition.{Definition}
@@ -19,7 +20,8 @@ use Rattle.modules_definitions.specs.declared.file_range.FileRange.{FileRange}
 use Rattle.modules_definitions.specs.declared.keep.Allowed.{Allowed}
 use Rattle.modules_sources.specs.Loaded.{AreLoaded}
 use Rattle.just_modules.specs.Exports.{export_refusal, first_unexported}
-use Rattle.just_modules.specs.ItemRules.{BreaksFiles, IsNamedBy}
+use Rattle.just_modules.specs.ItemRules.{BreaksFiles}
+use Rattle.meaning_rules.specs.Told.{IsNamedBy}
 use Rattle.just_modules.specs.Settings.{allowed_by, truths_of}
 use Rattle.just_modules.specs.declared.truths.Truths.{Truths}
 use Rattle.meaning_worlds.specs.Given.{World}
@@ -74,10 +76,11 @@ module _ (os : Os) (unstable : Bool) (files : List File) where
       by_definition : {error : Error} → IsWhole → AreRefused files (allowed_by truths_in) definitions error → AreRefusedIn definitions error
 
   module _ (modules : List ModuleNode) where
-    -- these are the definitions of the module, in order
+    -- these are the definitions of the module, in order, and apart where its submodules have items of their own
     pub record AreDefinitionsOf (node : ModuleNode) (definitions : List Definition) : Type 0 where
       pub each : AreDefinitions (Stands os files (range_of node) modules node.submodules.items) definitions
       pub order : AreInOrder definitions
+      pub apart : HaveOwnItems files modules node.submodules.items → AreApart definitions
 
     -- the module keeps these
     pub record Keeps (node : ModuleNode) (kept : List Definition) : Type 0 where

@@ -5,3 +5,6 @@ pub mod Lists
 pub mod Settings
 pub mod Aliases
 pub mod Refused
+pub mod Worlds
+pub mod Fitting
+pub mod ModuleRules

@@ -14,6 +14,7 @@ ghost use Rattle.modules_compilation.specs.declared.error.Error.TheVariants as r
 ghost use Rattle.resolve_recipes.specs.Leading.{target_in};
 ghost use Rattle.just_modules.specs.Aliases.{AllAliasesLead, AllLead, IsAliasUnknown, IsUnknownAmong, IsUnknownAt, Leads, LeadsAt};
 ghost use Rattle.just_modules.specs.Exports as spec;
+ghost use Rattle.just_modules.specs.Worlds.{InEachWorld, IsCompilationOf};
 ghost use Rattle.just_modules.specs.Refused.{IsUnsettled, IsRefused as IsCompileRefused};
 ghost use Rattle.just_modules.specs.Keeping.{files_of, AreClear, AreFilled, AreKeptOf, AreRefused, AreRefusedIn, AreWhole, IsChangedAt, IsFilled, IsFirstRefused, IsRefused, IsSettled, Keeps, OrMemory};
 
@@ -396,6 +397,7 @@ impl Compiler {
         root: &'src str,
     ) -> Result<Compilation<'src>, Error<'src>>
         ensures filled { IfOk result (IsSettled config.now.os config.now.unstable sources.now (E.expansion expander.now) config.now.version first_numbers true root.now) }
+        ensures made { IfOk result (λ compilation. InEachWorld config.now.os config.now.unstable sources.now (E.expansion expander.now) config.now.version root.now (IsCompilationOf compilation)) }
         ensures by_name { IfOk result AllByName }
         ensures aliases { IfOk result AllAliasesLead }
         ensures whole { IfOk result (AreWhole config.now.os config.now.unstable) }
@@ -415,6 +417,7 @@ impl Compiler {
         parsed: Parsed<'src>,
     ) -> Result<Compilation<'src>, Error<'src>>
         ensures filled { IfOk result (λ compilation. (start : Numbers) (is_read : Bool) → (is_read ≡ true → IsRootRead sources.now (E.expansion expander.now) config.now.version start root.now parsed.entry) → IsSettled config.now.os config.now.unstable sources.now (E.expansion expander.now) config.now.version start is_read root.now compilation) }
+        ensures made { IfOk result (λ compilation. (start : Numbers) → IsRootRead sources.now (E.expansion expander.now) config.now.version start root.now parsed.entry → InEachWorld config.now.os config.now.unstable sources.now (E.expansion expander.now) config.now.version root.now (IsCompilationOf compilation)) }
         ensures by_name { IfOk result AllByName }
         ensures aliases { IfOk result AllAliasesLead }
         ensures whole { IfOk result (AreWhole config.now.os config.now.unstable) }

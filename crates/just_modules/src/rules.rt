@@ -14,7 +14,8 @@ ghost use Rattle.meaning_rules.specs.Rules.{Rule, syntax, lists_needed, Excludes
 ghost use Rattle.just_modules.specs.Lists.{lists_of};
 ghost use Rattle.just_modules.specs.declared.truths.Truths.{Truths};
 ghost use Rattle.just_modules.specs.ItemRules as spec;
-ghost use Rattle.just_modules.specs.ItemRules.{BreaksBody, BreaksEnabled, BreaksFiles, BreaksIfRecipe, BreaksItem, BreaksItems, BreaksLine, BreaksPlace, BreaksRecipe, IsNamedBy, both_marks, goes_on, is_text, rule_of, unstable_in};
+ghost use Rattle.just_modules.specs.ItemRules.{BreaksBody, BreaksEnabled, BreaksFiles, BreaksIfRecipe, BreaksItem, BreaksItems, BreaksLine, BreaksPlace, BreaksRecipe, both_marks, goes_on, is_text, unstable_in};
+ghost use Rattle.meaning_rules.specs.Told.{IsNamedBy, rule_of};
 
 use crate::lists::{ListUse, list_use};
 use crate::truths::Truths;

@@ -6,5 +6,6 @@ pub mod Depending
 pub mod Overriding
 pub mod Constants
 pub mod Rules
+pub mod Told
 pub mod Laws
 pub mod Examples

@@ -11,7 +11,7 @@ use Rattle.meaning_worlds.specs.Laws.{CompilationsHaveRoot, ModulesAreReached, S
 use Rattle.meaning_worlds.specs.Compiled.{FileView, NodeView, HasPath}
 use Rattle.meaning_worlds.specs.Compiled as compiled
 
-leads_reached : (w : World) (own : Text) (count : ℕ) (file : Text) → Reached w own → Leads w own count file → Reached w file
+pub leads_reached : (w : World) (own : Text) (count : ℕ) (file : Text) → Reached w own → Leads w own count file → Reached w file
 leads_reached w own count file r itself = r
 leads_reached w own (suc count) file r (further {between = between} l i) = imported (leads_reached w own count between r l) i
 

@@ -23,7 +23,8 @@ module _ (w : World) (own : Text) (files : List Text) (o : IsReadingOrder w own 
   all_there count file itself = contains_at files 0 own o.first
   all_there (suc count) file (further {between = between} l i) = is_there (imports_of w) own files o between file (all_there count between l) ((rows_are_imports w between file).1 i)
 
-  shallow : (n i j : ℕ) (f x : Text) → i ≤ j → slice_get files i ≡ Some x → slice_get files j ≡ Some f → Leads w own n f → (m : ℕ) × (m ≤ n) × Leads w own m x
+  -- what stands before a file is no deeper
+  pub shallow : (n i j : ℕ) (f x : Text) → i ≤ j → slice_get files i ≡ Some x → slice_get files j ≡ Some f → Leads w own n f → (m : ℕ) × (m ≤ n) × Leads w own m x
   shallow n i j f x le is e itself =
       let zero_is : j ≡ 0 = stands_once (imports_of w) own files o j 0 own e o.first in
       let i_is : i ≡ 0 = omega arith in

@@ -4,7 +4,6 @@ use Rattle.std.specs.List.{flat_map}
 use Rattle.std.specs.List.Sorted.{IsStrictlySortedBy}
 use Rattle.std.specs.Ordering.{nat_cmp}
 use Rattle.std.specs.declared.cmp.Ordering.TheVariants.{Less}
-use Rattle.just_text.specs.Names.{joined_names}
 use Rattle.tree_items.specs.Files.{ItemShape, is_blank, module_item, recipe_item}
 use Rattle.tree_items.specs.Items.{ModuleShape}
 use Rattle.tree_attributes.specs.Attributes.{AttributeShape}
@@ -31,7 +30,6 @@ pub record NodeView : Type 0 where
   pub parent : Option ℕ
   pub name : Option Text
   pub item : Option Place
-  pub path : Text
   pub source : Text
   pub first_file : ℕ
   pub end_file : ℕ
@@ -146,7 +144,6 @@ module _ (w : World) (files : List FileView) (nodes : List NodeView) where
   pub record IsNode (k : ℕ) (node : NodeView) : Type 0 where
     pub path : List Text
     pub has_path : HasPath k path
-    pub path_text : joined_names path ≡ node.path
     pub is : IsModule w path node.source
     pub item : HasItem node node.parent
     pub own_files : AreFiles k node

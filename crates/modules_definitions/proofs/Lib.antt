@@ -1,3 +1,4 @@
+pub mod Apart
 pub mod Elements
 pub mod Finding
 pub mod Fronts

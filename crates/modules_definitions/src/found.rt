@@ -1,8 +1,8 @@
 //! What the files of a module define.
-ghost use Rattle.std.specs.Prelude.{◌≡◌, IfOk, OnOk, option_map, slice_get};
+ghost use Rattle.std.specs.Prelude.{◌≡◌, ◌≤◌, IfOk, OnOk, option_map, slice_get};
 ghost use Rattle.modules_compilation.specs.Places.{items_in};
 ghost use Rattle.modules_definitions.specs.Defining.{defined_by, module_name, if_enabled, recipe_kind, named_by, submodule_at, named_at, AreDefinitions, InFiles, InItem, InItems, InSubmodules, IsSubmoduleAt, Stands};
-ghost use Rattle.modules_definitions.specs.Gathering.{Gathers};
+ghost use Rattle.modules_definitions.specs.Gathering.{AreApart, Gathers, HaveOwnItems, IsItemAmong, IsItemOf, StaysApart};
 ghost use Rattle.modules_definitions.specs.Keeping.{AreInOrder};
 
 use crate::definition::{Definition, Kind};
@@ -69,7 +69,8 @@ fn add_item<'src, 'a>(
     place: Place,
     os: Os,
 ) -> Result<(), AllocError>
-    ensures { OnOk result (Gathers (InItem os item.now place) found.old.items found.new.items) }
+    ensures each { OnOk result (Gathers (InItem os item.now place) found.old.items found.new.items) }
+    ensures apart { OnOk result (StaysApart (λ at. at ≡ place) found.old.items found.new.items) }
 {
     match name_of(item, os) {
         Some(named) => {
@@ -87,7 +88,8 @@ fn add_items<'src, 'a>(
     file: usize,
     os: Os,
 ) -> Result<(), AllocError>
-    ensures { OnOk result (Gathers (InItems os items.now file) found.old.items found.new.items) }
+    ensures each { OnOk result (Gathers (InItems os items.now file) found.old.items found.new.items) }
+    ensures apart { OnOk result (StaysApart (λ at. at.file ≡ file) found.old.items found.new.items) }
 {
     for item in 0..items.len() {
         add_item(found, &items[item], Place { file, item }, os)?;
@@ -109,7 +111,8 @@ fn add_file<'src, 'a>(
     file: usize,
     os: Os,
 ) -> Result<(), AllocError>
-    ensures { OnOk result (Gathers (InItems os (items_in files.now file) file) found.old.items found.new.items) }
+    ensures each { OnOk result (Gathers (InItems os (items_in files.now file) file) found.old.items found.new.items) }
+    ensures apart { OnOk result (StaysApart (λ at. at.file ≡ file) found.old.items found.new.items) }
 {
     if file >= files.len() {
         return Ok(());
@@ -124,7 +127,8 @@ fn add_files<'src, 'a>(
     range: FileRange,
     os: Os,
 ) -> Result<(), AllocError>
-    ensures { OnOk result (Gathers (InFiles os files.now range.first range.end) found.old.items found.new.items) }
+    ensures each { OnOk result (Gathers (InFiles os files.now range.first range.end) found.old.items found.new.items) }
+    ensures apart { OnOk result (StaysApart (λ at. range.first ≤ at.file) found.old.items found.new.items) }
 {
     for place in range.first..range.end {
         add_file(found, files, place, os)?;
@@ -179,7 +183,8 @@ fn add_submodule<'src, 'a>(
     modules: &[ModuleNode<'src>],
     module: usize,
 ) -> Result<(), AllocError>
-    ensures { OnOk result (Gathers (IsSubmoduleAt files.now modules.now «module») found.old.items found.new.items) }
+    ensures each { OnOk result (Gathers (IsSubmoduleAt files.now modules.now «module») found.old.items found.new.items) }
+    ensures apart { OnOk result (StaysApart (IsItemOf files.now modules.now «module») found.old.items found.new.items) }
 {
     match submodule_in(files, modules, module) {
         Some(inner) => {
@@ -197,7 +202,8 @@ fn add_submodules<'src, 'a>(
     modules: &[ModuleNode<'src>],
     submodules: &[usize],
 ) -> Result<(), AllocError>
-    ensures { OnOk result (Gathers (InSubmodules files.now modules.now submodules.now) found.old.items found.new.items) }
+    ensures each { OnOk result (Gathers (InSubmodules files.now modules.now submodules.now) found.old.items found.new.items) }
+    ensures apart { OnOk result (HaveOwnItems files.now modules.now submodules.now → StaysApart (IsItemAmong files.now modules.now submodules.now) found.old.items found.new.items) }
 {
     for module in submodules {
         add_submodule(found, files, modules, *module)?;
@@ -219,6 +225,7 @@ pub fn definitions<'src, 'a>(
 ) -> Result<Vec<Definition<'src, 'a>>, AllocError>
     ensures each { IfOk result (λ found. AreDefinitions (Stands os files.now range modules.now submodules.now) found.items) }
     ensures order { IfOk result (λ found. AreInOrder found.items) }
+    ensures apart { IfOk result (λ found. HaveOwnItems files.now modules.now submodules.now → AreApart found.items) }
 {
     let mut found = Vec::new(alloc);
     add_files(&mut found, files, range, os)?;

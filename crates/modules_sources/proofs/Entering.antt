@@ -13,6 +13,7 @@ use Rattle.just_text.specs.declared.os.Os.{Os}
 use Rattle.tree_items.specs.declared.ast.Item.{Item}
 use Rattle.parse_expressions.specs.Literals.{Expansion}
 use Rattle.semver.specs.declared.Version.{Version}
+use Rattle.modules_compilation.specs.Paths.{is_clean}
 use Rattle.modules_compilation.specs.Places.{items_of}
 use Rattle.modules_compilation.specs.declared.compilation.Compilation.{Compilation}
 use Rattle.modules_compilation.specs.declared.error.Error.{Error}
@@ -23,7 +24,7 @@ use Rattle.modules_files.specs.Chosen.{File, module_answer}
 use Rattle.modules_files.specs.Found.{file_at}
 use Rattle.modules_files.specs.declared.search.Files.{Files}
 use Rattle.modules_sources.specs.Items.{ModuleParts, key_of, module_of}
-use Rattle.modules_sources.specs.Loaded.{AllFollowedUp, AllLoaded, AreAwaited, AreLoadedSoFar, IsAwaited, IsLoaded, IsNameOf, IsSource, files_of, submodule_at, IsBegun, IsRootRead, HasRoot}
+use Rattle.modules_sources.specs.Loaded.{AllFollowedUp, AllLoaded, AreAwaited, AreLoadedSoFar, IsAwaited, IsLoaded, AreLinked, AreSubmodules, AreUnloaded, IsNameOf, IsSource, files_of, submodule_at, IsBegun, IsRootRead, HasRoot}
 use Rattle.modules_sources.specs.Nodes.{HasOneMore, IsNodeOf, IsNoted}
 use Rattle.modules_sources.specs.ReadingOrder.{AreFilesOf, AreNumbered, numbered_more, numbered_none}
 use Rattle.modules_sources.specs.Submodules.{Above, AreBelow, AreFound, found_none, found_more, AreWaiting, waiting_none, waiting_more, Found, Gives, Waiting, found_at, waiting, waiting_view}
@@ -31,9 +32,14 @@ use Rattle.modules_sources.specs.declared.queue.Pending.{Pending}
 use Rattle.std.specs.Borrow.{Bor}
 use Rattle.modules_compilation.specs.declared.source.Source.{Source}
 use Rattle.modules_sources.specs.declared.load.Parsed.{Parsed}
-use Rattle.modules_sources.proofs.Closing.{followed_further, first_root}
+use Rattle.modules_sources.proofs.Closing.{below_further, followed_further, first_root, root_still, submodules_further, waiting_at}
+use Rattle.modules_sources.specs.Above.{AreAbove, AreQueued}
+use Rattle.modules_sources.specs.Queue.{IsChain, chain_keys, cut_to, entered as chain_entered, is_among}
+use Rattle.modules_sources.specs.declared.queue.Queue.{Queue}
+use Rattle.modules_sources.proofs.Above.{all_are_above, are_above_still, own_files_further, queued_further, root_above, root_own_files, root_queued}
+use Rattle.modules_sources.proofs.Once.{apart_further, covered_further, once_further, root_linked, unloaded_further}
 use Rattle.modules_sources.proofs.Ordering.{found_source}
-use Rattle.modules_sources.proofs.Reaching.{end_cases, kept_left}
+use Rattle.modules_sources.proofs.Reaching.{append_cases, at_end, end_cases, kept_left}
 
 -- ---- what stood in files stands there with more files behind them
 
@@ -77,15 +83,6 @@ module _ (files : Files) (os : Os) (key : List ℕ) where
       by_item None is = absurd (none-some h.line (sym (ap (option_and_then (module_of os)) is) ∙ h.there))
       by_item (Some here) is = ap (option_and_then (module_of os)) (kept_left items (item ∷ []) found.item here is ∙ sym is) ∙ h.there
 
-  item_at_end : (items : List Item) (item : Item) → slice_get (items ++ item ∷ []) (length items) ≡ Some item
-  item_at_end [] item = refl
-  item_at_end (x ∷ items) item = item_at_end items item
-
-  append_cases : (xs ys : List Found) (i : ℕ) (f : Found) → slice_get (xs ++ ys) i ≡ Some f → (slice_get xs i ≡ Some f) ⊎ ((j : ℕ) × (slice_get ys j ≡ Some f))
-  append_cases [] ys i f e = inr (i, e)
-  append_cases (x ∷ xs) ys zero f e = inl e
-  append_cases (x ∷ xs) ys (suc i) f e = append_cases xs ys i f e
-
   last_found : (items : List Item) (item : Item) (line : Option ModuleParts) (file : Option File) → module_of os item ≡ line → Gives files os key line (Ok file) → (j : ℕ) (f : Found) → slice_get (found_at (length items) line file) j ≡ Some f
       → IsFoundAt (items ++ item ∷ []) f
   last_found items item None file is gives j f e = absurd (none-some f e)
@@ -95,7 +92,7 @@ module _ (files : Files) (os : Os) (key : List ℕ) where
       let same : record { file = file; item = length items; name = line.0 } ≡ f = same_Some (record { file = file; item = length items; name = line.0 }) f e in
       subst (IsFoundAt (items ++ item ∷ [])) same (record {
         line = line;
-        there = ap (option_and_then (module_of os)) (item_at_end items item) ∙ is;
+        there = ap (option_and_then (module_of os)) (at_end items item) ∙ is;
         named = refl;
         source = answer_source line.0 line.2 gives.keys file gives.is;
       })
@@ -104,38 +101,21 @@ module _ (files : Files) (os : Os) (key : List ℕ) where
   each_found found_none i f e = absurd (none-some f e)
   each_found (found_more {items} {found} item file so gives) i f e = elim (append_cases found (found_at (length items) (module_of os item) file) i f e) [
     | inl p ↦ found_stays items item f (each_found so i f p)
-    | inr q ↦ last_found items item (module_of os item) file refl gives q.0 f q.1
+    | inr q ↦ last_found items item (module_of os item) file refl gives q.1.0 f q.1.1
   ]
 
 -- ---- those that wait
 
 module _ (files : Files) (os : Os) (all : List LoadedFile) (above : Above) (parent first : ℕ) where
-  waiting_at : (file : ℕ) (found : List Found) (i : ℕ) (w : Waiting) → slice_get (map (waiting file parent) found) i ≡ Some w → (f : Found) × (slice_get found i ≡ Some f) × (waiting file parent f ≡ w)
-  waiting_at file [] i w e = absurd (none-some w e)
-  waiting_at file (f ∷ found) zero w e = (f, refl, same_Some (waiting file parent f) w e)
-  waiting_at file (f ∷ found) (suc i) w e = waiting_at file found i w e
-
-  append_waits : (xs ys : List Waiting) (i : ℕ) (w : Waiting) → slice_get (xs ++ ys) i ≡ Some w → (slice_get xs i ≡ Some w) ⊎ ((j : ℕ) × (slice_get ys j ≡ Some w))
-  append_waits [] ys i w e = inr (i, e)
-  append_waits (x ∷ xs) ys zero w e = inl e
-  append_waits (x ∷ xs) ys (suc i) w e = append_waits xs ys i w e
-
-  awaited_below : (count place : ℕ) (found : List Found) → parent < count → AreBelow files os all above place found → (i : ℕ) (w : Waiting) → slice_get (map (waiting place parent) found) i ≡ Some w → IsAwaited files.sources.now os all count w
-  awaited_below count place found lt below i w e =
-      let t = waiting_at place found i w e in
-      let h = each_found files os (key_of (slice_get all place)) below.found_all i t.0 t.1 in
-      subst (IsAwaited files.sources.now os all count) t.2 (record {
+  pub each_awaited : (count : ℕ) {many : ℕ} {waits : List Waiting} → parent < count → AreWaiting files os all above parent first many waits → AreAwaited files.sources.now os all count waits
+  each_awaited count lt are i w e =
+      let t = waiting_at files os all above parent first are i w e in
+      let h = each_found files os (key_of (slice_get all t.file)) t.are t.i t.one t.found_at in
+      subst (IsAwaited files.sources.now os all count) (sym t.is) (record {
         source = h.source;
-        named = λ at is. (h.line, ap (submodule_at os all) (sym (same_Some (record { file = place; item = t.0.item }) at is)) ∙ h.there, ap Some h.named);
+        named = λ at is. (h.line, ap (submodule_at os all) (sym (same_Some (record { file = t.file; item = t.one.item }) at is)) ∙ h.there, ap Some h.named);
         parent = λ place is. subst (λ n. n < count) (same_Some parent place is) lt;
       })
-
-  pub each_awaited : (count : ℕ) {many : ℕ} {waits : List Waiting} → parent < count → AreWaiting files os all above parent first many waits → AreAwaited files.sources.now os all count waits
-  each_awaited count lt waiting_none i w e = absurd (none-some w e)
-  each_awaited count lt (waiting_more {count = n} {earlier} {found} so below) i w e = elim (append_waits earlier (map (waiting (first + n) parent) found) i w e) [
-    | inl p ↦ each_awaited count lt so i w p
-    | inr q ↦ awaited_below count (first + n) found lt below q.0 w q.1
-  ]
 
 -- ---- nodes
 
@@ -224,25 +204,16 @@ module _ {Y Z : Type 0} (sources : BTreeMap (String Y) (String Z)) (expansion : 
   }
 
   pub waits_further : (files more : List LoadedFile) (count : ℕ) (old new next : List Waiting) → AreAwaited sources os files count old → AreAwaited sources os (files ++ more) (count + 1) next → new ≡ old ++ next → AreAwaited sources os (files ++ more) (count + 1) new
-  waits_further files more count old new next h g e i w at = elim (cases old next i w (ap (λ ws. slice_get ws i) (sym e) ∙ at)) [
+  waits_further files more count old new next h g e i w at = elim (append_cases old next i w (ap (λ ws. slice_get ws i) (sym e) ∙ at)) [
     | inl p ↦ awaited_stays files more count (count + 1) w (omega arith) (h i w p)
-    | inr q ↦ g q.0 w q.1
+    | inr q ↦ g q.1.0 w q.1.1
   ]
-    where
-      cases : (xs ys : List Waiting) (i : ℕ) (w : Waiting) → slice_get (xs ++ ys) i ≡ Some w → (slice_get xs i ≡ Some w) ⊎ ((j : ℕ) × (slice_get ys j ≡ Some w))
-      cases [] ys i w e = inr (i, e)
-      cases (x ∷ xs) ys zero w e = inl e
-      cases (x ∷ xs) ys (suc i) w e = cases xs ys i w e
 
   -- ---- the next of those that wait
 
   pub map_last : (xs : List Pending) (x : Pending) → map waiting_view (xs ++ x ∷ []) ≡ map waiting_view xs ++ waiting_view x ∷ []
   map_last [] x = refl
   map_last (y ∷ xs) x = ap (λ ws. waiting_view y ∷ ws) (map_last xs x)
-
-  last_at : (ws : List Waiting) (w : Waiting) → slice_get (ws ++ w ∷ []) (length ws) ≡ Some w
-  last_at [] w = refl
-  last_at (v ∷ ws) w = last_at ws w
 
   module _ (files : List LoadedFile) (count : ℕ) (old new : List Pending) where
     pub none_taken : old ≡ new ++ [] → AreAwaited sources os files count (map waiting_view old) → AreAwaited sources os files count (map waiting_view new)
@@ -265,21 +236,23 @@ module _ {Y Z : Type 0} (sources : BTreeMap (String Y) (String Z)) (expansion : 
     one_taken next e h =
         let same : map waiting_view old ≡ map waiting_view new ++ waiting_view next ∷ [] = ap (map waiting_view) e ∙ map_last new next in (
           λ i w at. h i w (ap (λ ws. slice_get ws i) same ∙ kept_left (map waiting_view new) (waiting_view next ∷ []) i w at),
-          h (length (map waiting_view new)) (waiting_view next) (ap (λ ws. slice_get ws (length (map waiting_view new))) same ∙ last_at (map waiting_view new) (waiting_view next)),
+          h (length (map waiting_view new)) (waiting_view next) (ap (λ ws. slice_get ws (length (map waiting_view new))) same ∙ at_end (map waiting_view new) (waiting_view next)),
         )
 
 -- ---- one module more
 
 module _ (lookup : Files) (expansion : Expansion) (version : Version) (os : Os) (start : Numbers) (is_read : Bool) where
-  pub entered : (files : List LoadedFile) (modules : List ModuleNode) (after : Compilation) (gone : Numbers) (next : Pending) (waits : List Waiting) (left : List Pending) (more : List LoadedFile) (node : ModuleNode) (above : Above) (found : List Waiting)
+  pub entered : (files : List LoadedFile) (modules : List ModuleNode) (after : Compilation) (gone : Numbers) (next : Pending) (waits : List Waiting) (left : List Pending) (queue : Queue) (more : List LoadedFile) (node : ModuleNode) (found : List Waiting)
       → AllLoaded lookup.sources.now expansion version os start is_read files modules → AreAwaited lookup.sources.now os files (length modules) waits → AllFollowedUp lookup os files modules (waits ++ waiting_view next ∷ [])
       → IsNameOf os files next.item next.name → ((place : ℕ) → next.parent ≡ Some place → place < length modules)
       → after.files.items ≡ files ++ more → (is_read ≡ true → AreNumbered start after.files.items gone)
       → (is_read ≡ true → AreFilesOf lookup.sources.now expansion version (length modules) next.source.key.now (drop (length files) after.files.items))
       → IsNodeOf next (length files) (length after.files.items) node → IsNoted next.parent (length modules) (modules ++ node ∷ []) after.modules.items → length after.modules.items ≡ length modules + 1
-      → AreWaiting lookup os after.files.items above (length modules) (length files) (length after.files.items - length files) found → map waiting_view left ≡ waits ++ found → (own : List ℕ) → HasRoot own after.modules.items
-      → AreLoadedSoFar lookup.sources.now expansion version os start is_read lookup own after gone left
-  entered files modules after gone next waits left more node above found loaded awaited followed named below grown numbered own_files is noted one_more waiting whole own root =
+      → AreWaiting lookup os after.files.items queue.keys (length modules) (length files) (length after.files.items - length files) found → map waiting_view left ≡ waits ++ found
+      → ((place : ℕ) (above : Above) → place < length modules → AreAbove modules place above → AreAbove after.modules.items place above) → AreAbove after.modules.items (length modules) queue.keys → AreQueued after.modules.items queue (map waiting_view left)
+      → AreLinked lookup os after.files.items after.modules.items (map waiting_view left) → (own : List ℕ) → HasRoot own after.modules.items
+      → AreLoadedSoFar lookup.sources.now expansion version os start is_read lookup own after gone left queue
+  entered files modules after gone next waits left queue more node found loaded awaited followed named below grown numbered own_files is noted one_more waiting whole still all_are queued linked own root =
       let sources = lookup.sources.now in
       let count = length modules in
       let lt : count < count + 1 = omega arith in
@@ -287,37 +260,86 @@ module _ (lookup : Files) (expansion : Expansion) (version : Version) (os : Os) 
       record {
         root = root;
         numbered = numbered;
+        queued = queued;
+        linked = linked;
         modules = subst (λ fs. AllLoaded sources expansion version os start is_read fs after.modules.items) (sym grown)
             (modules_further sources expansion version os start is_read files more modules after.modules.items next node loaded named below node_is
             (λ read. subst (λ fs. AreFilesOf sources expansion version count next.source.key.now (drop (length files) fs)) grown (own_files read)) noted);
         waiting = subst (λ n. AreAwaited sources os after.files.items n (map waiting_view left)) (sym one_more)
             (subst (λ fs. AreAwaited sources os fs (count + 1) (map waiting_view left)) (sym grown)
             (waits_further sources expansion version os start is_read files more count waits (map waiting_view left) found awaited
-            (subst (λ fs. AreAwaited sources os fs (count + 1) found) grown (each_awaited lookup os after.files.items above count (length files) (count + 1) lt waiting)) whole));
+            (subst (λ fs. AreAwaited sources os fs (count + 1) found) grown (each_awaited lookup os after.files.items queue.keys count (length files) (count + 1) lt waiting)) whole));
         followed = subst (λ fs. AllFollowedUp lookup os fs after.modules.items (map waiting_view left)) (sym grown)
-            (followed_further lookup os files more modules after.modules.items next node waits (map waiting_view left) found above followed (λ place n e. (loaded place n e).within) (λ place n e. (loaded place n e).parent) below node_is noted
-            (subst (λ fs. AreWaiting lookup os fs above count (length files) (length fs - length files) found) grown waiting) whole);
+            (followed_further lookup os files more modules after.modules.items next node waits (map waiting_view left) found queue.keys followed (λ place n e. (loaded place n e).within) (λ place n e. (loaded place n e).parent) below node_is noted
+            (subst (λ fs. AreWaiting lookup os fs queue.keys count (length files) (length fs - length files) found) grown waiting) whole still all_are);
       }
 
+  -- the module of the last of those that wait
+  pub entered_below : (old after : Compilation) (was gone : Numbers) (next : Pending) (waits left : List Pending) (before queue : Queue) (more : List LoadedFile) (node : ModuleNode) (found : List Waiting) (own : List ℕ)
+      → AreLoadedSoFar lookup.sources.now expansion version os start is_read lookup own old was (waits ++ next ∷ []) before
+      → after.files.items ≡ old.files.items ++ more → (is_read ≡ true → AreNumbered start after.files.items gone)
+      → (is_read ≡ true → AreFilesOf lookup.sources.now expansion version (length old.modules.items) next.source.key.now (drop (length old.files.items) after.files.items))
+      → IsNodeOf next (length old.files.items) (length after.files.items) node → IsNoted next.parent (length old.modules.items) (old.modules.items ++ node ∷ []) after.modules.items → length after.modules.items ≡ length old.modules.items + 1
+      → AreWaiting lookup os after.files.items queue.keys (length old.modules.items) (length old.files.items) (length after.files.items - length old.files.items) found → map waiting_view left ≡ map waiting_view waits ++ found
+      → queue.chain.items ≡ chain_entered before.chain.items next (length old.modules.items) → (IsChain before → is_among (chain_keys (cut_to next.parent before.chain.items)) next.source.key.now ≡ false → IsChain queue)
+      → AreLoadedSoFar lookup.sources.now expansion version os start is_read lookup own after gone left queue
+  entered_below old after was gone next waits left before queue more node found own so grown numbered own_files is noted one_more waiting whole chain keys =
+      let sources = lookup.sources.now in
+      let files = old.files.items in
+      let modules = old.modules.items in
+      let views = map waiting_view waits in
+      let same = map_last sources expansion version os start is_read waits next in
+      let taken = one_taken sources expansion version os start is_read files (length modules) (waits ++ next ∷ []) waits next refl so.waiting in
+      let followed = subst (AllFollowedUp lookup os files modules) same so.followed in
+      let submodules = subst (AreSubmodules lookup os files modules) same so.linked.submodules in
+      let unloaded = subst (AreUnloaded modules) same so.linked.unloaded in
+      let next_is = submodules (length views) (waiting_view next) (at_end views (waiting_view next)) in
+      let within = λ (place : ℕ) (n : ModuleNode) (e : slice_get modules place ≡ Some n). (so.modules place n e).within in
+      let parents = λ (place : ℕ) (n : ModuleNode) (e : slice_get modules place ≡ Some n). (so.modules place n e).parent in
+      let node_is = subst (λ fs. IsNodeOf next (length files) (length fs) node) grown is in
+      let are = subst (λ fs. AreWaiting lookup os fs queue.keys (length modules) (length files) (length fs - length files) found) grown waiting in
+      let on_queue = subst (AreQueued modules before) same so.queued in
+      let linked : AreLinked lookup os (files ++ more) after.modules.items (map waiting_view left) = record {
+        below = below_further lookup os files more modules after.modules.items next node views (map waiting_view left) found queue.keys followed within parents taken.1.parent node_is noted are whole so.linked.below next_is;
+        once = once_further lookup os own files more modules after.modules.items next node views (map waiting_view left) found queue.keys within node_is noted are whole so.root so.linked.below submodules so.linked.once unloaded;
+        apart = apart_further lookup os own files more modules after.modules.items next node views (map waiting_view left) found queue.keys within node_is noted are whole so.linked.apart;
+        covered = covered_further lookup os own files more modules after.modules.items next node views (map waiting_view left) found queue.keys within node_is noted are whole so.linked.covered;
+        own_files = own_files_further modules after.modules.items next node (length files) (length (files ++ more)) parents node_is noted lookup os (files ++ more) (length files) (length (files ++ more) - length files) views (map waiting_view left) found before queue on_queue chain keys so.linked.own_files;
+        submodules = submodules_further lookup os files more modules after.modules.items next node views (map waiting_view left) found queue.keys followed within parents taken.1.parent node_is noted are whole submodules;
+        unloaded = unloaded_further lookup os own files more modules after.modules.items next node views (map waiting_view left) found queue.keys within node_is noted are whole so.root so.linked.below submodules so.linked.once unloaded;
+      } in
+      entered files modules after gone next views left queue more node found so.modules taken.0 followed taken.1.named taken.1.parent grown numbered own_files is noted one_more waiting whole
+      (λ place a lt h. are_above_still modules after.modules.items next node (length files) (length (files ++ more)) parents node_is noted place a lt h)
+      (all_are_above modules after.modules.items next node (length files) (length (files ++ more)) parents node_is noted lookup os (files ++ more) (length files) (length (files ++ more) - length files) views (map waiting_view left) found before queue on_queue chain keys)
+      (queued_further modules after.modules.items next node (length files) (length (files ++ more)) parents node_is noted lookup os (files ++ more) (length files) (length (files ++ more) - length files) views (map waiting_view left) found before queue on_queue chain keys are whole)
+      (subst (λ fs. AreLinked lookup os fs after.modules.items (map waiting_view left)) (sym grown) linked) own (root_still own next modules after.modules.items node noted so.root)
+
   -- the root's module
-  pub root_entered : (modules : List ModuleNode) (after : Compilation) (gone : Numbers) (root : Pending) (left : List Pending) (node : ModuleNode) (above : Above) (found : List Waiting) → modules ≡ [] → root.parent ≡ None → root.item ≡ None → root.name ≡ None
+  pub root_entered : (modules : List ModuleNode) (after : Compilation) (gone : Numbers) (root : Pending) (left : List Pending) (queue : Queue) (node : ModuleNode) (found : List Waiting) → modules ≡ [] → root.parent ≡ None → root.item ≡ None → root.name ≡ None
       → (is_read ≡ true → AreNumbered start after.files.items gone) → (is_read ≡ true → AreFilesOf lookup.sources.now expansion version 0 root.source.key.now after.files.items)
       → IsNodeOf root 0 (length after.files.items) node → IsNoted root.parent (length modules) (modules ++ node ∷ []) after.modules.items → length after.modules.items ≡ length modules + 1
-      → AreWaiting lookup os after.files.items above (length modules) 0 (length after.files.items - 0) found → map waiting_view left ≡ found → AreLoadedSoFar lookup.sources.now expansion version os start is_read lookup root.source.key.now after gone left
-  root_entered modules after gone root left node above found none no_parent no_item no_name numbered own_files is noted one_more waiting whole =
-      entered [] [] after gone root [] left after.files.items node above found (λ place n e. absurd (none-some n e)) (λ i w e. absurd (none-some w e)) (λ place n e. absurd (none-some n e)) (λ place e. absurd (none-some place (sym no_item ∙ e)))
-      (λ place e. absurd (none-some place (sym no_parent ∙ e))) refl numbered own_files is (subst (λ ms. IsNoted root.parent (length ms) (ms ++ node ∷ []) after.modules.items) none noted) (one_more ∙ ap (λ ms. length ms + 1) none)
-      (subst (λ ms. AreWaiting lookup os after.files.items above (length ms) 0 (length after.files.items - 0) found) none waiting) whole root.source.key.now
-      (first_root root (length after.files.items) node after.modules.items no_parent no_item no_name is (subst (λ ms. IsNoted root.parent (length ms) (ms ++ node ∷ []) after.modules.items) none noted))
+      → AreWaiting lookup os after.files.items queue.keys (length modules) 0 (length after.files.items - 0) found → map waiting_view left ≡ found
+      → queue.chain.items ≡ record { «module» = 0; key = root.source.key } ∷ [] → IsChain queue → AreLoadedSoFar lookup.sources.now expansion version os start is_read lookup root.source.key.now after gone left queue
+  root_entered modules after gone root left queue node found none no_parent no_item no_name numbered own_files is noted one_more waiting whole chain keys =
+      let at_first = subst (λ ms. IsNoted root.parent (length ms) (ms ++ node ∷ []) after.modules.items) none noted in
+      let of_first = subst (λ ms. AreWaiting lookup os after.files.items queue.keys (length ms) 0 (length after.files.items - 0) found) none waiting in
+      let many = one_more ∙ ap (λ ms. length ms + 1) none in
+      let first = first_root root (length after.files.items) node after.modules.items no_parent no_item no_name is at_first in
+      entered [] [] after gone root [] left queue after.files.items node found (λ place n e. absurd (none-some n e)) (λ i w e. absurd (none-some w e)) (λ place n e. absurd (none-some n e)) (λ place e. absurd (none-some place (sym no_item ∙ e)))
+      (λ place e. absurd (none-some place (sym no_parent ∙ e))) refl numbered own_files is at_first many of_first whole
+      (λ place a lt h. absurd (omega (arith, lt))) (root_above root.source.key.now after.modules.items root node 0 (length after.files.items) queue no_parent is at_first chain keys)
+      (subst (AreQueued after.modules.items queue) (sym whole) (root_queued root.source.key.now after.modules.items root node 0 (length after.files.items) queue no_parent is at_first chain keys lookup os after.files.items 0 (length after.files.items - 0) found of_first))
+      (subst (AreLinked lookup os after.files.items after.modules.items) (sym whole) (root_linked lookup os root.source.key.now after.files.items after.modules.items root node found queue.keys no_parent first many is at_first of_first (root_own_files root.source.key.now after.modules.items root node 0 (length after.files.items) queue no_parent is at_first chain keys many))) root.source.key.now first
 
 -- the root that was read is the only file
 pub root_begun : {Y Z : Type 0} (sources : BTreeMap (String Y) (String Z)) (expansion : Expansion) (version : Version) (os : Os) (start : Numbers) (is_read : Bool) (root : Bor (List ℕ)) (parsed : Parsed) (source : Source) (compilation : Compilation)
-    → compilation.files.items ≡ record { key = root; «module» = 0; depth = 0; ast = parsed.ast } ∷ [] → compilation.modules.items ≡ [] → source.key.now ≡ root.now → (is_read ≡ true → IsRootRead sources expansion version start root.now parsed)
+    → compilation.files.items ≡ record { key = root; «module» = 0; depth = 0; ast = parsed.ast } ∷ [] → compilation.modules.items ≡ [] → source.key.now ≡ root.now → is_clean root.now ≡ true → (is_read ≡ true → IsRootRead sources expansion version start root.now parsed)
     → IsBegun sources expansion version os start is_read source.key.now compilation parsed.numerator
-root_begun sources expansion version os start is_read root parsed source compilation whole none same read =
+root_begun sources expansion version os start is_read root parsed source compilation whole none same clean read =
     let file : LoadedFile = record { key = root; «module» = 0; depth = 0; ast = parsed.ast } in
     record {
+      clean = subst (λ key. is_clean key ≡ true) (sym same) clean;
       none = none;
-      alone = λ is. let r = read is in record { file = file; alone = whole; key = sym same; depth = refl; of = record { text = r.text; there = r.there; says = r.says; owner_is = refl } };
+      alone = λ is. let r = read is in record { file = file; alone = whole; key = sym same; depth = refl; of = record { text = r.text; there = r.there; says = r.says; whole = r.whole; owner_is = refl } };
       numbered = λ is. subst (λ fs. AreNumbered start fs parsed.numerator) (sym whole) (numbered_more {files = []} file numbered_none (read is).numbered);
     }

@@ -7,7 +7,10 @@ pub mod Reaching
 pub mod Circles
 pub mod Loading
 pub mod Noting
+pub mod Firsts
 pub mod Ordering
 pub mod Bounded
 pub mod Closing
+pub mod Above
+pub mod Once
 pub mod Entering

@@ -1,5 +1,6 @@
 -- A module's files in reading order, one followed after the other.
 use Rattle.std.proofs.Common.{◌≡◌, sym, ◌∙◌, ap, subst, inl, inr, ◌⊎◌, Bool, true, false, cond, ◌<◌, ◌≤◌, ◌+◌, ◌-◌, min, ◌++◌, ◌∷◌, [], ℕ, zero, suc, List, Option, Some, None, Result, Ok, Err, refl, arith, length, map, take, drop, append_assoc, length-append}
+use Rattle.std.proofs.lemmas.Bool.{false≢true}
 use Rattle.std.specs.Prelude.{Contains, is_some, option_map, option_to_list, slice_get}
 use Rattle.std.specs.BTreeMap.{BTreeMap, get_by_text}
 use Rattle.std.specs.List.{flat_map}
@@ -10,7 +11,8 @@ use Rattle.std.proofs.lemmas.List.{append-nil, drop-append-le, length-drop, leng
 use Rattle.std.proofs.lemmas.Option.{get_or_from_slice_get, none-some, same_Some, slice_get-map, slice_get_within}
 use Rattle.just_text.specs.Numbers.{Numbers}
 use Rattle.tree_items.specs.declared.ast.Item.{Item}
-use Rattle.parse_expressions.specs.Literals.{Expansion}
+use Rattle.parse_expressions.specs.Literals.{Expansion, from_file}
+use Rattle.justfile_syntax.specs.Parsed.{IsWhole}
 use Rattle.semver.specs.declared.Version.{Version}
 use Rattle.modules_compilation.specs.Paths.{key_from}
 use Rattle.modules_compilation.specs.Places.{items_of}
@@ -29,7 +31,8 @@ use Rattle.modules_sources.specs.ReadingOrder.{AreFollowed, AreImports, AreNoted
 use Rattle.modules_sources.specs.Reached.{ArePlaces, AreReached, new_files, with_key, with_new}
 use Rattle.modules_sources.specs.declared.imports.Reached.{Reached}
 use Rattle.modules_sources.proofs.Bounded.{no_more}
-use Rattle.modules_sources.proofs.Reaching.{at_end, end_cases, kept_left, places_kept}
+use Rattle.modules_sources.proofs.Reaching.{append_cases, at_end, end_cases, kept_left, places_kept, there_before}
+use Rattle.modules_sources.proofs.Firsts.{row_among, new_apart}
 
 abbrev Text : Type 0
 Text = List ℕ
@@ -187,22 +190,8 @@ module _ {Y Z : Type 0} (sources : BTreeMap (String Y) (String Z)) where
 
 -- ---- one file more is followed
 
-append_cases : {A : Type 0} (xs ys : List A) (i : ℕ) (a : A) → slice_get (xs ++ ys) i ≡ Some a → (slice_get xs i ≡ Some a) ⊎ ((length xs ≤ i) × ((j : ℕ) × (slice_get ys j ≡ Some a)))
-append_cases [] ys i a e = inr (omega arith, (i, e))
-append_cases (x ∷ xs) ys zero a e = inl e
-append_cases (x ∷ xs) ys (suc i) a e = elim (append_cases xs ys i a e) [
-  | inl p ↦ inl p
-  | inr q ↦ inr (let le = q.0 in omega (arith, le), q.1)
-]
-
 contains_at : (keys : List Text) (i : ℕ) (key : Text) → slice_get keys i ≡ Some key → Contains keys key
 contains_at keys i key e = (i, slice_get_within keys i key e, get_or_from_slice_get keys i key key e)
-
--- what stands in a list stands there with more behind it
-there_before : {A : Type 0} (xs ys : List A) (i : ℕ) → i < length xs → slice_get (xs ++ ys) i ≡ slice_get xs i
-there_before [] ys i lt = absurd (omega (arith, lt))
-there_before (x ∷ xs) ys zero lt = refl
-there_before (x ∷ xs) ys (suc i) lt = there_before xs ys i (omega (arith, lt))
 
 led_further : (files more : List LoadedFile) (imports : List (List File)) (found : List File) (place : ℕ) (file : LoadedFile) → place < length files → IsLed files imports place file → IsLed (files ++ more) (imports ++ found ∷ []) place file
 led_further files more imports found place file lt h =
@@ -213,6 +202,10 @@ led_further files more imports found place file lt h =
       row = h.row;
       here = kept_left imports (found ∷ []) h.at h.row h.here;
       imported = h.imported;
+      first = λ other others lt there has. elim (end_cases imports found other others there) [
+        | inl p ↦ h.first other others lt p has
+        | inr q ↦ let many = slice_get_within imports h.at h.row h.here in let same = q.0 in absurd (omega (arith, lt, many, same))
+      ];
       depth = h.depth ∙ ap depth_behind (sym (there_before files more h.at (omega (arith, before, lt))));
     }
 
@@ -227,6 +220,7 @@ module _ {Y Z : Type 0} (sources : BTreeMap (String Y) (String Z)) (expansion : 
     text = source.1;
     there = ap (source_of sources) is.key ∙ source_text sources source known;
     says = is.says;
+    whole = subst (λ key. IsWhole (from_file key expansion) file.ast) (sym is.key) is.whole;
     owner_is = is.owner_is;
   }
 
@@ -259,6 +253,11 @@ module _ {Y Z : Type 0} (sources : BTreeMap (String Y) (String Z)) (expansion : 
           row = found;
           here = subst (λ n. slice_get (imports ++ found ∷ []) n ≡ Some found) (as_many count files imports h.within h.named) (at_end imports found);
           imported = contains_at (map (λ f. f.0) found) w.1.0 next.key.now (slice_get-map (λ f. f.0) found w.1.0 ∙ ap (option_map (λ f. f.0)) w.1.1 ∙ ap Some (sym w.0.is.key));
+          first = λ other others before there has. elim (end_cases imports found other others there) [
+            | inl p ↦ absurd (false≢true (sym (new_apart (loaded_keys files) found j w.0.source (ap (λ fs. slice_get fs j) (sym are_new) ∙ w.0.told_at)) ∙ ap (is_among (loaded_keys files)) (sym w.0.is.key)
+                ∙ ap (λ ks. is_among ks next.key.now) h.whole ∙ row_among (own ∷ []) imports other others next.key.now p has))
+            | inr q ↦ let many = as_many count files imports h.within h.named in let same = q.0 in absurd (omega (arith, before, many, same))
+          ];
           depth = w.0.is.depth_is ∙ ap depth_behind (sym (there_before files more count lt));
         }
 

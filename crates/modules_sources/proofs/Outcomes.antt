@@ -30,9 +30,9 @@ pub ok_says : {T E P : Type 0} (r : Result T E) → P → OnOk r P
 ok_says (Ok x) p = p
 ok_says (Err e) p = tt
 
-pub four_ok : {T E P Q R S G : Type 0} (r : Result T E) → OnOk r P → OnOk r Q → OnOk r R → OnOk r S → (P → Q → R → S → G) → OnOk r G
-four_ok (Ok x) p q s t f = f p q s t
-four_ok (Err e) p q s t f = tt
+pub six_ok : {T E P Q R S U V G : Type 0} (r : Result T E) → OnOk r P → OnOk r Q → OnOk r R → OnOk r S → OnOk r U → OnOk r V → (P → Q → R → S → U → V → G) → OnOk r G
+six_ok (Ok x) p q s t u v f = f p q s t u v
+six_ok (Err e) p q s t u v f = tt
 
 -- what holds where an outcome is no refusal
 pub unless : {A B E : Type 0} (P : A → Type 0) (a : A) (outcome : Result B E) (r : Result A E) → r ≡ unless_refused a outcome → OnOk outcome (P a) → IfOk r P

@@ -1,6 +1,6 @@
 -- Files that are reached, one after the other.
-use Rattle.std.proofs.Common.{◌≡◌, ◌⊎◌, inl, inr, sym, ◌∙◌, ap, subst, Bool, true, false, not, cond, ◌||◌, ◌<◌, ◌+◌, ◌++◌, ◌∷◌, [], ℕ, zero, suc, List, Option, Some, None, refl, length, length-append, map, take, get_or}
-use Rattle.std.specs.Prelude.{if◌then◌else◌, is_some, option_map, slice_get}
+use Rattle.std.proofs.Common.{◌≡◌, ◌⊎◌, inl, inr, sym, ◌∙◌, ap, subst, Bool, true, false, not, cond, ◌||◌, ◌<◌, ◌+◌, ◌++◌, ◌∷◌, [], ℕ, zero, suc, List, Option, Some, None, refl, length, length-append, map, take, get_or, arith, ◌≤◌}
+use Rattle.std.specs.Prelude.{Contains, if◌then◌else◌, is_some, option_map, slice_get}
 use Rattle.std.specs.BTreeMap.{is_at}
 use Rattle.std.specs.Cmp.Lexicographic.{slice_cmp}
 use Rattle.std.specs.Ordering.{nat_cmp}
@@ -31,6 +31,31 @@ kept_left (x ∷ xs) ys (suc i) a e = kept_left xs ys i a e
 pub at_end : {A : Type 0} (xs : List A) (a : A) → slice_get (xs ++ a ∷ []) (length xs) ≡ Some a
 at_end [] a = refl
 at_end (x ∷ xs) a = at_end xs a
+
+-- what stands in a list stands there with more behind it
+pub there_before : {A : Type 0} (xs ys : List A) (i : ℕ) → i < length xs → slice_get (xs ++ ys) i ≡ slice_get xs i
+there_before [] ys i lt = absurd (omega (arith, lt))
+there_before (x ∷ xs) ys zero lt = refl
+there_before (x ∷ xs) ys (suc i) lt = there_before xs ys i (omega (arith, lt))
+
+-- what stands in a list with more behind it stands in one of the two
+pub append_cases : {A : Type 0} (xs ys : List A) (i : ℕ) (a : A) → slice_get (xs ++ ys) i ≡ Some a → (slice_get xs i ≡ Some a) ⊎ ((length xs ≤ i) × ((j : ℕ) × (slice_get ys j ≡ Some a)))
+append_cases [] ys i a e = inr (omega arith, (i, e))
+append_cases (x ∷ xs) ys zero a e = inl e
+append_cases (x ∷ xs) ys (suc i) a e = elim (append_cases xs ys i a e) [
+  | inl p ↦ inl p
+  | inr q ↦ inr (let le = q.0 in omega (arith, le), q.1)
+]
+
+-- what stands in a list under a map comes of what stands there
+pub mapped_at : {A B : Type 0} (f : A → B) (xs : List A) (i : ℕ) (b : B) → slice_get (map f xs) i ≡ Some b → (a : A) × (slice_get xs i ≡ Some a) × (f a ≡ b)
+mapped_at f [] i b e = absurd (none-some b e)
+mapped_at f (x ∷ xs) zero b e = (x, refl, same_Some (f x) b e)
+mapped_at f (x ∷ xs) (suc i) b e = mapped_at f xs i b e
+
+-- what a list contains stands at a place
+pub place_of : {A : Type 0} (xs : List A) (a : A) → Contains xs a → (i : ℕ) × (slice_get xs i ≡ Some a)
+place_of xs a h = (h.0, slice_get-get_or xs h.0 a h.1 ∙ ap Some h.2)
 
 pub end_cases : {A : Type 0} (xs : List A) (last : A) (i : ℕ) (a : A) → slice_get (xs ++ last ∷ []) i ≡ Some a → (slice_get xs i ≡ Some a) ⊎ ((i ≡ length xs) × (last ≡ a))
 end_cases [] last zero a e = inr (refl, same_Some last a e)

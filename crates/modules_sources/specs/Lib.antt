@@ -4,6 +4,7 @@ pub mod Queue
 pub mod Imports
 pub mod Reached
 pub mod Nodes
+pub mod Above
 pub mod Loading
 pub mod ReadingOrder
 pub mod Loaded

@@ -7,9 +7,10 @@ use Rattle.just_text.specs.declared.compile_error.CompileError.{CompileError}
 use Rattle.just_text.specs.declared.compile_error.CompileErrorKind.{CompileErrorKind}
 use Rattle.just_text.specs.declared.compile_error.CompileErrorKind.TheVariants.{OutOfMemory}
 use Rattle.tree_items.specs.Files.{item_shapes}
-use Rattle.parse_expressions.specs.Literals.{Expansion}
+use Rattle.parse_expressions.specs.Literals.{Expansion, from_file}
 use Rattle.parse_recipes.specs.Numbering.{AreUsed}
 use Rattle.justfile_syntax.specs.Numbered.{AreInOrder}
+use Rattle.justfile_syntax.specs.Parsed.{IsWhole}
 use Rattle.justfile_syntax.specs.Reads.{IsRefusal, Reads, Stands}
 use Rattle.semver.specs.declared.Version.{Version}
 use Rattle.modules_compilation.specs.declared.error.Error.{Error}
@@ -32,6 +33,7 @@ module _ (expansion : Expansion) (version : Version) (owner depth : ℕ) where
     pub owner_is : file.module ≡ owner
     pub depth_is : file.depth ≡ depth
     pub says : Reads expansion version source.1 (item_shapes file.ast.items.items)
+    pub whole : IsWhole (from_file source.0 expansion) file.ast
     pub numbered : AreInOrder old new file.ast.items.items
 
   -- a text is refused: it says nothing, for the reason that is told, or no numbers are left

@@ -5,8 +5,9 @@ use Rattle.std.specs.List.{flat_map}
 use Rattle.std.specs.declared.string.String.{String}
 use Rattle.just_text.specs.Numbers.{Numbers}
 use Rattle.tree_items.specs.Files.{item_shapes}
-use Rattle.parse_expressions.specs.Literals.{Expansion}
+use Rattle.parse_expressions.specs.Literals.{Expansion, from_file}
 use Rattle.justfile_syntax.specs.Numbered.{AreInOrder}
+use Rattle.justfile_syntax.specs.Parsed.{IsWhole}
 use Rattle.justfile_syntax.specs.Reads.{Reads}
 use Rattle.semver.specs.declared.Version.{Version}
 use Rattle.modules_compilation.specs.declared.error.Error.{Error}
@@ -35,13 +36,14 @@ pub data AreNumbered : Numbers → List LoadedFile → Numbers → Type 0 where
   numbered_none : {numbers : Numbers} → AreNumbered numbers [] numbers
   numbered_more : {old now new : Numbers} {files : List LoadedFile} (file : LoadedFile) → AreNumbered old files now → AreInOrder now new file.ast.items.items → AreNumbered old (files ++ file ∷ []) new
 
--- a file that stands earlier imports it, and it is one import deeper
+-- the first of the files that import it stands earlier, and it is one import deeper
 pub record IsLed (files : List LoadedFile) (imports : List (List File)) (place : ℕ) (file : LoadedFile) : Type 0 where
   pub at : ℕ
   pub earlier : at < place
   pub row : List File
   pub here : slice_get imports at ≡ Some row
   pub imported : Contains (map (λ f. f.0) row) file.key.now
+  pub first : (other : ℕ) (others : List File) → other < at → slice_get imports other ≡ Some others → Contains (map (λ f. f.0) others) file.key.now → ⊥
   pub depth : file.depth ≡ depth_behind (slice_get files at)
 
 module _ {Y Z : Type 0} (sources : BTreeMap (String Y) (String Z)) where
@@ -55,6 +57,7 @@ module _ {Y Z : Type 0} (sources : BTreeMap (String Y) (String Z)) where
       pub text : Text
       pub there : source_of sources file.key.now ≡ Some text
       pub says : Reads expansion version text (item_shapes file.ast.items.items)
+      pub whole : IsWhole (from_file file.key.now expansion) file.ast
       pub owner_is : file.module ≡ owner
 
     -- the module's own file stands alone

@@ -1,5 +1,6 @@
 //! Loading files into modules.
 ghost use Rattle.std.specs.Prelude.{◌≡◌, ◌≢◌, ◌+◌, ◌-◌, ◌++◌, ◌∷◌, [], ◌<◌, ◌≤◌, ℕ, Bool, length, map, drop, List, None, Ok, Err, true, false, IfErr, IfOk, OnOk};
+ghost use Rattle.modules_compilation.specs.Paths.{is_clean};
 ghost use Rattle.modules_compilation.specs.declared.error.Error.TheVariants as refusals;
 ghost use Rattle.modules_compilation.specs.declared.module_node.File.{File as LoadedFile};
 ghost use Rattle.modules_files.specs.Chosen.{view};
@@ -9,6 +10,7 @@ ghost use Rattle.modules_compilation.specs.declared.module_node.ModuleNode.{Modu
 ghost use Rattle.modules_sources.specs.Loaded.{AreLoaded, AreLoadedSoFar, IsBegun, IsBelowRefused, IsLoadRefused, IsNextRefused, IsRefused, IsRootMissing, IsRootRead, IsSource, first_numbers};
 ghost use Rattle.modules_sources.specs.Loading.{AreRead, IsRead, IsTurn, IsTurnRefused, IsUnread, IsUnreadAmong, refusal_by};
 ghost use Rattle.modules_sources.specs.Nodes.{IsNodeOf, IsNoted};
+ghost use Rattle.modules_sources.specs.Queue.{AreKeysOf, IsChain, chain_keys, cut_to, entered, is_among};
 ghost use Rattle.modules_sources.specs.ReadingOrder.{AreFilesOf, AreNoted, AreNumbered, AreRefused, IsModuleRefused, IsOwnAlone, IsRefusedBehind};
 ghost use Rattle.modules_sources.specs.Submodules.{Above, AreWaiting, IsRefusedAmong, Waiting, waiting_view};
 
@@ -243,8 +245,8 @@ impl<'src, 'a, E: Expander> Loader<'src, 'a, E> {
         next: &Pending<'src>,
     ) -> Result<(), Error<'src>>
         ensures one_more { OnOk result (length compilation.new.modules.items ≡ length compilation.old.modules.items + 1) }
-        ensures loaded { OnOk result ((start : Numbers) (is_read : Bool) (own : List ℕ) → AreLoadedSoFar self.now.files.sources.now (E.expansion self.now.expander.now) self.now.config.now.version self.now.config.now.os start is_read self.now.files own compilation.old numerator.old (queue.old.pending.items ++ next.now ∷ []) → AreLoadedSoFar self.now.files.sources.now (E.expansion self.now.expander.now) self.now.config.now.version self.now.config.now.os start is_read self.now.files own compilation.new numerator.new queue.new.pending.items) }
-        ensures refused { IfErr result (λ refusal. refusal ≢ refusals.OutOfMemory → (start : Numbers) (is_read : Bool) (own : List ℕ) → AreLoadedSoFar self.now.files.sources.now (E.expansion self.now.expander.now) self.now.config.now.version self.now.config.now.os start is_read self.now.files own compilation.old numerator.old (queue.old.pending.items ++ next.now ∷ []) → IsLoadRefused self.now.files.sources.now (E.expansion self.now.expander.now) self.now.config.now.version self.now.files self.now.config.now.os (length compilation.old.modules.items) (length compilation.old.files.items) (view next.now.source) refusal) }
+        ensures loaded { OnOk result ((start : Numbers) (is_read : Bool) (own : List ℕ) → AreLoadedSoFar self.now.files.sources.now (E.expansion self.now.expander.now) self.now.config.now.version self.now.config.now.os start is_read self.now.files own compilation.old numerator.old (queue.old.pending.items ++ next.now ∷ []) queue.old → AreLoadedSoFar self.now.files.sources.now (E.expansion self.now.expander.now) self.now.config.now.version self.now.config.now.os start is_read self.now.files own compilation.new numerator.new queue.new.pending.items queue.new) }
+        ensures refused { IfErr result (λ refusal. refusal ≢ refusals.OutOfMemory → (start : Numbers) (is_read : Bool) (own : List ℕ) → AreLoadedSoFar self.now.files.sources.now (E.expansion self.now.expander.now) self.now.config.now.version self.now.config.now.os start is_read self.now.files own compilation.old numerator.old (queue.old.pending.items ++ next.now ∷ []) queue.old → IsLoadRefused self.now.files.sources.now (E.expansion self.now.expander.now) self.now.config.now.version self.now.files self.now.config.now.os compilation.old.modules.items next.now.parent (length compilation.old.files.items) (view next.now.source) refusal) }
     {
         let module = compilation.modules.len();
         let first = compilation.files.len();
@@ -264,8 +266,8 @@ impl<'src, 'a, E: Expander> Loader<'src, 'a, E> {
     ) -> Result<bool, Error<'src>>
         ensures one_more { IfOk result (λ loaded. loaded ≡ true → length compilation.old.modules.items < length compilation.new.modules.items) }
         ensures ended { IfOk result (λ loaded. loaded ≡ false → queue.new.pending.items ≡ []) }
-        ensures loaded { OnOk result ((start : Numbers) (is_read : Bool) (own : List ℕ) → AreLoadedSoFar self.now.files.sources.now (E.expansion self.now.expander.now) self.now.config.now.version self.now.config.now.os start is_read self.now.files own compilation.old numerator.old queue.old.pending.items → AreLoadedSoFar self.now.files.sources.now (E.expansion self.now.expander.now) self.now.config.now.version self.now.config.now.os start is_read self.now.files own compilation.new numerator.new queue.new.pending.items) }
-        ensures refused { IfErr result (λ refusal. refusal ≢ refusals.OutOfMemory → (start : Numbers) (is_read : Bool) (own : List ℕ) → AreLoadedSoFar self.now.files.sources.now (E.expansion self.now.expander.now) self.now.config.now.version self.now.config.now.os start is_read self.now.files own compilation.old numerator.old queue.old.pending.items → IsNextRefused self.now.files.sources.now (E.expansion self.now.expander.now) self.now.config.now.version self.now.config.now.os start is_read self.now.files own refusal) }
+        ensures loaded { OnOk result ((start : Numbers) (is_read : Bool) (own : List ℕ) → AreLoadedSoFar self.now.files.sources.now (E.expansion self.now.expander.now) self.now.config.now.version self.now.config.now.os start is_read self.now.files own compilation.old numerator.old queue.old.pending.items queue.old → AreLoadedSoFar self.now.files.sources.now (E.expansion self.now.expander.now) self.now.config.now.version self.now.config.now.os start is_read self.now.files own compilation.new numerator.new queue.new.pending.items queue.new) }
+        ensures refused { IfErr result (λ refusal. refusal ≢ refusals.OutOfMemory → (start : Numbers) (is_read : Bool) (own : List ℕ) → AreLoadedSoFar self.now.files.sources.now (E.expansion self.now.expander.now) self.now.config.now.version self.now.config.now.os start is_read self.now.files own compilation.old numerator.old queue.old.pending.items queue.old → IsNextRefused self.now.files.sources.now (E.expansion self.now.expander.now) self.now.config.now.version self.now.config.now.os start is_read self.now.files own refusal) }
     {
         let Some(next) = queue.pop() else {
             return Ok(false);
@@ -283,8 +285,8 @@ impl<'src, 'a, E: Expander> Loader<'src, 'a, E> {
         queue: &mut Queue<'src>,
     ) -> Result<(), Error<'src>>
         ensures ended { OnOk result (queue.new.pending.items ≡ []) }
-        ensures loaded { OnOk result ((start : Numbers) (is_read : Bool) (own : List ℕ) → AreLoadedSoFar self.now.files.sources.now (E.expansion self.now.expander.now) self.now.config.now.version self.now.config.now.os start is_read self.now.files own compilation.old numerator.old queue.old.pending.items → AreLoadedSoFar self.now.files.sources.now (E.expansion self.now.expander.now) self.now.config.now.version self.now.config.now.os start is_read self.now.files own compilation.new numerator.new queue.new.pending.items) }
-        ensures refused { IfErr result (λ refusal. refusal ≢ refusals.OutOfMemory → (start : Numbers) (is_read : Bool) (own : List ℕ) → AreLoadedSoFar self.now.files.sources.now (E.expansion self.now.expander.now) self.now.config.now.version self.now.config.now.os start is_read self.now.files own compilation.old numerator.old queue.old.pending.items → IsNextRefused self.now.files.sources.now (E.expansion self.now.expander.now) self.now.config.now.version self.now.config.now.os start is_read self.now.files own refusal) }
+        ensures loaded { OnOk result ((start : Numbers) (is_read : Bool) (own : List ℕ) → AreLoadedSoFar self.now.files.sources.now (E.expansion self.now.expander.now) self.now.config.now.version self.now.config.now.os start is_read self.now.files own compilation.old numerator.old queue.old.pending.items queue.old → AreLoadedSoFar self.now.files.sources.now (E.expansion self.now.expander.now) self.now.config.now.version self.now.config.now.os start is_read self.now.files own compilation.new numerator.new queue.new.pending.items queue.new) }
+        ensures refused { IfErr result (λ refusal. refusal ≢ refusals.OutOfMemory → (start : Numbers) (is_read : Bool) (own : List ℕ) → AreLoadedSoFar self.now.files.sources.now (E.expansion self.now.expander.now) self.now.config.now.version self.now.config.now.os start is_read self.now.files own compilation.old numerator.old queue.old.pending.items queue.old → IsNextRefused self.now.files.sources.now (E.expansion self.now.expander.now) self.now.config.now.version self.now.config.now.os start is_read self.now.files own refusal) }
     {
         while self.load_next(alloc, compilation, numerator, queue)? {}
         Ok(())
@@ -299,8 +301,8 @@ impl<'src, 'a, E: Expander> Loader<'src, 'a, E> {
         queue: &mut Queue<'src>,
         root: &Pending<'src>,
     ) -> Result<(), Error<'src>>
-        ensures loaded { OnOk result ((start : Numbers) (is_read : Bool) → root.now.parent ≡ None → root.now.item ≡ None → root.now.name ≡ None → queue.old.pending.items ≡ [] → IsBegun self.now.files.sources.now (E.expansion self.now.expander.now) self.now.config.now.version self.now.config.now.os start is_read root.now.source.key.now compilation.old numerator.old → AreLoadedSoFar self.now.files.sources.now (E.expansion self.now.expander.now) self.now.config.now.version self.now.config.now.os start is_read self.now.files root.now.source.key.now compilation.new numerator.new queue.new.pending.items) }
-        ensures refused { IfErr result (λ refusal. refusal ≢ refusals.OutOfMemory → (start : Numbers) (is_read : Bool) → IsBegun self.now.files.sources.now (E.expansion self.now.expander.now) self.now.config.now.version self.now.config.now.os start is_read root.now.source.key.now compilation.old numerator.old → is_read ≡ true → (text : List ℕ) × IsLoadRefused self.now.files.sources.now (E.expansion self.now.expander.now) self.now.config.now.version self.now.files self.now.config.now.os 0 0 (root.now.source.key.now, text) refusal) }
+        ensures loaded { OnOk result ((start : Numbers) (is_read : Bool) → root.now.parent ≡ None → root.now.item ≡ None → root.now.name ≡ None → queue.old.pending.items ≡ [] → queue.old.chain.items ≡ [] → IsChain queue.old → IsBegun self.now.files.sources.now (E.expansion self.now.expander.now) self.now.config.now.version self.now.config.now.os start is_read root.now.source.key.now compilation.old numerator.old → AreLoadedSoFar self.now.files.sources.now (E.expansion self.now.expander.now) self.now.config.now.version self.now.config.now.os start is_read self.now.files root.now.source.key.now compilation.new numerator.new queue.new.pending.items queue.new) }
+        ensures refused { IfErr result (λ refusal. refusal ≢ refusals.OutOfMemory → (start : Numbers) (is_read : Bool) → root.now.parent ≡ None → queue.old.chain.items ≡ [] → IsChain queue.old → IsBegun self.now.files.sources.now (E.expansion self.now.expander.now) self.now.config.now.version self.now.config.now.os start is_read root.now.source.key.now compilation.old numerator.old → is_read ≡ true → (text : List ℕ) × IsLoadRefused self.now.files.sources.now (E.expansion self.now.expander.now) self.now.config.now.version self.now.files self.now.config.now.os [] None 0 (root.now.source.key.now, text) refusal) }
     {
         let files = &mut compilation.files;
         self.load_files(alloc, files, numerator, root.source.key, 0, 0)?;
@@ -345,8 +347,10 @@ fn add_module<'src>(
     ensures one_more { OnOk result (length compilation.new.modules.items ≡ length compilation.old.modules.items + 1) }
     ensures node { OnOk result ((node : ModuleNode) × IsNodeOf next.now first (length compilation.old.files.items) node × IsNoted next.now.parent (length compilation.old.modules.items) (compilation.old.modules.items ++ node ∷ []) compilation.new.modules.items) }
     ensures files { OnOk result (compilation.new.files.items ≡ compilation.old.files.items) }
-    ensures pending { OnOk result ((above : Above) × (more : List Waiting) × AreWaiting files.now os compilation.old.files.items above (length compilation.old.modules.items) first (length compilation.old.files.items - first) more × (map waiting_view queue.new.pending.items ≡ map waiting_view queue.old.pending.items ++ more)) }
-    ensures refused { IfErr result (λ refusal. refusal ≢ refusals.OutOfMemory → (above : Above) × IsRefusedAmong files.now os compilation.old.files.items above (length compilation.old.modules.items) first (length compilation.old.files.items - first) refusal) }
+    ensures pending { OnOk result ((more : List Waiting) × AreWaiting files.now os compilation.old.files.items queue.new.keys (length compilation.old.modules.items) first (length compilation.old.files.items - first) more × (map waiting_view queue.new.pending.items ≡ map waiting_view queue.old.pending.items ++ more)) }
+    ensures chain { OnOk result (queue.new.chain.items ≡ entered queue.old.chain.items next.now (length compilation.old.modules.items)) }
+    ensures keys { OnOk result (IsChain queue.old → is_among (chain_keys (cut_to next.now.parent queue.old.chain.items)) next.now.source.key.now ≡ false → IsChain queue.new) }
+    ensures refused { IfErr result (λ refusal. refusal ≢ refusals.OutOfMemory → (above : Above) × (IsChain queue.old → is_among (chain_keys (cut_to next.now.parent queue.old.chain.items)) next.now.source.key.now ≡ false → AreKeysOf above (entered queue.old.chain.items next.now (length compilation.old.modules.items))) × IsRefusedAmong files.now os compilation.old.files.items above (length compilation.old.modules.items) first (length compilation.old.files.items - first) refusal) }
 {
     let module = compilation.modules.len();
     add_node(alloc, compilation, next, first)?;
@@ -404,6 +408,7 @@ fn root_source<'src>(
     root: &'src str,
 ) -> Result<Source<'src>, Error<'src>>
     ensures found { IfOk result (λ source. (source.key.now ≡ root.now) × IsSource sources.now (view source)) }
+    ensures clean { OnOk result (is_clean root.now ≡ true) }
     ensures missing { IfErr result (λ refusal. IsRootMissing sources.now root.now refusal) }
 {
     if !is_clean(root) {

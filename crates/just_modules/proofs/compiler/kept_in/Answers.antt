@@ -16,7 +16,7 @@ returns-clause-kept c =
     let modules = c.args.modules.now in
     let node = c.args.node.now in
     let ds = c.as_slice.result.now in
-    let are : AreDefinitionsOf os unstable files modules node ds = are_of os unstable files modules node c.as_slice-submodules.result.now c.in_ok-definitions.definitions.items ds c.as_slice-submodules.ensures.value c.as_slice.ensures.value c.in_ok-definitions.ensures.each c.in_ok-definitions.ensures.order in
+    let are : AreDefinitionsOf os unstable files modules node ds = are_of os unstable files modules node c.as_slice-submodules.result.now c.in_ok-definitions.definitions.items ds c.as_slice-submodules.ensures.value c.as_slice.ensures.value c.in_ok-definitions.ensures.each c.in_ok-definitions.ensures.order c.in_ok-definitions.ensures.apart in
     kept_gives c.kept_of.result c.kept_of.ensures.kept (λ kept k. keeps_by os unstable files modules node ds are kept.items k)
 
 pub returns-clause-refused : goal.returns-clause-refused
@@ -27,5 +27,5 @@ returns-clause-refused c =
     let modules = c.args.modules.now in
     let node = c.args.node.now in
     let ds = c.as_slice.result.now in
-    let are : AreDefinitionsOf os unstable files modules node ds = are_of os unstable files modules node c.as_slice-submodules.result.now c.in_ok-definitions.definitions.items ds c.as_slice-submodules.ensures.value c.as_slice.ensures.value c.in_ok-definitions.ensures.each c.in_ok-definitions.ensures.order in
+    let are : AreDefinitionsOf os unstable files modules node ds = are_of os unstable files modules node c.as_slice-submodules.result.now c.in_ok-definitions.definitions.items ds c.as_slice-submodules.ensures.value c.as_slice.ensures.value c.in_ok-definitions.ensures.each c.in_ok-definitions.ensures.order c.in_ok-definitions.ensures.apart in
     err_gives c.kept_of.result c.kept_of.ensures.refused (refused_by os unstable files modules node ds are)

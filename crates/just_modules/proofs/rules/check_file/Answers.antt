@@ -3,7 +3,8 @@ use Rattle.std.proofs.Common.{◌≡◌, subst}
 use Rattle.std.specs.Prelude.{OnOk, IfErr}
 use Rattle.meaning_worlds.specs.Given.{World}
 use Rattle.meaning_rules.specs.Rules.{Rule}
-use Rattle.just_modules.specs.ItemRules.{BreaksItems, IsNamedBy}
+use Rattle.just_modules.specs.ItemRules.{BreaksItems}
+use Rattle.meaning_rules.specs.Told.{IsNamedBy}
 use Rattle.just_modules.proofs.rules.check_file.Goals as goal
 
 pub returns-clause-clear : goal.returns-clause-clear

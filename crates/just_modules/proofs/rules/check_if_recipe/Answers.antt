@@ -1,6 +1,7 @@
 -- What the recipe breaks, the item breaks.
 use Rattle.std.proofs.Common.{sym, subst}
-use Rattle.just_modules.specs.ItemRules.{BreaksIfRecipe, IsNamedBy}
+use Rattle.just_modules.specs.ItemRules.{BreaksIfRecipe}
+use Rattle.meaning_rules.specs.Told.{IsNamedBy}
 use Rattle.just_modules.proofs.Outcomes.{err_gives}
 use Rattle.just_modules.proofs.rules.check_if_recipe.Goals as goal
 

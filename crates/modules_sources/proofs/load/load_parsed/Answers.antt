@@ -13,7 +13,7 @@ returns-clause-loaded g c = on_ok c.load_behind.result c.load_behind.ensures.loa
     let whole : c.add_root.new.compilation.files.items ≡ file ∷ [] = c.in_ok-add_root.ensures.files ∙ ap (λ fs. fs ++ file ∷ []) no_files in
     subst (λ own. AreLoaded c.args.sources.now (g.E.Expander.expansion c.args.expander.now) c.args.config.now.version c.args.config.now.os start is_read own c.load_behind.new.compilation) c.in_ok-source.ensures.found.0
     (on start is_read (root_begun c.args.sources.now (g.E.Expander.expansion c.args.expander.now) c.args.config.now.version c.args.config.now.os start is_read c.args.root c.args.parsed c.in_ok-source.source c.add_root.new.compilation whole (c.in_ok-add_root.ensures.modules ∙ no_modules)
-    c.in_ok-source.ensures.found.0 root_read)))
+    c.in_ok-source.ensures.found.0 c.in_ok-source.ensures.clean root_read)))
 
 pub returns-in_err-source-clause-refused : goal.returns-in_err-source-clause-refused
 returns-in_err-source-clause-refused g c =
@@ -29,4 +29,4 @@ returns-clause-refused g c = if_err c.load_behind.result c.load_behind.ensures.r
     let whole : c.add_root.new.compilation.files.items ≡ file ∷ [] = c.in_ok-add_root.ensures.files ∙ ap (λ fs. fs ++ file ∷ []) no_files in
     let known = c.in_ok-source.ensures.found in
     below_refused (subst (λ own. IsBelowRefused sources expansion version c.args.config.now.os start is_read own e) known.0
-    (refused n start is_read (root_begun sources expansion version c.args.config.now.os start is_read c.args.root c.args.parsed c.in_ok-source.source c.add_root.new.compilation whole (c.in_ok-add_root.ensures.modules ∙ no_modules) known.0 root_read))))
+    (refused n start is_read (root_begun sources expansion version c.args.config.now.os start is_read c.args.root c.args.parsed c.in_ok-source.source c.add_root.new.compilation whole (c.in_ok-add_root.ensures.modules ∙ no_modules) known.0 c.in_ok-source.ensures.clean root_read))))

@@ -1,6 +1,7 @@
 -- The root is read, and all is loaded that it leads to.
 use Rattle.std.proofs.Common.{◌≡◌, ◌++◌, ◌∷◌, [], sym, ap, subst, ◌∙◌, true}
 use Rattle.justfile_syntax.specs.Numbered.{AreInOrder}
+use Rattle.modules_compilation.specs.Paths.{is_clean}
 use Rattle.modules_files.specs.Chosen.{view}
 use Rattle.modules_sources.specs.Loaded.{first_numbers, IsBelowRefused, root_missing, root_unread, below_refused, AreLoaded}
 use Rattle.modules_sources.specs.Loading.{IsRead, IsUnread}
@@ -22,6 +23,7 @@ returns-clause-loaded g c = on_ok c.load_behind.result c.load_behind.ensures.loa
     let read = ok_holds (IsRead expansion version 0 0 (view source) c.new-numerator.result gone) c.read_file-read.result added.0 added.1 c.read_file-read.ensures.read in
     let whole : c.add_file.new.files.items ≡ added.0 ∷ [] = added.2 ∙ ap (λ fs. fs ++ added.0 ∷ []) no_files in
     subst (λ own. AreLoaded sources expansion version c.args.config.now.os first_numbers true own c.load_behind.new.compilation) known.0 (on first_numbers true (record {
+      clean = subst (λ key. is_clean key ≡ true) (sym known.0) c.in_ok-source.ensures.clean;
       none = no_modules;
       alone = λ is. subst (IsOwnAlone sources expansion version 0 source.key.now) (sym whole) (read_alone sources expansion version 0 (view source) c.new-numerator.result gone added.0 known.1 read);
       numbered = λ is. subst (λ fs. AreNumbered first_numbers fs gone) (sym whole) (numbered_more {files = []} added.0 numbered_none (subst (λ n. AreInOrder n gone added.0.ast.items.items) c.new-numerator.ensures read.numbered));
@@ -53,6 +55,7 @@ returns-clause-refused g c = if_err c.load_behind.result c.load_behind.ensures.r
     let read = ok_holds (IsRead expansion version 0 0 (view source) c.new-numerator.result gone) c.read_file-read.result added.0 added.1 c.read_file-read.ensures.read in
     let whole : c.add_file.new.files.items ≡ added.0 ∷ [] = added.2 ∙ ap (λ fs. fs ++ added.0 ∷ []) no_files in
     below_refused (subst (λ own. IsBelowRefused sources expansion version c.args.config.now.os first_numbers true own e) known.0 (refused n first_numbers true (record {
+      clean = subst (λ key. is_clean key ≡ true) (sym known.0) c.in_ok-source.ensures.clean;
       none = no_modules;
       alone = λ is. subst (IsOwnAlone sources expansion version 0 source.key.now) (sym whole) (read_alone sources expansion version 0 (view source) c.new-numerator.result gone added.0 known.1 read);
       numbered = λ is. subst (λ fs. AreNumbered first_numbers fs gone) (sym whole) (numbered_more {files = []} added.0 numbered_none (subst (λ n. AreInOrder n gone added.0.ast.items.items) c.new-numerator.ensures read.numbered));

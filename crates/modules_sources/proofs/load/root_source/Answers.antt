@@ -12,3 +12,6 @@ returns-then-not-is_clean-clause-missing c = record { missing = inl (sym c.is_cl
 
 pub returns-in-None-clause-missing : goal.returns-in-None-clause-missing
 returns-in-None-clause-missing c = record { missing = inr (sym (ap (option_map (λ source. (source.key.now, source.text.now))) (sym c.in-None.is) ∙ c.file_at.ensures)); told = refl }
+
+pub returns-in-Some-clause-clean : goal.returns-in-Some-clause-clean
+returns-in-Some-clause-clean c = sym c.is_clean.ensures ∙ c.if-not-is_clean.false

@@ -3,6 +3,7 @@ use Rattle.std.proofs.Common.{true}
 use Rattle.modules_sources.specs.Loaded.{AreLoaded, first_numbers}
 use Rattle.just_modules.proofs.Refusing.{refused_by_either}
 use Rattle.just_modules.proofs.ByName.{all_by_name, fresh_of}
+use Rattle.just_modules.proofs.Made.{made}
 use Rattle.just_modules.proofs.Keeping.{filled_whole, kept_both, kept_gives, ok_holds}
 use Rattle.just_modules.proofs.compiler.Compiler.compile.Goals as goal
 
@@ -31,3 +32,12 @@ returns-clause-refused g c =
     let expansion = g.E.Expander.expansion c.args.expander.now in
     let version = c.args.config.now.version in
     refused_by_either sources expansion version c.args.config.now.os c.args.config.now.unstable first_numbers true c.args.root.now c.load_root-loaded.result c.settled.result c.load_root-loaded.ensures.loaded c.load_root-loaded.ensures.refused c.settled.ensures.refused c.settled.ensures.unsettled
+
+pub returns-clause-made : goal.returns-clause-made
+returns-clause-made g c = kept_gives c.settled.result c.settled.ensures.filled (λ compilation h w stands.
+    let sources = c.args.sources.now in
+    let expansion = g.E.Expander.expansion c.args.expander.now in
+    let version = c.args.config.now.version in
+    let os = c.args.config.now.os in
+    let loaded = ok_holds (AreLoaded sources expansion version os first_numbers true c.args.root.now) c.load_root-loaded.result h.0 h.1 c.load_root-loaded.ensures.loaded in
+    made sources expansion version os c.args.config.now.unstable first_numbers c.args.root.now h.0 compilation loaded h.2 w stands)

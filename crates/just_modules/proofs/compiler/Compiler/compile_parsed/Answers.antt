@@ -7,6 +7,7 @@ use Rattle.modules_sources.specs.Loaded.{AreLoaded, IsRootRead, first_numbers}
 use Rattle.just_modules.specs.Refused.{IsRefused}
 use Rattle.just_modules.proofs.Refusing.{refused_by_either, refused_under}
 use Rattle.just_modules.proofs.ByName.{all_by_name, fresh_of}
+use Rattle.just_modules.proofs.Made.{made}
 use Rattle.just_modules.proofs.Keeping.{filled_whole, kept_both, kept_gives, ok_holds, refusal_gives}
 use Rattle.just_modules.proofs.compiler.Compiler.compile_parsed.Goals as goal
 
@@ -45,3 +46,13 @@ returns-clause-refused g c =
     refused_under (λ start is_read. is_read ≡ true → IsRootRead sources expansion version start root c.args.parsed) (λ start is_read. IsRefused os c.args.config.now.unstable sources expansion version start is_read root) c.settled.result (λ start is_read read.
     refused_by_either sources expansion version os c.args.config.now.unstable start is_read root c.load_modules-loaded.result c.settled.result (kept_gives c.load_modules-loaded.result c.load_modules-loaded.ensures.loaded (λ loaded are. are start is_read read))
     (refusal_gives c.load_modules-loaded.result c.load_modules-loaded.ensures.refused (λ e refused n. refused n start is_read read)) c.settled.ensures.refused c.settled.ensures.unsettled)
+
+pub returns-clause-made : goal.returns-clause-made
+returns-clause-made g c = kept_gives c.settled.result c.settled.ensures.filled (λ compilation h start read w stands.
+    let sources = c.args.sources.now in
+    let expansion = g.E.Expander.expansion c.args.expander.now in
+    let version = c.args.config.now.version in
+    let os = c.args.config.now.os in
+    let loaded = ok_holds (λ (loaded : Compilation). (start : Numbers) (is_read : Bool) → (is_read ≡ true → IsRootRead sources expansion version start c.args.root.now c.args.parsed) → AreLoaded sources expansion version os start is_read c.args.root.now loaded)
+    c.load_modules-loaded.result h.0 h.1 c.load_modules-loaded.ensures.loaded in
+    made sources expansion version os c.args.config.now.unstable start c.args.root.now h.0 compilation (loaded start true (λ e. read)) h.2 w stands)

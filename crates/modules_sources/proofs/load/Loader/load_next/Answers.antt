@@ -1,9 +1,12 @@
 -- The next module is loaded, if there is one.
-use Rattle.std.proofs.Common.{◌++◌, length, map, ap, subst, ◌∙◌}
+use Rattle.std.proofs.Common.{◌++◌, ◌∷◌, [], length, map, ap, subst, ◌∙◌}
 use Rattle.std.specs.Prelude.{option_to_list}
-use Rattle.modules_sources.specs.Loaded.{AllFollowedUp, AreAwaited}
+use Rattle.modules_sources.specs.Loaded.{AllFollowedUp, AreAwaited, AreLinked, AreSubmodules}
 use Rattle.modules_sources.specs.Submodules.{waiting_view}
-use Rattle.modules_sources.proofs.Entering.{none_taken, same_taken, one_taken}
+use Rattle.modules_sources.proofs.Entering.{map_last, none_taken, same_taken, one_taken}
+use Rattle.modules_sources.specs.Above.{AreQueued}
+use Rattle.modules_sources.proofs.Above.{same_queue}
+use Rattle.modules_sources.proofs.Reaching.{at_end}
 use Rattle.std.proofs.lemmas.Result.{err_from_is_err_and}
 use Rattle.modules_sources.proofs.load.Loader.load_next.Goals as goal
 
@@ -14,6 +17,12 @@ returns-in_default-clause-loaded g c = λ start is_read own so.
       root = so.root;
       numbered = so.numbered;
       modules = so.modules;
+      queued = same_queue c.args.compilation.now.modules.items (map waiting_view c.pop.new.self.pending.items) c.args.queue.now c.pop.new.self c.pop.ensures.chain c.pop.ensures.keys
+          (subst (AreQueued c.args.compilation.now.modules.items c.args.queue.now) (same_taken c.args.self.now.files.sources.now (g.E.Expander.expansion c.args.self.now.expander.now) c.args.self.now.config.now.version c.args.self.now.config.now.os start is_read c.args.compilation.now.files.items (length c.args.compilation.now.modules.items)
+          c.args.queue.now.pending.items c.pop.new.self.pending.items taken) so.queued);
+      linked = subst (AreLinked c.args.self.now.files c.args.self.now.config.now.os c.args.compilation.now.files.items c.args.compilation.now.modules.items)
+          (same_taken c.args.self.now.files.sources.now (g.E.Expander.expansion c.args.self.now.expander.now) c.args.self.now.config.now.version c.args.self.now.config.now.os start is_read c.args.compilation.now.files.items (length c.args.compilation.now.modules.items)
+          c.args.queue.now.pending.items c.pop.new.self.pending.items taken) so.linked;
       waiting = none_taken c.args.self.now.files.sources.now (g.E.Expander.expansion c.args.self.now.expander.now) c.args.self.now.config.now.version c.args.self.now.config.now.os start is_read c.args.compilation.now.files.items (length c.args.compilation.now.modules.items)
           c.args.queue.now.pending.items c.pop.new.self.pending.items taken so.waiting;
       followed = subst (AllFollowedUp c.args.self.now.files c.args.self.now.config.now.os c.args.compilation.now.files.items c.args.compilation.now.modules.items)
@@ -28,6 +37,9 @@ returns-clause-loaded g c = λ start is_read own so.
       root = so.root;
       numbered = so.numbered;
       modules = so.modules;
+      queued = same_queue c.args.compilation.now.modules.items (map waiting_view (c.pop.new.self.pending.items ++ c.in-Some.next ∷ [])) c.args.queue.now c.pop.new.self c.pop.ensures.chain c.pop.ensures.keys
+          (subst (λ ps. AreQueued c.args.compilation.now.modules.items c.args.queue.now (map waiting_view ps)) taken so.queued);
+      linked = subst (λ ps. AreLinked c.args.self.now.files c.args.self.now.config.now.os c.args.compilation.now.files.items c.args.compilation.now.modules.items (map waiting_view ps)) taken so.linked;
       waiting = subst (λ ps. AreAwaited c.args.self.now.files.sources.now c.args.self.now.config.now.os c.args.compilation.now.files.items (length c.args.compilation.now.modules.items) (map waiting_view ps)) taken so.waiting;
       followed = subst (λ ps. AllFollowedUp c.args.self.now.files c.args.self.now.config.now.os c.args.compilation.now.files.items c.args.compilation.now.modules.items (map waiting_view ps)) taken so.followed;
     })
@@ -50,14 +62,18 @@ returns-in_err-load_module-clause-refused g c =
     record {
       compilation = old;
       numbers = c.args.numerator.now;
-      pending = pending;
+      queue = c.args.queue.now;
       loaded = so;
       next = waiting_view next;
       awaited = w.1;
+      submodule = subst (AreSubmodules c.args.self.now.files os old.files.items old.modules.items) (ap (map waiting_view) taken ∙ map_last sources (g.E.Expander.expansion c.args.self.now.expander.now) c.args.self.now.config.now.version os start is_read left next) so.linked.submodules
+          (length (map waiting_view left)) (waiting_view next) (at_end (map waiting_view left) (waiting_view next));
       refused = c.in_err-load_module.ensures.refused n start is_read own (record {
         root = so.root;
         numbered = so.numbered;
         modules = so.modules;
+        queued = same_queue old.modules.items (map waiting_view (left ++ next ∷ [])) c.args.queue.now c.pop.new.self c.pop.ensures.chain c.pop.ensures.keys (subst (λ ps. AreQueued old.modules.items c.args.queue.now (map waiting_view ps)) taken so.queued);
+        linked = subst (λ ps. AreLinked c.args.self.now.files os old.files.items old.modules.items (map waiting_view ps)) taken so.linked;
         waiting = subst (λ ps. AreAwaited sources os old.files.items (length old.modules.items) (map waiting_view ps)) taken so.waiting;
         followed = subst (λ ps. AllFollowedUp c.args.self.now.files os old.files.items old.modules.items (map waiting_view ps)) taken so.followed;
       });

@@ -1,0 +1,20 @@
+-- What is compiled, by the worlds that a call stands for.
+use Rattle.std.specs.Prelude.{Bool, List, ℕ, map}
+use Rattle.std.specs.BTreeMap.{BTreeMap}
+use Rattle.std.specs.declared.string.String.{String}
+use Rattle.just_text.specs.declared.os.Os.{Os}
+use Rattle.parse_expressions.specs.Literals.{Expansion}
+use Rattle.semver.specs.declared.Version.{Version}
+use Rattle.modules_compilation.specs.declared.compilation.Compilation.{Compilation}
+use Rattle.meaning_worlds.specs.Given.{World}
+use Rattle.meaning_worlds.specs.Standing.{StandsFor}
+use Rattle.meaning_worlds.specs.Compiled.{IsCompiled}
+use Rattle.meaning_files.specs.Views.{file_view, given_of, node_view}
+
+-- this is so in each world that a call stands for which compiles the file at the key `root` of these sources
+abbrev pub InEachWorld : {Y Z : Type 0} → Os → Bool → BTreeMap (String Y) (String Z) → Expansion → Version → List ℕ → (World → Type 0) → Type 0
+InEachWorld os unstable sources expansion version root IsSo = (w : World) → StandsFor (given_of sources os unstable expansion version root) w → IsSo w
+
+-- the compilation is one of the world's modules
+abbrev pub IsCompilationOf : Compilation → World → Type 0
+IsCompilationOf compilation w = IsCompiled w (map file_view compilation.files.items) (map node_view compilation.modules.items)

@@ -1,0 +1,12 @@
+pub mod Lists
+pub mod Items
+pub mod Standing
+pub mod Defined
+pub mod Spaces
+pub mod KeptDefinitions
+pub mod Tests
+pub mod Single
+pub mod Sorting
+pub mod Listed
+pub mod Inner
+pub mod Twice

@@ -1,0 +1,9 @@
+pub mod Imports
+pub mod Lists
+pub mod Followed
+pub mod Depths
+pub mod Rounds
+pub mod Lines
+pub mod Faults
+pub mod Refusals
+pub mod Loaded

@@ -1,0 +1,35 @@
+-- Laws of modules that are loaded.
+use Rattle.std.specs.Prelude.{Bool, true}
+use Rattle.std.specs.BTreeMap.{BTreeMap}
+use Rattle.std.specs.declared.string.String.{String}
+use Rattle.just_text.specs.Numbers.{Numbers}
+use Rattle.just_text.specs.declared.os.Os.{Os}
+use Rattle.parse_expressions.specs.Literals.{Expansion}
+use Rattle.semver.specs.declared.Version.{Version}
+use Rattle.modules_compilation.specs.declared.compilation.Compilation.{Compilation}
+use Rattle.modules_sources.specs.Loaded.{AreLoaded}
+use Rattle.meaning_worlds.specs.Given.{Text, World}
+use Rattle.meaning_worlds.specs.Sources.{AreSaid}
+use Rattle.meaning_worlds.specs.Standing.{StandsFor}
+use Rattle.meaning_files.specs.Views.{given_of}
+use Rattle.meaning_modules.specs.Modules.{AreModules}
+
+module _ {Y Z : Type 0} (sources : BTreeMap (String Y) (String Z)) where
+  -- a justfile is loaded, of which the root was read as well, and the world is one that its sources stand for
+  pub record IsLoaded (w : World) (compilation : Compilation) : Type 0 where
+    pub os : Os
+    pub unstable : Bool
+    pub expansion : Expansion
+    pub version : Version
+    pub root : Text
+    pub start : Numbers
+    pub stands : StandsFor (given_of sources os unstable expansion version root) w
+    pub are : AreLoaded sources expansion version os start true root compilation
+
+  -- the modules that are loaded are those of the world
+  abbrev pub LoadedAreModules : Type 0
+  LoadedAreModules = (w : World) (compilation : Compilation) → IsLoaded w compilation → AreModules w compilation.files.items compilation.modules.items
+
+  -- and each file that is reached says something
+  abbrev pub LoadedAreSaid : Type 0
+  LoadedAreSaid = (w : World) (compilation : Compilation) → IsLoaded w compilation → AreSaid w

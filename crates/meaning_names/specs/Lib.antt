@@ -1,0 +1,3 @@
+pub mod Names
+pub mod Modules
+pub mod Targets
