@@ -36,6 +36,10 @@ pub kept_gives : {T E : Type 0} {P Q : T → Type 0} (r : Result T E) → IfOk r
 kept_gives (Ok x) p f = f x p
 kept_gives (Err e) p f = tt
 
+pub kept_says : {T E S : Type 0} {P Q : T → Type 0} (r : Result T E) → IfOk r P → IfOk r Q → ((x : T) → P x → Q x → S) → OnOk r S
+kept_says (Ok x) p q f = f x p q
+kept_says (Err e) p q f = tt
+
 pub kept_clear : {T E P : Type 0} {Q R : T → Type 0} (r : Result T E) → OnOk r P → IfOk r Q → ((x : T) → P → Q x → R x) → IfOk r R
 kept_clear (Ok x) p q f = f x p q
 kept_clear (Err e) p q f = tt

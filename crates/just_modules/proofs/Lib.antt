@@ -20,3 +20,8 @@ pub mod ModuleFiles
 pub mod ModuleRules
 pub mod ModuleSettings
 pub mod PartLists
+pub mod InWorld
+pub mod Unsettled
+pub mod Clear
+pub mod LoadingRefused
+pub mod Compiling

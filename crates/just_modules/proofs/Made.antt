@@ -21,30 +21,19 @@ use Rattle.meaning_worlds.specs.Given.{Text, World}
 use Rattle.meaning_worlds.specs.Standing.{StandsFor}
 use Rattle.meaning_worlds.specs.Compiled.{HasItem, IsCompiled}
 use Rattle.meaning_files.specs.Views.{file_view, given_of, name_text, node_view}
-use Rattle.meaning_files.proofs.Loaded.{loaded_are_files}
-use Rattle.meaning_submodules.proofs.Files.{found_are_submodules}
 use Rattle.meaning_definitions.specs.Laws.{AreChildren}
 use Rattle.meaning_definitions.proofs.Inner.{submodules_are_meant}
 use Rattle.meaning_definitions.proofs.Listed.{lists_are_meant}
-use Rattle.meaning_modules.specs.Laws.{IsLoaded}
-use Rattle.meaning_modules.specs.Modules.{AreModules}
-use Rattle.meaning_modules.proofs.Inner.{inner_modules, own_items}
-use Rattle.meaning_modules.proofs.Loaded.{loaded_are_modules}
 use Rattle.meaning_modules.proofs.Numbers.{bindings_rise, recipes_rise}
 use Rattle.meaning_modules.proofs.Ranges.{mapped}
 use Rattle.meaning_compiled.specs.Filled.{IsFilled as IsFilledOf}
 use Rattle.meaning_compiled.proofs.Compiled.{filled_are_compiled}
 use Rattle.just_modules.specs.Keeping.{AreFilled, range_of, truths_in}
 use Rattle.just_modules.specs.Settings.{allowed_by}
+use Rattle.just_modules.proofs.InWorld.{modules, node_apart, node_found}
 
 module _ {Y Z : Type 0} (sources : BTreeMap (String Y) (String Z)) (expansion : Expansion) (version : Version) (os : Os) (unstable : Bool) (start : Numbers) (root : Text) (loaded compilation : Compilation)
     (are : AreLoaded sources expansion version os start true root loaded) (filled : AreFilled os unstable loaded compilation) (w : World) (stands : StandsFor (given_of sources os unstable expansion version root) w) where
-  is_loaded : IsLoaded sources w loaded
-  is_loaded = record { os = os; unstable = unstable; expansion = expansion; version = version; root = root; start = start; stands = stands; are = are }
-
-  modules : AreModules w loaded.files.items loaded.modules.items
-  modules = loaded_are_modules sources (loaded_are_files sources) (found_are_submodules sources) w loaded is_loaded
-
   -- the submodules of a module are those whose parent it is, by their names
   children : (k : ℕ) (node : ModuleNode) → slice_get loaded.modules.items k ≡ Some node → AreChildren w loaded.files.items loaded.modules.items k node
   children k node e =
@@ -55,7 +44,7 @@ module _ {Y Z : Type 0} (sources : BTreeMap (String Y) (String Z)) (expansion : 
             let t = inner.only at.0 n at.1 in
             ap (λ m. m.parent) (same_Some submodule t.0 (sym there ∙ t.1)) ∙ t.2;
         named = λ n submodule place file m at has.
-            let item = (modules.each n submodule at.found).item in
+            let item = ((modules sources expansion version os unstable start root loaded are w stands).each n submodule at.found).item in
             let c = place_of node.submodules.items n at.listed in
             let t = inner.only c.0 n c.1 in
             let parent = ap (λ x. x.parent) (same_Some submodule t.0 (sym at.found ∙ t.1)) ∙ t.2 in
@@ -84,16 +73,9 @@ module _ {Y Z : Type 0} (sources : BTreeMap (String Y) (String Z)) (expansion : 
         definitions = keeps.definitions;
         kept = t.2.kept;
         settled = record {
-          found = record {
-            same_os = stands.same_os;
-            agrees = record {
-              own_files = (modules.each k node e).own_files;
-              inner = inner_modules sources (loaded_are_files sources) (found_are_submodules sources) w loaded is_loaded k node e;
-            };
-            are = keeps.are.each;
-          };
+          found = node_found sources expansion version os unstable start root loaded are w stands k node e keeps.definitions keeps.are;
           order = keeps.are.order;
-          apart = λ i j a b lt e' f' one other. keeps.are.apart (own_items sources (loaded_are_files sources) (found_are_submodules sources) w loaded is_loaded k node e) i j a b lt e' f';
+          apart = λ i j a b lt at there one other. node_apart sources expansion version os unstable start root loaded are w stands k node e keeps.definitions keeps.are i j a b lt at there;
           allowed = allowed_by (truths_in os unstable loaded.files.items (range_of node));
           single = keeps.keeps.clear.single;
           keeps = keeps.keeps.are;
@@ -105,7 +87,7 @@ module _ {Y Z : Type 0} (sources : BTreeMap (String Y) (String Z)) (expansion : 
   pub made : IsCompiled w (map file_view compilation.files.items) (map node_view compilation.modules.items)
   made = subst (λ fs. IsCompiled w (map file_view fs) (map node_view compilation.modules.items)) (sym filled.files)
       (filled_are_compiled lists_are_meant submodules_are_meant w os loaded.files.items loaded.modules.items compilation.modules.items (record {
-        modules = modules;
+        modules = modules sources expansion version os unstable start root loaded are w stands;
         children = children;
         within = λ k node e. (are.modules k node e).within;
         apart = are.linked.apart;

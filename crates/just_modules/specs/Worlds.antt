@@ -1,14 +1,17 @@
 -- What is compiled, by the worlds that a call stands for.
-use Rattle.std.specs.Prelude.{Bool, List, ℕ, map}
+use Rattle.std.specs.Prelude.{◌≡◌, Bool, true, List, ℕ, map}
 use Rattle.std.specs.BTreeMap.{BTreeMap}
 use Rattle.std.specs.declared.string.String.{String}
 use Rattle.just_text.specs.declared.os.Os.{Os}
 use Rattle.parse_expressions.specs.Literals.{Expansion}
 use Rattle.semver.specs.declared.Version.{Version}
 use Rattle.modules_compilation.specs.declared.compilation.Compilation.{Compilation}
-use Rattle.meaning_worlds.specs.Given.{World}
+use Rattle.modules_compilation.specs.declared.error.Error.{Error}
+use Rattle.meaning_worlds.specs.Given.{Overrides, World}
 use Rattle.meaning_worlds.specs.Standing.{StandsFor}
 use Rattle.meaning_worlds.specs.Compiled.{IsCompiled}
+use Rattle.meaning_rules.specs.Rules.{Broken, Rule, is_of_sources}
+use Rattle.meaning_rules.specs.Told.{IsTold}
 use Rattle.meaning_files.specs.Views.{file_view, given_of, node_view}
 
 -- this is so in each world that a call stands for which compiles the file at the key `root` of these sources
@@ -18,3 +21,11 @@ InEachWorld os unstable sources expansion version root IsSo = (w : World) → St
 -- the compilation is one of the world's modules
 abbrev pub IsCompilationOf : Compilation → World → Type 0
 IsCompilationOf compilation w = IsCompiled w (map file_view compilation.files.items) (map node_view compilation.modules.items)
+
+-- the world breaks no rule on files, modules and what they define, whatever overrides there are
+abbrev pub BreaksNone : World → Type 0
+BreaksNone w = (o : Overrides) (rule : Rule) → is_of_sources rule ≡ true → Broken w o rule → ⊥
+
+-- it breaks a rule that the refusal names, unless memory or numbers ran out
+abbrev pub BreaksTold : Error → World → Type 0
+BreaksTold error w = (o : Overrides) → IsTold (Broken w o) error

@@ -14,13 +14,14 @@ ghost use Rattle.modules_compilation.specs.declared.error.Error.TheVariants as r
 ghost use Rattle.resolve_recipes.specs.Leading.{target_in};
 ghost use Rattle.just_modules.specs.Aliases.{AllAliasesLead, AllLead, IsAliasUnknown, IsUnknownAmong, IsUnknownAt, Leads, LeadsAt};
 ghost use Rattle.just_modules.specs.Exports as spec;
-ghost use Rattle.just_modules.specs.Worlds.{InEachWorld, IsCompilationOf};
+ghost use Rattle.just_modules.specs.Worlds.{BreaksNone, BreaksTold, InEachWorld, IsCompilationOf};
 ghost use Rattle.just_modules.specs.Refused.{IsUnsettled, IsRefused as IsCompileRefused};
 ghost use Rattle.just_modules.specs.Keeping.{files_of, AreClear, AreFilled, AreKeptOf, AreRefused, AreRefusedIn, AreWhole, IsChangedAt, IsFilled, IsFirstRefused, IsRefused, IsSettled, Keeps, OrMemory};
 
 use crate::rules::check_files;
 use crate::truths::Truths;
 use just_host::Config;
+use justfile_syntax::file_law::file_law;
 use justfile_syntax::{Alias, Expander, Item, Namepath};
 use modules_compilation::{Compilation, Error, File, ModuleNode, Place, Target};
 use modules_definitions::{Allowed, Definition, FileRange, Kind, definitions, kept, put_all};
@@ -398,11 +399,14 @@ impl Compiler {
     ) -> Result<Compilation<'src>, Error<'src>>
         ensures filled { IfOk result (IsSettled config.now.os config.now.unstable sources.now (E.expansion expander.now) config.now.version first_numbers true root.now) }
         ensures made { IfOk result (λ compilation. InEachWorld config.now.os config.now.unstable sources.now (E.expansion expander.now) config.now.version root.now (IsCompilationOf compilation)) }
+        ensures clear { OnOk result (InEachWorld config.now.os config.now.unstable sources.now (E.expansion expander.now) config.now.version root.now BreaksNone) }
+        ensures broken { IfErr result (λ error. InEachWorld config.now.os config.now.unstable sources.now (E.expansion expander.now) config.now.version root.now (BreaksTold error)) }
         ensures by_name { IfOk result AllByName }
         ensures aliases { IfOk result AllAliasesLead }
         ensures whole { IfOk result (AreWhole config.now.os config.now.unstable) }
         ensures refused { IfErr result (λ error. error ≢ refusals.OutOfMemory → IsCompileRefused config.now.os config.now.unstable sources.now (E.expansion expander.now) config.now.version first_numbers true root.now error) }
     {
+        file_law();
         let loaded = load_root(alloc, config, expander, sources, root);
         settled(alloc, config, loaded)
     }
@@ -418,11 +422,14 @@ impl Compiler {
     ) -> Result<Compilation<'src>, Error<'src>>
         ensures filled { IfOk result (λ compilation. (start : Numbers) (is_read : Bool) → (is_read ≡ true → IsRootRead sources.now (E.expansion expander.now) config.now.version start root.now parsed.entry) → IsSettled config.now.os config.now.unstable sources.now (E.expansion expander.now) config.now.version start is_read root.now compilation) }
         ensures made { IfOk result (λ compilation. (start : Numbers) → IsRootRead sources.now (E.expansion expander.now) config.now.version start root.now parsed.entry → InEachWorld config.now.os config.now.unstable sources.now (E.expansion expander.now) config.now.version root.now (IsCompilationOf compilation)) }
+        ensures clear { OnOk result ((start : Numbers) → IsRootRead sources.now (E.expansion expander.now) config.now.version start root.now parsed.entry → InEachWorld config.now.os config.now.unstable sources.now (E.expansion expander.now) config.now.version root.now BreaksNone) }
+        ensures broken { IfErr result (λ error. (start : Numbers) → IsRootRead sources.now (E.expansion expander.now) config.now.version start root.now parsed.entry → InEachWorld config.now.os config.now.unstable sources.now (E.expansion expander.now) config.now.version root.now (BreaksTold error)) }
         ensures by_name { IfOk result AllByName }
         ensures aliases { IfOk result AllAliasesLead }
         ensures whole { IfOk result (AreWhole config.now.os config.now.unstable) }
         ensures refused { IfErr result (λ error. error ≢ refusals.OutOfMemory → (start : Numbers) (is_read : Bool) → (is_read ≡ true → IsRootRead sources.now (E.expansion expander.now) config.now.version start root.now parsed.entry) → IsCompileRefused config.now.os config.now.unstable sources.now (E.expansion expander.now) config.now.version start is_read root.now error) }
     {
+        file_law();
         let loaded = load_modules(alloc, config, expander, sources, root, parsed);
         settled(alloc, config, loaded)
     }

@@ -1,10 +1,10 @@
 -- The submodules of a module that is loaded are those that its files have.
-use Rattle.std.proofs.Common.{◌≡◌, sym, ◌∙◌, ap, subst, inl, inr, ◌⊎◌, ◌<◌, ◌≤◌, ◌+◌, ◌-◌, ◌∷◌, [], ℕ, zero, suc, List, Option, Some, None, false, refl, arith, length, take, map}
+use Rattle.std.proofs.Common.{◌≡◌, sym, ◌∙◌, ap, subst, inl, inr, ◌<◌, ◌≤◌, ◌+◌, ◌-◌, [], ℕ, zero, suc, List, Option, Some, None, false, refl, arith, length, take}
 use Rattle.std.specs.Prelude.{slice_get, option_map, Contains}
 use Rattle.std.specs.BTreeMap.{BTreeMap}
 use Rattle.std.specs.declared.string.String.{String}
 use Rattle.std.proofs.lemmas.Bool.Decides.{eqb_tells, leb_tells}
-use Rattle.std.proofs.lemmas.Option.{none-some, same_Some, slice_get_within}
+use Rattle.std.proofs.lemmas.Option.{none-some, same_Some}
 use Rattle.tree_items.specs.Files.{ItemShape, is_blank, item_shapes, module_item}
 use Rattle.tree_items.specs.Items.{ModuleShape}
 use Rattle.modules_compilation.specs.Places.{items_of}
@@ -15,15 +15,15 @@ use Rattle.modules_compilation.specs.declared.place.Place.{Place}
 use Rattle.std.specs.Option.{option_and_then}
 use Rattle.just_text.specs.declared.name.Name.{Name}
 use Rattle.modules_definitions.specs.Defining.{named_at, submodule_at}
-use Rattle.modules_definitions.specs.Gathering.{HaveOwnItems, IsItemOf}
+use Rattle.modules_definitions.specs.Gathering.{HaveOwnItems}
 use Rattle.modules_sources.specs.Items.{key_of}
-use Rattle.modules_sources.specs.Loaded.{files_of, IsKnown, IsLoadedFor}
+use Rattle.modules_sources.specs.Loaded.{IsKnown}
 use Rattle.modules_sources.specs.Submodules.{AreFound, Found, waiting}
 use Rattle.meaning_worlds.specs.Given.{Text, World, filled}
 use Rattle.meaning_worlds.specs.Sources.{HasModule, MayMean}
 use Rattle.meaning_worlds.proofs.Places.{contains_at, place_of}
 use Rattle.meaning_files.specs.Laws.{LoadedAreFiles}
-use Rattle.meaning_submodules.specs.Submodules.{FoundAreSubmodules, IsFoundFor, IsFoundIn}
+use Rattle.meaning_submodules.specs.Submodules.{FoundAreSubmodules}
 use Rattle.meaning_submodules.proofs.Ranks.{rank_of}
 use Rattle.meaning_definitions.specs.Nodes.{AreInnerModules, HasModuleAt, IsInnerAt, IsOfModule}
 use Rattle.meaning_definitions.proofs.Standing.{filled_less}

@@ -8,7 +8,7 @@ use Rattle.std.specs.declared.cmp.Ordering.TheVariants.{Less}
 use Rattle.std.proofs.lemmas.List.{append-nil}
 use Rattle.just_text.specs.Numbers.{Numbers}
 use Rattle.parse_recipes.specs.Numbering.{count_from}
-use Rattle.justfile_syntax.specs.Numbered.{AreInOrder, bindings_in, recipes_in}
+use Rattle.justfile_syntax.specs.Numbered.{bindings_in, recipes_in}
 use Rattle.modules_compilation.specs.declared.module_node.File.{File}
 use Rattle.modules_sources.specs.ReadingOrder.{AreNumbered, numbered_more, numbered_none}
 use Rattle.meaning_files.specs.Views.{file_view}

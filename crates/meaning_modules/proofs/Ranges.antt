@@ -1,6 +1,6 @@
 -- The files of a module among all files.
-use Rattle.std.proofs.Common.{◌≡◌, sym, ◌∙◌, ap, subst, ◌<◌, ◌≤◌, ◌+◌, ◌-◌, ◌∷◌, [], ℕ, zero, suc, List, Some, refl, arith, length, take, drop, map}
-use Rattle.std.specs.Prelude.{slice_get, Contains}
+use Rattle.std.proofs.Common.{◌≡◌, sym, ◌∙◌, ap, ◌<◌, ◌≤◌, ◌+◌, ◌-◌, ◌∷◌, [], ℕ, zero, suc, List, Some, refl, arith, length, take, drop, map}
+use Rattle.std.specs.Prelude.{slice_get}
 use Rattle.std.proofs.lemmas.Option.{none-some, same_Some}
 use Rattle.modules_compilation.specs.declared.module_node.File.{File}
 use Rattle.meaning_worlds.specs.Given.{Text}
@@ -18,7 +18,8 @@ take_before (suc n) [] i a e = absurd (none-some a e)
 take_before (suc n) (x ∷ xs) zero a e = omega arith
 take_before (suc n) (x ∷ xs) (suc i) a e = let lt = take_before n xs i a e in omega (arith, lt)
 
-drop_at : {A : Type 0} (n : ℕ) (xs : List A) (i : ℕ) → slice_get (drop n xs) i ≡ slice_get xs (n + i)
+-- what stands behind the first so many
+pub drop_at : {A : Type 0} (n : ℕ) (xs : List A) (i : ℕ) → slice_get (drop n xs) i ≡ slice_get xs (n + i)
 drop_at zero xs i = let e : i ≡ 0 + i = omega arith in ap (slice_get xs) e
 drop_at (suc n) [] i = refl
 drop_at (suc n) (x ∷ xs) i = let e : suc (n + i) ≡ suc n + i = omega arith in drop_at n xs i ∙ ap (slice_get (x ∷ xs)) e

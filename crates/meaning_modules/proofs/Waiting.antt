@@ -1,7 +1,6 @@
 -- Submodules of files that wait, each by its file.
-use Rattle.std.proofs.Common.{◌≡◌, sym, ◌∙◌, ap, subst, inl, inr, ◌⊎◌, ◌<◌, ◌+◌, ◌++◌, ◌∷◌, [], ℕ, zero, suc, List, Some, refl, arith, length, map}
+use Rattle.std.proofs.Common.{◌≡◌, sym, ap, subst, inl, inr, ◌⊎◌, ◌<◌, ◌+◌, ◌++◌, ◌∷◌, [], ℕ, zero, suc, List, Some, refl, arith, length, map}
 use Rattle.std.specs.Prelude.{slice_get}
-use Rattle.std.proofs.lemmas.Option.{none-some, same_Some}
 use Rattle.std.proofs.lemmas.Bool.Decides.{eqb_tells}
 use Rattle.just_text.specs.declared.os.Os.{Os}
 use Rattle.modules_compilation.specs.declared.module_node.File.{File as LoadedFile}

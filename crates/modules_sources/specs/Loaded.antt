@@ -234,7 +234,7 @@ module _ {Y Z : Type 0} (sources : BTreeMap (String Y) (String Z)) where
 
       -- the module of a root that was read is refused, or one below it
       pub data IsBelowRefused (own : List ℕ) (refusal : Error) : Type 0 where
-        refused_root : (lookup : Files) → IsLookupOf lookup → (is_read ≡ true → (text : List ℕ) × IsLoadRefused lookup os [] None 0 (own, text) refusal) → IsBelowRefused own refusal
+        refused_root : (lookup : Files) → IsLookupOf lookup → (is_read ≡ true → (text : List ℕ) × IsSource (own, text) × IsLoadRefused lookup os [] None 0 (own, text) refusal) → IsBelowRefused own refusal
         refused_below : (lookup : Files) → IsLookupOf lookup → IsNextRefused lookup own refusal → IsBelowRefused own refusal
 
       -- the root's module and all below it are loaded

@@ -1,5 +1,7 @@
 -- The root's module is loaded.
 use Rattle.std.proofs.Common.{◌≡◌, ◌-◌, ◌++◌, ◌∷◌, [], length, map, ap, sym, subst, ◌∙◌, arith}
+use Rattle.std.specs.Prelude.{option_map}
+use Rattle.modules_files.specs.Found.{source_of}
 use Rattle.modules_sources.specs.Nodes.{IsNodeOf}
 use Rattle.modules_sources.specs.ReadingOrder.{AreFilesOf, AreNumbered, refused_files}
 use Rattle.modules_sources.specs.Submodules.{AreWaiting, waiting_view, IsRefusedAmong}
@@ -37,7 +39,7 @@ returns-in_err-load_files-clause-refused g c =
     let p = err_from_is_err_and c.from_residual.result c.from_residual.ensures.1 in
     rw (p.1, p.2) (λ n start is_read no_parent no_chain is_chain begun read.
     let alone = begun.alone read in
-    (alone.of.text, files_refused (refused_files (c.in_err-load_files.ensures.refused n (omega arith) alone))))
+    (alone.of.text, ap (option_map (λ text. (c.args.root.now.source.key.now, text))) (ap (source_of c.args.self.now.files.sources.now) (sym alone.key) ∙ alone.of.there), files_refused (refused_files (c.in_err-load_files.ensures.refused n (omega arith) alone))))
 
 pub returns-clause-refused : goal.returns-clause-refused
 returns-clause-refused g c = if_err c.add_module.result c.add_module.ensures.refused (λ e refused n start is_read no_parent no_chain is_chain begun read.
@@ -45,6 +47,7 @@ returns-clause-refused g c = if_err c.add_module.result c.add_module.ensures.ref
     let now = c.load_files.new.files.items in
     let r = refused n in (
       alone.of.text,
+      ap (option_map (λ text. (c.args.root.now.source.key.now, text))) (ap (source_of c.args.self.now.files.sources.now) (sym alone.key) ∙ alone.of.there),
       submodule_refused now r.0 (c.in_ok-load_files.ensures.own_files (omega arith) alone)
           (root_next_above c.args.root.now c.args.queue.now r.0 no_parent no_chain (λ fresh. subst (λ ms. AreKeysOf r.0 (entered c.args.queue.now.chain.items c.args.root.now (length ms))) begun.none (r.1 is_chain fresh)))
           (subst (λ ms. IsRefusedAmong c.args.self.now.files c.args.self.now.config.now.os now r.0 (length ms) 0 (length now - 0) e) begun.none r.2),
