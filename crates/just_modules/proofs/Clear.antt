@@ -42,6 +42,7 @@ use Rattle.meaning_submodules.proofs.Files.{found_are_submodules}
 use Rattle.meaning_definitions.proofs.Twice.{single_is_not_twice}
 use Rattle.meaning_modules.proofs.Loaded.{file_at_key, HasFileAt, of_module}
 use Rattle.meaning_modules.proofs.Ranges.{in_range}
+use Rattle.meaning_modules.proofs.Said.{range_said}
 use Rattle.meaning_modules.proofs.Waiting.{waits_of}
 use Rattle.just_modules.specs.Keeping.{AreFilled, files_of, Keeps, range_of, truths_in}
 use Rattle.just_modules.specs.ModuleRules.{BreaksOwn, ExportsUnexported, is_of_items}
@@ -84,7 +85,9 @@ module _ {Y Z : Type 0} (sources : BTreeMap (String Y) (String Z)) (expansion : 
       }
 
   loaded_files : (key : Text) (r : IsReachedAt key) → AreLoadedFiles sources expansion version w r.k r.node.source.now (files_of loaded.files.items (range_of r.node))
-  loaded_files key r = record { os = os; unstable = unstable; root = root; stands = stands; own_reached = r.own; are = (are.modules r.k r.node r.there).own_files refl }
+  loaded_files key r =
+      let h = is_loaded sources expansion version os unstable start root loaded are w stands in
+      record { has = h.has; said = range_said w r.node.first_file r.node.end_file loaded.files.items h.said; own_reached = r.own; are = (are.modules r.k r.node r.there).own_files refl }
 
   file_here : (key : Text) (r : IsReachedAt key) → HasFileAt sources (loaded_are_files sources) (found_are_submodules sources) w loaded (is_loaded sources expansion version os unstable start root loaded are w stands) r.k r.node key
   file_here key r = file_at_key sources (loaded_are_files sources) (found_are_submodules sources) w loaded (is_loaded sources expansion version os unstable start root loaded are w stands) r.k r.node r.there key r.of
@@ -140,7 +143,7 @@ module _ {Y Z : Type 0} (sources : BTreeMap (String Y) (String Z)) (expansion : 
   fault_clear : FaultsSayNothing → (kind : CompileErrorKind) → IsFileFault w kind → ⊥
   fault_clear faultless kind (key, reached, refused) =
       let r = reached_at key reached in
-      loaded_are_faultless sources faultless expansion version w r.k r.node.source.now (files_of loaded.files.items (range_of r.node)) (loaded_files key r) key kind r.of refused
+      loaded_are_faultless sources faultless os unstable expansion version root w stands r.k r.node.source.now (files_of loaded.files.items (range_of r.node)) (loaded_files key r) key kind r.of refused
 
   -- ---- what modules define
 

@@ -1,7 +1,8 @@
--- A justfile is compiled where no rule of sources is broken; where it is refused, the refusal names one that is.
-use Rattle.std.proofs.Common.{◌≡◌, inl, inr, sym, ◌∙◌, ap, subst, Bool, true, false, ℕ, List, Some, refl, arith, ◌<◌, length}
+-- A justfile is compiled where no rule of sources is broken, and names and numbers are read from what is compiled; where it is refused, the refusal names one that is.
+use Rattle.std.proofs.Common.{◌≡◌, inl, inr, sym, ◌∙◌, ap, subst, Bool, true, false, ℕ, List, Some, refl, arith, ◌<◌, ◌≤◌, length, map}
 use Rattle.std.specs.Prelude.{◌≢◌, slice_get}
 use Rattle.std.specs.BTreeMap.{BTreeMap}
+use Rattle.std.specs.List.{All}
 use Rattle.std.specs.declared.string.String.{String}
 use Rattle.std.proofs.lemmas.Bool.{false≢true}
 use Rattle.std.proofs.lemmas.Option.{same_Some, slice_get_within}
@@ -10,31 +11,41 @@ use Rattle.just_text.specs.Tokens.{lexeme}
 use Rattle.just_text.specs.declared.os.Os.{Os}
 use Rattle.tree_items.specs.Paths.{path_names}
 use Rattle.parse_expressions.specs.Literals.{Expansion}
-use Rattle.justfile_syntax.specs.Laws.{FaultsSayNothing}
+use Rattle.parse_attributed_items.specs.Held.{IsOwnItem}
+use Rattle.justfile_syntax.specs.Laws.{FaultsSayNothing, SaysAtMostOne}
 use Rattle.semver.specs.declared.Version.{Version}
+use Rattle.just_value.specs.Constants.{constant_rows}
 use Rattle.modules_compilation.specs.declared.compilation.Compilation.{Compilation}
 use Rattle.modules_compilation.specs.declared.error.Error.{Error}
 use Rattle.modules_compilation.specs.declared.error.Error.TheVariants.{OutOfMemory, Syntax, MissingRoot, MissingImport, CircularImport, MissingModule, AmbiguousModule, Redefinition, DuplicateVariable, DuplicateSet, DuplicateUnexport, ExportUnexported, UnknownAliasTarget, UnstableFeature, ListsNeeded, CacheLeftOut, AttributeConflict}
+use Rattle.modules_compilation.specs.declared.module_node.File.{File}
 use Rattle.modules_compilation.specs.declared.module_node.ModuleNode.{ModuleNode}
 use Rattle.modules_definitions.specs.Lists.{IsSameModule}
-use Rattle.modules_sources.specs.Loaded.{AreLoaded}
+use Rattle.modules_sources.specs.Loaded.{AreLoaded, first_numbers}
 use Rattle.meaning_worlds.specs.Given.{Overrides, Text, World}
 use Rattle.meaning_worlds.specs.Sources.{IsFileOf}
 use Rattle.meaning_worlds.specs.Modules.{IsModule}
+use Rattle.meaning_worlds.specs.Compiled.{FileView}
 use Rattle.meaning_worlds.specs.Standing.{StandsFor}
+use Rattle.meaning_worlds.proofs.There.{worlds_are_there}
 use Rattle.meaning_worlds.specs.Keeping.{Kind, an_alias, a_function, a_recipe, a_setting, a_submodule, a_variable, an_unexport, IsTwice}
 use Rattle.meaning_rules.specs.Rules.{Breaks, Broken, Rule, circular_import, is_of_sources, unknown_alias_target}
 use Rattle.meaning_rules.specs.Told.{IsTold, rule_of}
-use Rattle.meaning_files.specs.Views.{given_of}
+use Rattle.meaning_files.specs.Views.{file_view, given_of}
 use Rattle.meaning_files.proofs.Loaded.{loaded_are_files}
 use Rattle.meaning_submodules.proofs.Files.{found_are_submodules}
 use Rattle.meaning_modules.proofs.Loaded.{complete, of_module}
+use Rattle.meaning_modules.proofs.Numbers.{bindings_above}
 use Rattle.meaning_modules.proofs.Ranges.{there_within}
+use Rattle.meaning_modules.proofs.Said.{each_read}
+use Rattle.meaning_modules.proofs.There.{world_is_there}
 use Rattle.meaning_modules.proofs.Rounds.{no_round}
-use Rattle.meaning_names.specs.Names.{AreSingle, HasNode, IsOfWorld}
+use Rattle.meaning_names.specs.Meant.{IsMeant}
+use Rattle.meaning_names.specs.Names.{AreSingle, HasNode, IsOfWorld, views}
 use Rattle.meaning_names.proofs.Aliases.{leading_aliases_are_known, other_aliases_are_unknown}
 use Rattle.just_modules.specs.Aliases.{AllAliasesLead, IsAliasUnknown}
 use Rattle.just_modules.specs.Keeping.{AreFilled}
+use Rattle.just_modules.specs.Worlds.{HasWorld}
 use Rattle.just_modules.specs.Refused.{alias_refused, IsRefused, loading_refused, module_refused}
 use Rattle.just_modules.proofs.Clear.{breaks_none, twice_clear}
 use Rattle.just_modules.proofs.InWorld.{are_said, is_loaded, modules}
@@ -63,6 +74,21 @@ module _ {Y Z : Type 0} (sources : BTreeMap (String Y) (String Z)) (expansion : 
         let m = (modules sources expansion version os unstable start root loaded are w stands).each k b.0 b.1 in
         twice_clear sources expansion version os unstable start root loaded compilation are filled w stands kind name (b.0.source.now, (m.path, m.is), subst (λ own. IsTwice w own kind name) (ap (λ s. s.now) b.2.source) twice)
 
+    -- each item is what its attributes make of it
+    own_items : (k : ℕ) (file : File) → slice_get compilation.files.items k ≡ Some file → All (IsOwnItem w.expansion) file.ast.items.items
+    own_items k file e =
+        let r = each_read sources expansion version os start loaded.files.items loaded.modules.items are.modules are.linked.covered k file (subst (λ fs. slice_get fs k ≡ Some file) filled.files e) in
+        subst (λ x. All (IsOwnItem x) file.ast.items.items) (sym stands.same_expansion) r.1.whole.own
+
+    -- no number of a binding is less than the first one
+    numbers_above : (low : ℕ) → low ≤ start.bindings → (k : ℕ) (view : FileView) → slice_get (views w compilation) k ≡ Some view → All (λ number. low ≤ number) view.bindings
+    numbers_above low le k view e =
+        bindings_above start are.numbers loaded.files.items (are.numbered refl) low le k view (subst (λ fs. slice_get (map file_view fs) k ≡ Some view) filled.files e)
+
+    -- names and numbers are read from the compilation, where numbers begin after those of the constants
+    pub meant : length constant_rows ≤ start.bindings → IsMeant w compilation
+    meant le = record { of = of_world; single = single; options = own_items; above = numbers_above (length constant_rows) le }
+
     -- no file leads back to itself
     no_circle : (o : Overrides) (current other : Text) → Breaks w o (circular_import current other) → ⊥
     no_circle o current other (reached, inl (imports, (count, leads))) =
@@ -90,11 +116,19 @@ module _ {Y Z : Type 0} (sources : BTreeMap (String Y) (String Z)) (expansion : 
               (record { node = h.node; here = h.there; i = h.unknown.i; place = h.unknown.at; listed = h.unknown.there; there = u.there }) u.nowhere,
         )
 
+  -- there is a world that what was loaded stands for
+  pub has_world : SaysAtMostOne → FaultsSayNothing → (loaded : Compilation) → AreLoaded sources expansion version os start true root loaded → HasWorld os unstable sources expansion version root
+  has_world one faultless loaded are = world_is_there sources (loaded_are_files sources) (found_are_submodules sources) worlds_are_there one faultless os unstable expansion version root start loaded are
+
   -- a justfile that is refused is told
   pub refused_told : (w : World) → StandsFor (given_of sources os unstable expansion version root) w → (o : Overrides) (error : Error) → IsRefused os unstable sources expansion version start true root error → IsTold (Broken w o) error
   refused_told w stands o error (loading_refused h) = loading_told sources expansion version os unstable start root w stands o error h
   refused_told w stands o error (module_refused loaded are h) = unsettled_told sources expansion version os unstable start root loaded are w stands o error h
   refused_told w stands o error (alias_refused loaded filled are f h) = alias_told loaded filled are f w stands o error h
+
+-- the first numbers are those after the constants
+pub after_constants : length constant_rows ≤ first_numbers.bindings
+after_constants = omega arith
 
 -- want of memory is one of those that are told
 pub told_unless : (P : Rule → Type 0) (error : Error) → (error ≢ OutOfMemory → IsTold P error) → IsTold P error

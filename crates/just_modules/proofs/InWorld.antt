@@ -17,6 +17,7 @@ use Rattle.meaning_worlds.specs.Sources.{AreSaid}
 use Rattle.meaning_worlds.specs.Standing.{StandsFor}
 use Rattle.meaning_files.specs.Files.{AreFiles}
 use Rattle.meaning_files.specs.Views.{given_of}
+use Rattle.meaning_files.proofs.Followed.{has_sources}
 use Rattle.meaning_files.proofs.Loaded.{loaded_are_files}
 use Rattle.meaning_submodules.proofs.Files.{found_are_submodules}
 use Rattle.meaning_definitions.specs.Laws.{AreApart, IsAllowed}
@@ -25,6 +26,7 @@ use Rattle.meaning_modules.specs.Laws.{IsLoaded}
 use Rattle.meaning_modules.specs.Modules.{AreModules}
 use Rattle.meaning_modules.proofs.Inner.{inner_modules, own_items}
 use Rattle.meaning_modules.proofs.Loaded.{all_said, loaded_are_modules}
+use Rattle.meaning_modules.proofs.Said.{loaded_said}
 use Rattle.just_modules.specs.Fitting.{IsParsed}
 use Rattle.just_modules.specs.Keeping.{AreDefinitionsOf, files_of, range_of, truths_in}
 use Rattle.just_modules.specs.Settings.{allowed_by}
@@ -33,8 +35,20 @@ use Rattle.just_modules.proofs.ModuleSettings.{on_is_on}
 
 module _ {Y Z : Type 0} (sources : BTreeMap (String Y) (String Z)) (expansion : Expansion) (version : Version) (os : Os) (unstable : Bool) (start : Numbers) (root : Text) (loaded : Compilation)
     (are : AreLoaded sources expansion version os start true root loaded) (w : World) (stands : StandsFor (given_of sources os unstable expansion version root) w) where
+  -- the justfile is loaded, and where the world reaches its files, they say what the world says
   abbrev pub is_loaded : IsLoaded sources w loaded
-  is_loaded = record { os = os; unstable = unstable; expansion = expansion; version = version; root = root; start = start; stands = stands; are = are }
+  is_loaded = record {
+    os = os;
+    expansion = expansion;
+    version = version;
+    root = root;
+    start = start;
+    has = has_sources sources os unstable expansion version root w stands;
+    same_os = stands.same_os;
+    same_root = stands.same_root;
+    said = loaded_said sources expansion version os start loaded.files.items loaded.modules.items are.modules are.linked.covered unstable root w stands;
+    are = are;
+  }
 
   pub modules : AreModules w loaded.files.items loaded.modules.items
   modules = loaded_are_modules sources (loaded_are_files sources) (found_are_submodules sources) w loaded is_loaded

@@ -30,15 +30,17 @@ use Rattle.meaning_worlds.proofs.Places.{push_here}
 use Rattle.meaning_worlds.proofs.Reached.{leads_reached, own_reached}
 use Rattle.meaning_rules.specs.Rules.{Broken, Comes, by_import, by_submodule, itself as comes_itself, missing_root}
 use Rattle.meaning_rules.specs.Told.{IsTold}
-use Rattle.meaning_files.specs.Files.{IsFile}
-use Rattle.meaning_files.specs.Views.{given_of, name_text}
+use Rattle.meaning_files.specs.Files.{AreSaidWhereReached, IsFile}
+use Rattle.meaning_files.specs.Views.{given_of, HasSources, name_text}
 use Rattle.meaning_files.proofs.Faults.{round_told, unread_told}
+use Rattle.meaning_files.proofs.Followed.{followed_said, has_sources}
 use Rattle.meaning_files.proofs.Loaded.{loaded_are_files}
 use Rattle.meaning_files.proofs.Refusals.{refused_are_told}
 use Rattle.meaning_submodules.specs.Submodules.{IsFileOfWorld}
 use Rattle.meaning_submodules.proofs.Files.{found_are_submodules}
 use Rattle.meaning_submodules.proofs.Refusing.{refusals_are_told}
 use Rattle.meaning_modules.proofs.Ranges.{drop_at, there_within}
+use Rattle.meaning_modules.proofs.Said.{loaded_said}
 use Rattle.meaning_modules.proofs.Started.{AreStarted, each_here, has_file, waiting_is_module}
 
 -- imports lead further
@@ -91,6 +93,10 @@ module _ {Y Z : Type 0} (sources : BTreeMap (String Y) (String Z)) (w : World) (
 
 module _ {Y Z : Type 0} (sources : BTreeMap (String Y) (String Z)) (expansion : Expansion) (version : Version) (os : Os) (unstable : Bool) (start : Numbers) (root : Text) (w : World)
     (stands : StandsFor (given_of sources os unstable expansion version root) w) (o : Overrides) (refusal : Error) where
+  -- the world has files where the sources have texts
+  abbrev has : HasSources sources expansion w
+  has = has_sources sources os unstable expansion version root w stands
+
   root_reached : Reached w root
   root_reached = subst (Reached w) stands.same_root reached_root
 
@@ -139,15 +145,18 @@ module _ {Y Z : Type 0} (sources : BTreeMap (String Y) (String Z)) (expansion : 
           at : slice_get (drop first files) among.count ≡ Some file
           at = drop_at first files among.count ∙ there.1
 
+          said : AreSaidWhereReached w (drop first files)
+          said = followed_said sources os unstable expansion version root w stands place source.0 (length (drop first files)) (drop first files) own_files.order.imports own_files.order.followed
+
           is : IsFile w place source.0 file
-          is = (loaded_are_files sources expansion version w place source.0 (drop first files) (record { os = os; unstable = unstable; root = root; stands = stands; own_reached = reached; are = own_files })).each among.count file at
+          is = (loaded_are_files sources expansion version w place source.0 (drop first files) (record { has = has; said = said; own_reached = reached; are = own_files })).each among.count file at
 
           file_reached : Reached w file.key.now
           file_reached = leads_reached w source.0 is.of.count file.key.now reached is.of.leads
 
           of_world : IsFileOfWorld sources expansion w os lookup file.key.now file.ast.items.items
           of_world = record {
-            has = record { same_expansion = stands.same_expansion; there = stands.there };
+            has = has;
             same_os = stands.same_os;
             looks_up = looks_up;
             cooked = (own_files.order.followed.each among.count file at).whole.cooked;
@@ -182,12 +191,14 @@ module _ {Y Z : Type 0} (sources : BTreeMap (String Y) (String Z)) (expansion : 
     abbrev pub started : AreStarted sources w h.compilation.files.items h.compilation.modules.items
     started = record {
       os = os;
-      unstable = unstable;
       expansion = expansion;
       version = version;
       root = root;
       start = start;
-      stands = stands;
+      has = has;
+      same_os = stands.same_os;
+      same_root = stands.same_root;
+      said = loaded_said sources expansion version os start h.compilation.files.items h.compilation.modules.items h.loaded.modules h.loaded.linked.covered unstable root w stands;
       has_root = h.loaded.root;
       all = h.loaded.modules;
       lookup = lookup;

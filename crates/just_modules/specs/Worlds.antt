@@ -18,6 +18,10 @@ use Rattle.meaning_files.specs.Views.{file_view, given_of, node_view}
 abbrev pub InEachWorld : {Y Z : Type 0} → Os → Bool → BTreeMap (String Y) (String Z) → Expansion → Version → List ℕ → (World → Type 0) → Type 0
 InEachWorld os unstable sources expansion version root IsSo = (w : World) → StandsFor (given_of sources os unstable expansion version root) w → IsSo w
 
+-- there is a world that such a call stands for
+abbrev pub HasWorld : {Y Z : Type 0} → Os → Bool → BTreeMap (String Y) (String Z) → Expansion → Version → List ℕ → Type 0
+HasWorld os unstable sources expansion version root = (w : World) × StandsFor (given_of sources os unstable expansion version root) w
+
 -- the compilation is one of the world's modules
 abbrev pub IsCompilationOf : Compilation → World → Type 0
 IsCompilationOf compilation w = IsCompiled w (map file_view compilation.files.items) (map node_view compilation.modules.items)

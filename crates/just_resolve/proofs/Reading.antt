@@ -31,14 +31,14 @@ fault_case (Err other) one both fault more e = e
 
 module _ (resolver : VariableResolver) where
   -- the places of the first, and behind them those of the others
-  both_read : (xs ys : List Reference) (row : List ℕ) → places_of resolver xs ≡ Ok row → places_of resolver (xs ++ ys) ≡ places_before row (places_of resolver ys)
+  pub both_read : (xs ys : List Reference) (row : List ℕ) → places_of resolver xs ≡ Ok row → places_of resolver (xs ++ ys) ≡ places_before row (places_of resolver ys)
   both_read [] ys row e =
       let same : [] ≡ row = cc e in
       sym (nothing_before (places_of resolver ys)) ∙ ap (λ ps. places_before ps (places_of resolver ys)) same
   both_read (x ∷ xs) ys row e = read_case (place_of resolver x) (places_of resolver xs) (places_of resolver (xs ++ ys)) (places_of resolver ys) row (λ found is. both_read xs ys found is) e
 
   -- a refusal among the first is that of all
-  first_refused : (xs ys : List Reference) (fault : ReadFault) → places_of resolver xs ≡ Err fault → places_of resolver (xs ++ ys) ≡ Err fault
+  pub first_refused : (xs ys : List Reference) (fault : ReadFault) → places_of resolver xs ≡ Err fault → places_of resolver (xs ++ ys) ≡ Err fault
   first_refused [] ys fault e = absurd (cc e)
   first_refused (x ∷ xs) ys fault e = fault_case (place_of resolver x) (places_of resolver xs) (places_of resolver (xs ++ ys)) fault (first_refused xs ys fault) e
 

@@ -1,9 +1,10 @@
 -- What stands at the places of lists that are borrowed.
 use Rattle.std.proofs.Common.{◌≡◌, ℕ, ◌<◌, false, List, Option, Some, None, get_or, length, refl, sym, ap, ◌∙◌}
 use Rattle.std.specs.List.{slice_get}
-use Rattle.std.proofs.lemmas.Option.{slice_get_read}
+use Rattle.std.proofs.lemmas.Option.{none-some, same_Some, slice_get_read}
 use Rattle.tree_items.specs.declared.ast.Item.{Item}
-use Rattle.tree_items.specs.declared.ast.Item.TheVariants.{Alias, Assignment, Comment, Function, Import, Module, Newline, Recipe, Set, Unexport}
+use Rattle.tree_items.specs.declared.ast.Item.TheVariants.{Alias, Assignment, Comment, Function, Import, Module, Newline, Recipe, Set as set_item, Unexport}
+use Rattle.tree_items.specs.declared.set.Set.{Set}
 use Rattle.modules_compilation.specs.Places.{is_set}
 use Rattle.just_resolve.specs.Settling.{set_of}
 
@@ -22,5 +23,19 @@ not_set (Some (Import x)) e = refl
 not_set (Some (Module x)) e = refl
 not_set (Some Newline) e = refl
 not_set (Some (Recipe x)) e = refl
-not_set (Some (Set x)) e = absurd (cc e)
+not_set (Some (set_item x)) e = absurd (cc e)
 not_set (Some (Unexport x)) e = refl
+
+-- the item at a place is the setting there
+pub set_there : (item : Option Item) (set : Set) → set_of item ≡ Some set → item ≡ Some (set_item set)
+set_there None set e = absurd (none-some set e)
+set_there (Some (Alias x)) set e = absurd (none-some set e)
+set_there (Some (Assignment x)) set e = absurd (none-some set e)
+set_there (Some (Comment x)) set e = absurd (none-some set e)
+set_there (Some (Function x)) set e = absurd (none-some set e)
+set_there (Some (Import x)) set e = absurd (none-some set e)
+set_there (Some (Module x)) set e = absurd (none-some set e)
+set_there (Some Newline) set e = absurd (none-some set e)
+set_there (Some (Recipe x)) set e = absurd (none-some set e)
+set_there (Some (set_item x)) set e = ap (λ s. Some (set_item s)) (same_Some x set e)
+set_there (Some (Unexport x)) set e = absurd (none-some set e)

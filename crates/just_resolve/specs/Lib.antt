@@ -1,4 +1,5 @@
 pub mod Refusals
+pub mod Rules
 pub mod Gathered
 pub mod Faults
 pub mod Cycles

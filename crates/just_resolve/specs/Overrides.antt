@@ -1,49 +1,23 @@
--- The texts that words give for variables.
-use Rattle.std.specs.Prelude.{◌≡◌, ℕ, Bool, true, if◌then◌else◌, nat_eq, List, [], ◌∷◌, Option, Some, None, Contains, String, is_some}
+-- The texts that words give for variables, as they are answered.
+use Rattle.std.specs.Prelude.{◌≡◌, ℕ, true, List, None, Contains, String}
 use Rattle.std.specs.BTreeMap.{BTreeMap}
 use Rattle.std.specs.List.{list_all}
-use Rattle.std.specs.Option.{option_and_then, option_map, option_or}
-use Rattle.tree_expressions.specs.declared.expression.Expression.{Expression}
-use Rattle.tree_items.specs.declared.item.Binding.{Binding}
 use Rattle.just_value.specs.declared.positional.Override.{Override}
 use Rattle.evaluate_variables.specs.Opened.{overridden}
-use Rattle.modules_compilation.specs.Modulepaths.{pieces}
 use Rattle.modules_compilation.specs.declared.compilation.Compilation.{Compilation}
-use Rattle.modules_compilation.specs.declared.place.Place.{Place}
-use Rattle.resolve_recipes.specs.Leading.{variable_from}
-use Rattle.resolve_analysis.specs.Lists.{variable_at}
+use Rattle.resolve_analysis.specs.Overriding.{is_named, number_of, text_given}
 use Rattle.just_resolve.specs.declared.error.Error.{Error}
 use Rattle.just_resolve.specs.declared.error.Error.TheVariants.{UnknownOverride}
 
--- the text, if the number is the one that it is given for
-abbrev pub text_if : Option ℕ → List ℕ → ℕ → Option (List ℕ)
-text_if None text number = None
-text_if (Some given) text number = if nat_eq given number then Some text else None
-
 module _ (compilation : Compilation) where
-  abbrev pub number_at : Place → Option ℕ
-  number_at place = option_map (λ (variable : Binding Expression). variable.number) (variable_at compilation place)
-
-  -- the number of the variable that is called so: by its name in the root, or after the names of modules
-  abbrev pub number_of : List ℕ → Option ℕ
-  number_of name = option_and_then number_at (variable_from compilation (Some 0) (pieces name))
-
-  -- the text given last for the variable of a number
-  abbrev pub text_given : List Override → ℕ → Option (List ℕ)
-  text_given [] number = None
-  text_given (given ∷ others) number = option_or (text_given others number) (text_if (number_of given.name) given.value number)
-
-  abbrev pub is_named : Override → Bool
-  is_named given = is_some (number_of given.name)
-
   -- each text is given for a variable, and each number has the text given last for its variable
   pub record AreGiven {A : Type 0} (given : List Override) (overrides : BTreeMap ℕ (String A)) : Type 0 where
-    pub named : list_all is_named given ≡ true
-    pub texts : (number : ℕ) → overridden overrides number ≡ text_given given number
+    pub named : list_all (is_named compilation) given ≡ true
+    pub texts : (number : ℕ) → overridden overrides number ≡ text_given compilation given number
 
   -- one of these texts is given for no variable
   pub record IsGivenForNone (given : List Override) (error : Error) : Type 0 where
     pub one : Override
     pub listed : Contains given one
-    pub unknown : number_of one.name ≡ None
+    pub unknown : number_of compilation one.name ≡ None
     pub tells : error ≡ UnknownOverride one.name

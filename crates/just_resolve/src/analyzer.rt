@@ -1,8 +1,9 @@
 //! From modules to what is known of them.
-ghost use Rattle.std.specs.Prelude.{◌≡◌, ◌≢◌, IfErr, IfOk};
+ghost use Rattle.std.specs.Prelude.{◌≡◌, ◌≢◌, IfErr, IfOk, OnOk};
 ghost use Rattle.std.specs.String.{string_bytes};
 ghost use Rattle.resolve_recipes.specs.Named.{AllByName};
 ghost use Rattle.just_resolve.specs.Analysis.{IsAnalysis, IsKnown, IsRefused, IsRefusedWith};
+ghost use Rattle.just_resolve.specs.Rules.{BreaksNone, InEachWorld, IsNamed};
 ghost use Rattle.just_resolve.specs.Table.{IsTable, IsTableRefused};
 ghost use Rattle.just_resolve.specs.declared.error.Error.TheVariants.{OutOfMemory};
 
@@ -68,6 +69,20 @@ fn analyzed<'a, 'src>(
     with_recipes(alloc, compilation, variables, values)
 }
 
+/// What is known of the modules, where words give these values for variables.
+fn analyze_words<'a, 'src>(
+    alloc: Global,
+    compilation: &'a Compilation<'src>,
+    base: &str,
+    overrides: &[Override],
+) -> Result<Analysis<'src, 'a>, Error<'src>>
+    ensures analysis { IfOk result (λ analysis. AllByName compilation.now → IsAnalysis compilation.now base.now overrides.now analysis) }
+    ensures refused { IfErr result (λ error. error ≢ OutOfMemory → AllByName compilation.now → IsRefused compilation.now overrides.now error) }
+{
+    let overrides = resolve_overrides(alloc, compilation, overrides)?;
+    analyzed(alloc, compilation, base, overrides)
+}
+
 /// Resolves justfiles.
 #[derive(Clone, Copy, Debug)]
 pub struct Analyzer;
@@ -82,6 +97,10 @@ impl Analyzer {
     /// dependency names no recipe, or one that takes another number of values, also one of a recipe
     /// that is disabled; where a dependency or an alias names a module; where recipes depend on each
     /// other in a cycle; and where memory runs out. Of recipes and variables those that are kept count.
+    ///
+    /// So in each world that the compilation stands for: where the modules are resolved no rule on
+    /// names is broken, the one on constants among them, else the refusal names one that is, unless
+    /// memory runs out.
     pub fn analyze<'a, 'src>(
         alloc: Global,
         compilation: &'a Compilation<'src>,
@@ -90,8 +109,9 @@ impl Analyzer {
     ) -> Result<Analysis<'src, 'a>, Error<'src>>
         ensures analysis { IfOk result (λ analysis. AllByName compilation.now → IsAnalysis compilation.now (string_bytes config.now.base) overrides.now analysis) }
         ensures refused { IfErr result (λ error. error ≢ OutOfMemory → AllByName compilation.now → IsRefused compilation.now overrides.now error) }
+        ensures clear { OnOk result (InEachWorld compilation.now overrides.now BreaksNone) }
+        ensures broken { IfErr result (λ error. InEachWorld compilation.now overrides.now (λ w o. IsNamed w o error)) }
     {
-        let overrides = resolve_overrides(alloc, compilation, overrides)?;
-        analyzed(alloc, compilation, config.base.as_str(), overrides)
+        analyze_words(alloc, compilation, config.base.as_str(), overrides)
     }
 }

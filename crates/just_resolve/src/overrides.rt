@@ -3,7 +3,8 @@ ghost use Rattle.std.specs.Prelude.{◌≡◌, ◌≢◌, ℕ, IfErr, IfOk, None
 ghost use Rattle.std.specs.Option.{option_or};
 ghost use Rattle.evaluate_variables.specs.Opened.{overridden};
 ghost use Rattle.resolve_recipes.specs.Named.{AllByName};
-ghost use Rattle.just_resolve.specs.Overrides.{AreGiven, IsGivenForNone, number_at, number_of, text_if};
+ghost use Rattle.resolve_analysis.specs.Overriding.{number_at, number_of, text_if};
+ghost use Rattle.just_resolve.specs.Overrides.{AreGiven, IsGivenForNone};
 ghost use Rattle.just_resolve.specs.declared.error.Error.TheVariants.{OutOfMemory, UnknownOverride};
 
 use crate::error::Error;

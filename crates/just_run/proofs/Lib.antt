@@ -5,3 +5,4 @@ mod Early
 mod Failed
 mod Planned
 mod Roots
+mod Sources

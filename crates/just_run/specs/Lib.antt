@@ -6,6 +6,7 @@ pub mod Passed
 pub mod Plain
 pub mod Plans
 pub mod Requests
+pub mod Sources
 pub mod Statuses
 pub mod Texts
 pub mod Writes

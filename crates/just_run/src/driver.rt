@@ -1,6 +1,10 @@
 //! The whole: from texts and words to what is done.
-ghost use Rattle.std.specs.Prelude.{◌≡◌, Bool, IfErr, option_map};
+ghost use Rattle.std.specs.Prelude.{◌≡◌, ◌⊎◌, Bool, None, IfErr, option_map};
+ghost use Rattle.just_text.specs.Numbers.{Numbers};
 ghost use Rattle.justfile_syntax.specs.PlainShapes.{shape_of};
+ghost use Rattle.modules_sources.specs.Loaded.{IsRootRead};
+ghost use Rattle.meaning_files.specs.Views.{given_of};
+ghost use Rattle.just_modules.specs.Worlds.{InEachWorld};
 ghost use Rattle.run_plain.specs.Inputs.{Inputs, inputs_of, reader_of};
 ghost use Rattle.run_plain.specs.Setup.{setup_of};
 ghost use Rattle.run_plain.specs.Stages.{IsRead, IsRoot};
@@ -9,6 +13,7 @@ ghost use Rattle.just_run.specs.Early.{IsEarly, IsLate};
 ghost use Rattle.just_run.specs.Plain.{IsPlain, AnswersPlain, IsWay};
 ghost use Rattle.just_run.specs.Plans.{IsKeptBy, Plans};
 ghost use Rattle.just_run.specs.Requests.{IsText};
+ghost use Rattle.just_run.specs.Sources.{AnswersSources, LooksAtAll, TellsSources};
 ghost use Rattle.just_run.specs.Writes.{IsKept, IsNoWrite, WriteFails};
 ghost use Rattle.just_run.specs.declared.outcome.Action.TheVariants.{Plan, Run};
 ghost use Rattle.just_host.specs.Asking.{IsAsked};
@@ -199,6 +204,7 @@ fn drive_files<'src, E: Expander, H: RunHost + Drop, O: Out>(
     ensures early { IfErr result (λ fault. IsEarly fault host.old (O.written out.old) host.new (O.written out.new)) }
     ensures silent { IsText action → host.new ≡ host.old }
     ensures asks { AsksFor action config.now.dry_run H.goes host.old host.new }
+    ensures sources { (start : Numbers) → IsRootRead sources.now (E.expansion expander.now) config.now.version start path.now parsed.entry → InEachWorld config.now.os config.now.unstable sources.now (E.expansion expander.now) config.now.version path.now (TellsSources result) }
 {
     match Compiler::compile_parsed(alloc, config, expander, sources, path, parsed) {
         Ok(compilation) => drive_compilation(
@@ -282,6 +288,7 @@ fn drive_root<'src, E: Expander, H: RunHost + Drop, O: Out>(
     ensures early { (i : Inputs) → i.words ≡ words.now → IsRoot i root.entry.path.now (option_map shape_of root.entry.plain) → IfErr result (λ fault. IsEarly fault host.old (O.written out.old) host.new (O.written out.new)) }
     ensures silent { IsText action → host.new ≡ host.old }
     ensures asks { AsksFor action config.now.dry_run H.goes host.old host.new }
+    ensures sources { ((action ≡ Run) ⊎ (action ≡ Plan) → root.entry.plain ≡ None) → (start : Numbers) → IsRootRead sources.now (E.expansion expander.now) config.now.version start root.entry.path.now (record { ast = root.entry.file; numerator = root.entry.numerator }) → InEachWorld config.now.os config.now.unstable sources.now (E.expansion expander.now) config.now.version root.entry.path.now (TellsSources result) }
 {
     let Root {
         path,
@@ -327,6 +334,8 @@ fn drive_words<'src, E: Expander, H: RunHost + Drop, O: Out>(
     ensures plain { action ≡ Run → IsPlain (inputs_of (reader_of (E.expansion expander.now) config.now.version) sources.now roots.now words.now) → AnswersPlain H.goes (inputs_of (reader_of (E.expansion expander.now) config.now.version) sources.now roots.now words.now) (setup_of config.now) result host.old host.new }
     // Whatever is asked for: a fault that is none of a run or of the output names a rule that is broken; then nothing was asked, handed over or written.
     ensures early { IfErr result (λ fault. IsEarly fault host.old (O.written out.old) host.new (O.written out.new)) }
+    // Where all files are looked at, a rule of files, modules and definitions is told exactly where one is broken.
+    ensures sources { LooksAtAll action (inputs_of (reader_of (E.expansion expander.now) config.now.version) sources.now roots.now words.now) → AnswersSources (given_of sources.now config.now.os config.now.unstable (E.expansion expander.now) config.now.version) (inputs_of (reader_of (E.expansion expander.now) config.now.version) sources.now roots.now words.now) result }
     // Where the text of the root file or the list of recipes is asked for, nothing is asked and nothing handed over.
     ensures silent { IsText action → host.new ≡ host.old }
     // Where the call is refused nothing is written, unless the output takes no more, or a run fails whose plan is written.
@@ -375,7 +384,7 @@ pub fn drive<'src, E: Expander, H: RunHost + Drop, O: Out>(
     host: &mut Recorded<H>,
     out: &mut O,
 ) -> Result<Outcome, Fault<'src>>
-    ensures { Drives H.goes (inputs_of (reader_of (E.expansion expander.now) config.now.version) sources.now roots.now words.now) (setup_of config.now) action (record { host = host.old; written = O.written out.old; failed = O.failed out.old }) result (record { host = host.new; written = O.written out.new; failed = O.failed out.new }) }
+    ensures { Drives H.goes (inputs_of (reader_of (E.expansion expander.now) config.now.version) sources.now roots.now words.now) (given_of sources.now config.now.os config.now.unstable (E.expansion expander.now) config.now.version) (setup_of config.now) action (record { host = host.old; written = O.written out.old; failed = O.failed out.old }) result (record { host = host.new; written = O.written out.new; failed = O.failed out.new }) }
 {
     drive_words(
         alloc,
@@ -408,7 +417,7 @@ pub fn drive_and_leak<'src, E: Expander, H: RunHost + Drop, O: Out>(
     host: &mut Recorded<H>,
     out: &mut O,
 ) -> Result<Outcome, Fault<'src>>
-    ensures { Drives H.goes (inputs_of (reader_of (E.expansion expander.now) config.now.version) sources.now roots.now words.now) (setup_of config.now) action (record { host = host.old; written = O.written out.old; failed = O.failed out.old }) result (record { host = host.new; written = O.written out.new; failed = O.failed out.new }) }
+    ensures { Drives H.goes (inputs_of (reader_of (E.expansion expander.now) config.now.version) sources.now roots.now words.now) (given_of sources.now config.now.os config.now.unstable (E.expansion expander.now) config.now.version) (setup_of config.now) action (record { host = host.old; written = O.written out.old; failed = O.failed out.old }) result (record { host = host.new; written = O.written out.new; failed = O.failed out.new }) }
 {
     drive_words(
         alloc,

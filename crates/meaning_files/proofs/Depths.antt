@@ -1,11 +1,10 @@
 -- How deep files are that were loaded.
-use Rattle.std.proofs.Common.{◌≡◌, inl, inr, sym, ◌∙◌, ap, subst, ◌<◌, ◌≤◌, ◌+◌, min, ℕ, zero, suc, List, Some, refl, arith, length, map, Bool}
+use Rattle.std.proofs.Common.{◌≡◌, inl, inr, sym, ◌∙◌, ap, subst, ◌<◌, ◌≤◌, ◌+◌, min, ℕ, zero, suc, List, Some, refl, arith, length, map}
 use Rattle.std.specs.Prelude.{slice_get, Contains}
 use Rattle.std.specs.BTreeMap.{BTreeMap}
 use Rattle.std.specs.declared.string.String.{String}
 use Rattle.std.proofs.lemmas.Bool.{cases_lt}
 use Rattle.std.proofs.lemmas.Option.{same_Some, slice_get_within}
-use Rattle.just_text.specs.declared.os.Os.{Os}
 use Rattle.parse_expressions.specs.Literals.{Expansion}
 use Rattle.semver.specs.declared.Version.{Version}
 use Rattle.modules_compilation.specs.declared.module_node.File.{File}
@@ -15,13 +14,12 @@ use Rattle.modules_sources.specs.ReadingOrder.{AreFollowed}
 use Rattle.meaning_worlds.specs.Given.{Text, World}
 use Rattle.meaning_worlds.specs.Modules.{imports_of, IsReadingOrder}
 use Rattle.meaning_worlds.specs.Sources.{Imports, IsDepth, Leads, itself, further, Reached}
-use Rattle.meaning_worlds.specs.Standing.{StandsFor}
 use Rattle.meaning_worlds.proofs.Orders.{stands_once}
 use Rattle.meaning_worlds.proofs.Places.{place_of}
 use Rattle.meaning_worlds.proofs.Reading.{orders_have_reached, shallow}
 use Rattle.meaning_worlds.proofs.Rows.{rows_are_imports}
-use Rattle.meaning_files.specs.Files.{IsFile, keys_of}
-use Rattle.meaning_files.specs.Views.{given_of}
+use Rattle.meaning_files.specs.Files.{AreSaidWhereReached, IsFile, keys_of}
+use Rattle.meaning_files.specs.Views.{HasSources}
 use Rattle.meaning_files.proofs.Followed.{file_of_row, file_row, file_said, in_order, is_file, own_first, row_at}
 use Rattle.meaning_files.proofs.Lists.{map_at, mapped_at, one_deeper}
 
@@ -41,15 +39,15 @@ module _ (w : World) (own : Text) (keys : List Text) (o : IsReadingOrder w own k
       let least = deep.least r.0 r.2 in
       omega (arith, few, least)
 
-module _ {Y Z : Type 0} (sources : BTreeMap (String Y) (String Z)) (os : Os) (unstable : Bool) (expansion : Expansion) (version : Version) (root : Text) (w : World) (s : StandsFor (given_of sources os unstable expansion version root) w) (owner : ℕ)
-    (own : Text) (reached : Reached w own) (files : List File) (imports : List (List SourceFile)) (h : AreFollowed sources expansion version owner own (length files) files imports) where
+module _ {Y Z : Type 0} (sources : BTreeMap (String Y) (String Z)) (expansion : Expansion) (version : Version) (w : World) (has : HasSources sources expansion w) (owner : ℕ)
+    (own : Text) (reached : Reached w own) (files : List File) (imports : List (List SourceFile)) (h : AreFollowed sources expansion version owner own (length files) files imports) (said : AreSaidWhereReached w files) where
   -- the keys of the files
   abbrev keys : List Text
   keys = keys_of files
 
   -- they stand in reading order
   order_is : IsReadingOrder w own keys
-  order_is = in_order sources os unstable expansion version root w s owner own reached files imports h
+  order_is = in_order sources expansion version w has owner own reached files imports h said
 
   -- none before the importer imports the file
   first_importer : (at : ℕ) (key : Text) → ((other : ℕ) (others : List SourceFile) → other < at → slice_get imports other ≡ Some others → Contains (map (λ f. f.0) others) key → ⊥)
@@ -57,8 +55,8 @@ module _ {Y Z : Type 0} (sources : BTreeMap (String Y) (String Z)) (os : Os) (un
   first_importer at key none q other e c = elim (cases_lt q at) [
     | inl lt ↦
         let f = mapped_at (λ f. f.key.now) files q other e in
-        let r = row_at sources os unstable expansion version root w s owner own reached (length files) files imports h q f.0 (slice_get_within files q f.0 f.1) f.1 in
-        let row = file_row sources os unstable expansion version root w s owner own reached (length files) files imports h q f.0 f.1 r.0 r.2 in
+        let r = row_at sources expansion version w has owner own reached (length files) files imports h said q f.0 (slice_get_within files q f.0 f.1) f.1 in
+        let row = file_row sources expansion version w has owner own reached (length files) files imports h said q f.0 f.1 r.0 r.2 in
         absurd (none q r.0 lt r.1 (subst (λ ks. Contains ks key) (sym row) (subst (λ k. Contains (imports_of w k) key) (sym f.2) c)))
     | inr le ↦ le
   ]
@@ -70,17 +68,17 @@ module _ {Y Z : Type 0} (sources : BTreeMap (String Y) (String Z)) (os : Os) (un
   -- each file has its depth, by those before it
   has_depth : (bound place : ℕ) (file : File) → place ≤ bound → slice_get files place ≡ Some file → HasDepth file
   has_depth bound zero file le e =
-      let first = own_first sources os unstable expansion version root w s owner own reached (length files) files imports h in
+      let first = own_first sources expansion version w has owner own reached (length files) files imports h said in
       let same : own ≡ file.key.now = same_Some own file.key.now (sym first ∙ map_at (λ f. f.key.now) files 0 file e) in
       (0, record { leads = subst (Leads w own 0) same itself; least = λ count l. omega arith }, h.first file e)
   has_depth zero (suc place) file le e = absurd (omega (arith, le))
   has_depth (suc bound) (suc place) file le e =
       let l = h.led place file e in
       let lt = l.earlier in
-      let r = file_of_row sources os unstable expansion version root w s owner own reached (length files) files imports h l.at l.row l.here in
+      let r = file_of_row sources expansion version w has owner own reached (length files) files imports h said l.at l.row l.here in
       let importer = r.0 in
       let d = has_depth bound l.at importer (omega (arith, le, lt)) r.1 in
-      let row = file_row sources os unstable expansion version root w s owner own reached (length files) files imports h l.at importer r.1 l.row r.2 in
+      let row = file_row sources expansion version w has owner own reached (length files) files imports h said l.at importer r.1 l.row r.2 in
       let key = file.key.now in
       let imported : Imports w importer.key.now key = (rows_are_imports w importer.key.now key).0 (subst (λ ks. Contains ks key) row l.imported) in
       let behind : depth_behind (slice_get files l.at) ≡ min (importer.depth + 1) 4294967295 = ap depth_behind r.1 in (
@@ -97,8 +95,8 @@ module _ {Y Z : Type 0} (sources : BTreeMap (String Y) (String Z)) (os : Os) (un
   each_file place file e =
       let d = has_depth place place file (omega arith) e in
       record {
-        of = is_file sources os unstable expansion version root w s owner own reached (length files) files imports h place file e;
-        says = file_said sources os unstable expansion version root w s owner own reached (length files) files imports h place file e;
+        of = is_file sources expansion version w has owner own reached (length files) files imports h said place file e;
+        says = file_said sources expansion version w has owner own reached (length files) files imports h said place file e;
         owner_is = (h.each place file e).owner_is;
         depth = d.0;
         least = d.1;

@@ -1,4 +1,4 @@
--- Files that are followed, in a world that the sources stand for.
+-- Files that are followed, in a world that says what they say.
 use Rattle.std.proofs.Common.{◌≡◌, sym, ◌∙◌, ap, subst, Bool, true, false, cond, ◌||◌, ◌<◌, ◌≤◌, ◌++◌, ◌∷◌, [], ℕ, zero, suc, List, Some, Result, Ok, refl, arith, length, map, take, append_assoc}
 use Rattle.std.specs.Prelude.{slice_get, Contains}
 use Rattle.std.specs.BTreeMap.{BTreeMap}
@@ -28,7 +28,7 @@ use Rattle.meaning_worlds.specs.Sources.{Imports, IsFileOf, Leads, itself, furth
 use Rattle.meaning_worlds.specs.Standing.{StandsFor}
 use Rattle.meaning_worlds.proofs.Reached.{leads_reached}
 use Rattle.meaning_worlds.proofs.Rows.{rows_are_imports}
-use Rattle.meaning_files.specs.Files.{IsSaid, keys_of}
+use Rattle.meaning_files.specs.Files.{AreSaidWhereReached, IsSaid, keys_of}
 use Rattle.meaning_files.specs.Views.{given_of, HasSources}
 use Rattle.meaning_files.proofs.Imports.{imports_are_row}
 use Rattle.meaning_files.proofs.Lists.{from_take, in_take, map_at, mapped_at, other_at}
@@ -73,25 +73,27 @@ module _ {Y Z : Type 0} (sources : BTreeMap (String Y) (String Z)) (os : Os) (un
   pub has_sources : HasSources sources expansion w
   has_sources = record { same_expansion = s.same_expansion; there = s.there }
 
-module _ {Y Z : Type 0} (sources : BTreeMap (String Y) (String Z)) (os : Os) (unstable : Bool) (expansion : Expansion) (version : Version) (root : Text) (w : World)
-    (s : StandsFor (given_of sources os unstable expansion version root) w) (owner : ℕ) where
-  -- a file of the module that has this number
-  abbrev IsOf : File → Type 0
-  IsOf file = IsOfModule sources expansion version owner file
+  -- where it reaches a file that was read, it says what was read
+  pub stands_said : (files : List File) → ((place : ℕ) (file : File) → slice_get files place ≡ Some file → (owner : ℕ) × IsOfModule sources expansion version owner file) → AreSaidWhereReached w files
+  stands_said files each place file e r =
+      let of = (each place file e).1 in
+      (s.said file.key.now r (filled (item_shapes file.ast.items.items))).1 (record { text = of.text; found = of.there; all = item_shapes file.ast.items.items; reads = of.says; are = refl })
 
+  -- so it does where the files of a module are followed
+  pub followed_said : (owner : ℕ) (own : Text) (count : ℕ) (files : List File) (imports : List (List SourceFile)) → AreFollowed sources expansion version owner own count files imports → AreSaidWhereReached w files
+  followed_said owner own count files imports h = stands_said files (λ place file e. (owner, h.each place file e))
+
+module _ {Y Z : Type 0} (sources : BTreeMap (String Y) (String Z)) (expansion : Expansion) (version : Version) (w : World) (has : HasSources sources expansion w) (owner : ℕ) where
   -- the files that a file names by its imports
   abbrev imports_in_file : File → Result (List SourceFile) Error
   imports_in_file file = imports_among sources file.key.now file.ast.items.items
 
-  -- a file that the world reaches says what was read
-  pub is_said : (file : File) → IsOf file → Reached w file.key.now → IsSaid w file
-  is_said file of r = (s.said file.key.now r (filled (item_shapes file.ast.items.items))).1 (record { text = of.text; found = of.there; all = item_shapes file.ast.items.items; reads = of.says; are = refl })
+  -- the files that a file names are its row, where the world says what it says
+  pub row_of : (file : File) → IsOfModule sources expansion version owner file → IsSaid w file → (row : List SourceFile) → imports_in_file file ≡ Ok row → map (λ f. f.0) row ≡ imports_of w file.key.now
+  row_of file of says row e = imports_are_row sources expansion w has file.key.now file.ast.items.items of.whole.cooked says row e
 
-  -- the files that it names are its row
-  pub row_of : (file : File) → IsOf file → Reached w file.key.now → (row : List SourceFile) → imports_in_file file ≡ Ok row → map (λ f. f.0) row ≡ imports_of w file.key.now
-  row_of file of r row e = imports_are_row sources expansion w (has_sources sources os unstable expansion version root w s) file.key.now file.ast.items.items of.whole.cooked (is_said file of r) row e
-
-  module _ (own : Text) (reached : Reached w own) (count : ℕ) (files : List File) (imports : List (List SourceFile)) (h : AreFollowed sources expansion version owner own count files imports) where
+  module _ (own : Text) (reached : Reached w own) (count : ℕ) (files : List File) (imports : List (List SourceFile)) (h : AreFollowed sources expansion version owner own count files imports)
+      (said : AreSaidWhereReached w files) where
     -- the file whose row stands at a place
     pub file_of_row : (place : ℕ) (row : List SourceFile) → slice_get imports place ≡ Some row → (file : File) × (slice_get files place ≡ Some file) × (imports_in_file file ≡ Ok row)
     file_of_row place row e =
@@ -124,7 +126,7 @@ module _ {Y Z : Type 0} (sources : BTreeMap (String Y) (String Z)) (os : Os) (un
         let r = file_of_row l.at l.row l.here in
         let importer = r.0 in
         let before = comes bound l.at importer (omega (arith, le, lt)) r.1 in
-        let row = row_of importer (h.each l.at importer r.1) (leads_reached w own before.0 importer.key.now reached before.1) l.row r.2 in
+        let row = row_of importer (h.each l.at importer r.1) (said l.at importer r.1 (leads_reached w own before.0 importer.key.now reached before.1)) l.row r.2 in
         (suc before.0, further before.1 ((rows_are_imports w importer.key.now file.key.now).0 (subst (λ ks. Contains ks file.key.now) row l.imported)))
 
     -- each file is one of the module
@@ -137,15 +139,16 @@ module _ {Y Z : Type 0} (sources : BTreeMap (String Y) (String Z)) (os : Os) (un
 
     -- each says what the world says at its key
     pub file_said : (place : ℕ) (file : File) → slice_get files place ≡ Some file → IsSaid w file
-    file_said place file e = is_said file (h.each place file e) (is_reached place file e)
+    file_said place file e = said place file e (is_reached place file e)
 
     -- what each names is its row
     pub file_row : (place : ℕ) (file : File) → slice_get files place ≡ Some file → (row : List SourceFile) → imports_in_file file ≡ Ok row → map (λ f. f.0) row ≡ imports_of w file.key.now
-    file_row place file e row f = row_of file (h.each place file e) (is_reached place file e) row f
+    file_row place file e row f = row_of file (h.each place file e) (file_said place file e) row f
 
   -- ---- all files of a module
 
-  module _ (own : Text) (reached : Reached w own) (files : List File) (imports : List (List SourceFile)) (h : AreFollowed sources expansion version owner own (length files) files imports) where
+  module _ (own : Text) (reached : Reached w own) (files : List File) (imports : List (List SourceFile)) (h : AreFollowed sources expansion version owner own (length files) files imports)
+      (said : AreSaidWhereReached w files) where
     -- what these files name are their rows
     abbrev AreRows : List File → Type 0
     AreRows xs = (place : ℕ) (file : File) → slice_get xs place ≡ Some file → (row : List SourceFile) → imports_in_file file ≡ Ok row → map (λ f. f.0) row ≡ imports_of w file.key.now
@@ -162,22 +165,22 @@ module _ {Y Z : Type 0} (sources : BTreeMap (String Y) (String Z)) (os : Os) (un
         ∙ ap (λ ks. imports_of w x.key.now ++ ks) (rows_are xs rows (λ place file at. each (suc place) file at) others)
 
     all_rows : map (λ f. f.0) (flat_map (λ row. row) imports) ≡ flat_map (imports_of w) (keys_of files)
-    all_rows = rows_are files imports (file_row own reached (length files) files imports h) (ap (map imports_in_file) (sym (take-length files)) ∙ h.named)
+    all_rows = rows_are files imports (file_row own reached (length files) files imports h said) (ap (map imports_in_file) (sym (take-length files)) ∙ h.named)
 
     -- they stand in the module's reading order
     pub in_order : IsReadingOrder w own (keys_of files)
     in_order = record {
-      first = own_first own reached (length files) files imports h;
-      whole = keys_are own reached (length files) files imports h ∙ ap (λ ks. own ∷ firsts_behind (own ∷ []) ks) all_rows;
+      first = own_first own reached (length files) files imports h said;
+      whole = keys_are own reached (length files) files imports h said ∙ ap (λ ks. own ∷ firsts_behind (own ∷ []) ks) all_rows;
       led = λ place key e.
           let f = mapped_at (λ f. f.key.now) files (suc place) key e in
           let l = h.led place f.0 f.1 in
-          let r = file_of_row own reached (length files) files imports h l.at l.row l.here in
+          let r = file_of_row own reached (length files) files imports h said l.at l.row l.here in
           record {
             at = l.at;
             importer = r.0.key.now;
             earlier = l.earlier;
             found = map_at (λ g. g.key.now) files l.at r.0 r.1;
-            imported = subst (Contains (imports_of w r.0.key.now)) f.2 (subst (λ ks. Contains ks f.0.key.now) (file_row own reached (length files) files imports h l.at r.0 r.1 l.row r.2) l.imported);
+            imported = subst (Contains (imports_of w r.0.key.now)) f.2 (subst (λ ks. Contains ks f.0.key.now) (file_row own reached (length files) files imports h said l.at r.0 r.1 l.row r.2) l.imported);
           };
     }

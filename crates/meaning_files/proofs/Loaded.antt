@@ -1,10 +1,11 @@
 -- Files that are loaded for a module are its files.
-use Rattle.std.proofs.Common.{◌≡◌, sym, ◌∙◌, ap, subst, true, false, ℕ, List, Some, length}
+use Rattle.std.proofs.Common.{◌≡◌, sym, ◌∙◌, ap, subst, Bool, true, false, ℕ, List, Some, length}
 use Rattle.std.specs.Prelude.{slice_get}
 use Rattle.std.specs.BTreeMap.{BTreeMap}
 use Rattle.std.specs.declared.string.String.{String}
 use Rattle.std.proofs.lemmas.Option.{same_Some, slice_get_within}
 use Rattle.just_text.specs.declared.compile_error.CompileErrorKind.{CompileErrorKind}
+use Rattle.just_text.specs.declared.os.Os.{Os}
 use Rattle.tree_items.specs.Files.{item_shapes}
 use Rattle.parse_expressions.specs.Literals.{Expansion}
 use Rattle.justfile_syntax.specs.Laws.{FaultsSayNothing}
@@ -13,13 +14,15 @@ use Rattle.semver.specs.declared.Version.{Version}
 use Rattle.modules_compilation.specs.declared.module_node.File.{File}
 use Rattle.meaning_worlds.specs.Given.{Text, World}
 use Rattle.meaning_worlds.specs.Sources.{ImportsAt, IsFileOf}
+use Rattle.meaning_worlds.specs.Standing.{StandsFor}
 use Rattle.meaning_worlds.proofs.Places.{place_of}
 use Rattle.meaning_worlds.proofs.Reading.{orders_have_reached}
 use Rattle.meaning_rules.specs.Rules.{LeadsNowhere}
 use Rattle.meaning_files.specs.Files.{keys_of}
 use Rattle.meaning_files.specs.Laws.{AreLoadedFiles, LoadedAreFaultless, LoadedAreFiles, LoadedImportThere}
+use Rattle.meaning_files.specs.Views.{given_of}
 use Rattle.meaning_files.proofs.Depths.{each_file}
-use Rattle.meaning_files.proofs.Followed.{file_said, has_sources, in_order, is_reached, row_at}
+use Rattle.meaning_files.proofs.Followed.{file_said, in_order, is_reached, row_at}
 use Rattle.meaning_files.proofs.Lines.{none_nowhere}
 use Rattle.meaning_files.proofs.Lists.{mapped_at}
 use Rattle.meaning_files.proofs.Rounds.{no_round_of}
@@ -31,9 +34,9 @@ module _ {Y Z : Type 0} (sources : BTreeMap (String Y) (String Z)) where
       let h = l.are.order.followed in
       let imports = l.are.order.imports in
       record {
-        order = in_order sources l.os l.unstable expansion version l.root w l.stands owner own l.own_reached files imports h;
-        each = each_file sources l.os l.unstable expansion version l.root w l.stands owner own l.own_reached files imports h;
-        no_round = no_round_of sources l.os l.unstable expansion version l.root w l.stands owner own l.own_reached files imports h l.are.places l.are.order.are l.are.no_cycle;
+        order = in_order sources expansion version w l.has owner own l.own_reached files imports h l.said;
+        each = each_file sources expansion version w l.has owner own l.own_reached files imports h l.said;
+        no_round = no_round_of sources expansion version w l.has owner own l.own_reached files imports h l.said l.are.places l.are.order.are l.are.no_cycle;
       }
 
   module _ (expansion : Expansion) (version : Version) (w : World) (owner : ℕ) (own : Text) (files : List File) (l : AreLoadedFiles sources expansion version w owner own files) where
@@ -51,20 +54,20 @@ module _ {Y Z : Type 0} (sources : BTreeMap (String Y) (String Z)) where
         let imports = l.are.order.imports in
         let f = is_loaded key of in
         let file = f.1 in
-        let says = file_said sources l.os l.unstable expansion version l.root w l.stands owner own l.own_reached (length files) files imports h f.0 file f.2 in
-        let r = row_at sources l.os l.unstable expansion version l.root w l.stands owner own l.own_reached (length files) files imports h f.0 file (slice_get_within files f.0 file f.2) f.2 in
-        none_nowhere sources file.key.now expansion w (has_sources sources l.os l.unstable expansion version l.root w l.stands) file.ast.items.items (h.each f.0 file f.2).whole.cooked says r.0 r.2 place path told
+        let says = file_said sources expansion version w l.has owner own l.own_reached (length files) files imports h l.said f.0 file f.2 in
+        let r = row_at sources expansion version w l.has owner own l.own_reached (length files) files imports h l.said f.0 file (slice_get_within files f.0 file f.2) f.2 in
+        none_nowhere sources file.key.now expansion w l.has file.ast.items.items (h.each f.0 file f.2).whole.cooked says r.0 r.2 place path told
         (subst (λ k. ImportsAt w k place false path) (sym f.3) line) (subst (λ k. LeadsNowhere w k path told) (sym f.3) nowhere)
 
-    -- none of them is refused
-    no_fault : FaultsSayNothing → (key : Text) (kind : CompileErrorKind) → IsFileOf w own key → w.refused key kind ≡ true → ⊥
-    no_fault faultless key kind of e =
+    -- none of them is refused, in a world that the sources stand for
+    no_fault : FaultsSayNothing → (os : Os) (unstable : Bool) (root : Text) → StandsFor (given_of sources os unstable expansion version root) w → (key : Text) (kind : CompileErrorKind) → IsFileOf w own key → w.refused key kind ≡ true → ⊥
+    no_fault faultless os unstable root s key kind of e =
         let h = l.are.order.followed in
         let f = is_loaded key of in
         let file = f.1 in
         let read = h.each f.0 file f.2 in
-        let r = is_reached sources l.os l.unstable expansion version l.root w l.stands owner own l.own_reached (length files) files l.are.order.imports h f.0 file f.2 in
-        let fault = (l.stands.refused file.key.now r kind).0 (ap (λ k. w.refused k kind) f.3 ∙ e) in
+        let r = is_reached sources expansion version w l.has owner own l.own_reached (length files) files l.are.order.imports h l.said f.0 file f.2 in
+        let fault = (s.refused file.key.now r kind).0 (ap (λ k. w.refused k kind) f.3 ∙ e) in
         let same : read.text ≡ fault.text = same_Some read.text fault.text (sym read.there ∙ fault.found) in
         faultless expansion version fault.text kind fault.fault (item_shapes file.ast.items.items) (subst (λ t. Reads expansion version t (item_shapes file.ast.items.items)) same read.says)
 
@@ -72,4 +75,4 @@ module _ {Y Z : Type 0} (sources : BTreeMap (String Y) (String Z)) where
   loaded_import_there expansion version w owner own files l key place path told of line nowhere = import_there expansion version w owner own files l key place path told of line nowhere
 
   pub loaded_are_faultless : LoadedAreFaultless sources
-  loaded_are_faultless faultless expansion version w owner own files l key kind of e = no_fault expansion version w owner own files l faultless key kind of e
+  loaded_are_faultless faultless os unstable expansion version root w s owner own files l key kind of e = no_fault expansion version w owner own files l faultless os unstable root s key kind of e

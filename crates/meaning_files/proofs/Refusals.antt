@@ -1,5 +1,5 @@
 -- Why the files of a module are refused, by the rules that are broken.
-use Rattle.std.proofs.Common.{◌≡◌, inl, sym, ◌∙◌, ap, subst, Bool, true, false, cond, ◌+◌, ◌++◌, ◌∷◌, [], ℕ, zero, suc, List, Option, Some, None, Result, Ok, Err, refl, map, drop}
+use Rattle.std.proofs.Common.{◌≡◌, inl, sym, ◌∙◌, ap, subst, Bool, true, false, cond, ◌+◌, ◌++◌, ◌∷◌, [], ℕ, zero, suc, List, Option, Some, None, Result, Ok, Err, refl, length, map, drop}
 use Rattle.std.specs.Prelude.{Contains, slice_get}
 use Rattle.std.specs.BTreeMap.{BTreeMap}
 use Rattle.std.specs.declared.string.String.{String}
@@ -25,11 +25,12 @@ use Rattle.meaning_worlds.proofs.Places.{contains_at}
 use Rattle.meaning_worlds.proofs.Rows.{rows_are_imports}
 use Rattle.meaning_rules.specs.Rules.{Broken}
 use Rattle.meaning_rules.specs.Told.{IsTold}
+use Rattle.meaning_files.specs.Files.{AreSaidWhereReached}
 use Rattle.meaning_files.specs.Laws.{RefusedAreTold}
-use Rattle.meaning_files.specs.Views.{given_of}
+use Rattle.meaning_files.specs.Views.{given_of, HasSources}
 use Rattle.meaning_files.proofs.Faults.{import_told, round_told, unread_told}
 use Rattle.meaning_files.proofs.Imports.{all_known}
-use Rattle.meaning_files.proofs.Followed.{file_row, has_sources, file_said, is_reached}
+use Rattle.meaning_files.proofs.Followed.{file_row, followed_said, has_sources, file_said, is_reached}
 use Rattle.meaning_files.proofs.Lines.{refused_import_of}
 use Rattle.meaning_files.proofs.Lists.{dropped_at, map_at}
 use Rattle.meaning_files.proofs.Rounds.{round_at}
@@ -52,11 +53,19 @@ module _ {Y Z : Type 0} (sources : BTreeMap (String Y) (String Z)) (os : Os) (un
   abbrev Told : Type 0
   Told = IsTold (Broken w o) refusal
 
+  -- the world has files where the sources have texts
+  abbrev has : HasSources sources expansion w
+  has = has_sources sources os unstable expansion version root w s
+
   -- what the file at a place imports is refused
   module _ (h : IsRefusedBehind sources expansion version owner own first refusal) where
     -- the module's files
     abbrev own_files : List LoadedFile
     own_files = drop first h.files
+
+    -- where the world reaches them, they say what it says
+    said : AreSaidWhereReached w own_files
+    said = followed_said sources os unstable expansion version root w s owner own h.count own_files h.noted.imports h.noted.followed
 
     -- what a file names by its imports
     abbrev named : Option LoadedFile → Result (List File) Error
@@ -76,9 +85,9 @@ module _ {Y Z : Type 0} (sources : BTreeMap (String Y) (String Z)) (os : Os) (un
     by_import (Some file) is e =
         let at = among_files file is in
         let f = h.noted.followed in
-        let r = is_reached sources os unstable expansion version root w s owner own reached h.count own_files h.noted.imports f h.count file at in
-        let says = file_said sources os unstable expansion version root w s owner own reached h.count own_files h.noted.imports f h.count file at in
-        let i = refused_import_of sources file.key.now expansion w (has_sources sources os unstable expansion version root w s) file.ast.items.items (f.each h.count file at).whole.cooked says refusal e in
+        let r = is_reached sources expansion version w has owner own reached h.count own_files h.noted.imports f said h.count file at in
+        let says = file_said sources expansion version w has owner own reached h.count own_files h.noted.imports f said h.count file at in
+        let i = refused_import_of sources file.key.now expansion w has file.ast.items.items (f.each h.count file at).whole.cooked says refusal e in
         import_told w o refusal i.told i.is file.key.now i.place i.path r i.line i.nowhere
 
     -- the text of a new file is refused
@@ -90,8 +99,8 @@ module _ {Y Z : Type 0} (sources : BTreeMap (String Y) (String Z)) (os : Os) (un
     by_text found told (Some file) is e are u =
         let at = among_files file is in
         let f = h.noted.followed in
-        let r = is_reached sources os unstable expansion version root w s owner own reached h.count own_files h.noted.imports f h.count file at in
-        let row = file_row sources os unstable expansion version root w s owner own reached h.count own_files h.noted.imports f h.count file at found e in
+        let r = is_reached sources expansion version w has owner own reached h.count own_files h.noted.imports f said h.count file at in
+        let row = file_row sources expansion version w has owner own reached h.count own_files h.noted.imports f said h.count file at found e in
         let new = new_is_found (loaded_keys own_files) found u.place u.source (ap (λ fs. slice_get fs u.place) (sym are) ∙ u.there) in
         let key = u.source.0 in
         let listed : Contains (map (λ g. g.0) found) key = contains_at (map (λ g. g.0) found) new.0 key (map_at (λ g. g.0) found new.0 u.source new.1) in
@@ -109,7 +118,8 @@ module _ {Y Z : Type 0} (sources : BTreeMap (String Y) (String Z)) (os : Os) (un
       let files = drop first h.files in
       let step = h.step in
       let f = h.order.followed in
-      let round = round_at sources os unstable expansion version root w s owner own reached files h.order.imports f h.places h.order.are step.places step.cycle step.at step.importer step.imported step.from step.to in
+      let said = followed_said sources os unstable expansion version root w s owner own (length files) files h.order.imports f in
+      let round = round_at sources expansion version w has owner own reached files h.order.imports f said h.places h.order.are step.places step.cycle step.at step.importer step.imported step.from step.to in
       let from : key_of (slice_get files step.importer) ≡ key_of (slice_get h.files (first + step.importer)) = ap key_of (dropped_at h.files first step.importer) in
       let to : key_of (slice_get files step.imported) ≡ key_of (slice_get h.files (first + step.imported)) = ap key_of (dropped_at h.files first step.imported) in
       let circular = subst (λ k. IsCircular refusal (key_of (slice_get files step.importer)) k) (sym to) (subst (λ k. IsCircular refusal k (key_of (slice_get h.files (first + step.imported)))) (sym from) step.circular) in

@@ -1,10 +1,9 @@
 -- Files that import one another, and the walks of their places.
-use Rattle.std.proofs.Common.{◌≡◌, sym, ◌∙◌, ap, subst, Bool, ◌<◌, ◌+◌, ◌-◌, ◌∷◌, [], ℕ, zero, suc, List, Some, refl, arith, length, map}
+use Rattle.std.proofs.Common.{◌≡◌, sym, ◌∙◌, ap, subst, ◌<◌, ◌+◌, ◌-◌, ◌∷◌, [], ℕ, zero, suc, List, Some, refl, arith, length, map}
 use Rattle.std.specs.Prelude.{slice_get, Contains}
 use Rattle.std.specs.BTreeMap.{BTreeMap}
 use Rattle.std.specs.declared.string.String.{String}
 use Rattle.std.proofs.lemmas.Option.{none-some, same_Some, slice_get_within}
-use Rattle.just_text.specs.declared.os.Os.{Os}
 use Rattle.parse_expressions.specs.Literals.{Expansion}
 use Rattle.semver.specs.declared.Version.{Version}
 use Rattle.modules_compilation.specs.declared.module_node.File.{File}
@@ -15,13 +14,12 @@ use Rattle.resolve_order.specs.Needs.{IsCycle, Needs, Walks}
 use Rattle.meaning_worlds.specs.Given.{Text, World}
 use Rattle.meaning_worlds.specs.Modules.{imports_of, IsReadingOrder}
 use Rattle.meaning_worlds.specs.Sources.{Imports, IsFileOf, Leads, itself, further, Reached}
-use Rattle.meaning_worlds.specs.Standing.{StandsFor}
 use Rattle.meaning_worlds.proofs.Orders.{stands_once}
 use Rattle.meaning_worlds.proofs.Places.{contains_at, place_of}
 use Rattle.meaning_worlds.proofs.Reading.{orders_have_reached}
 use Rattle.meaning_worlds.proofs.Rows.{rows_are_imports}
-use Rattle.meaning_files.specs.Files.{keys_of}
-use Rattle.meaning_files.specs.Views.{given_of}
+use Rattle.meaning_files.specs.Files.{AreSaidWhereReached, keys_of}
+use Rattle.meaning_files.specs.Views.{HasSources}
 use Rattle.meaning_files.proofs.Followed.{file_of_row, file_row, in_order, is_reached, leads_first, leads_join, row_at}
 use Rattle.meaning_files.proofs.Lists.{map_at, mapped_at, other_at}
 
@@ -63,8 +61,8 @@ closed_walk needs a b n k =
     let last : suc (length k.others) ≡ length (a ∷ b ∷ k.others) - 1 = omega arith in
     (a ∷ b ∷ k.others, record { long = omega arith; closed = sym k.end ∙ ap (slice_get (a ∷ b ∷ k.others)) last; walk = (n, k.walks) })
 
-module _ {Y Z : Type 0} (sources : BTreeMap (String Y) (String Z)) (os : Os) (unstable : Bool) (expansion : Expansion) (version : Version) (root : Text) (w : World) (s : StandsFor (given_of sources os unstable expansion version root) w) (owner : ℕ)
-    (own : Text) (reached : Reached w own) (files : List File) (imports : List (List SourceFile)) (h : AreFollowed sources expansion version owner own (length files) files imports)
+module _ {Y Z : Type 0} (sources : BTreeMap (String Y) (String Z)) (expansion : Expansion) (version : Version) (w : World) (has : HasSources sources expansion w) (owner : ℕ)
+    (own : Text) (reached : Reached w own) (files : List File) (imports : List (List SourceFile)) (h : AreFollowed sources expansion version owner own (length files) files imports) (said : AreSaidWhereReached w files)
     (places : List (List ℕ)) (are : ArePlacesOfRows (keys_of files) imports places) where
   -- the keys of the files
   abbrev keys : List Text
@@ -72,7 +70,7 @@ module _ {Y Z : Type 0} (sources : BTreeMap (String Y) (String Z)) (os : Os) (un
 
   -- they stand in reading order
   order_is : IsReadingOrder w own keys
-  order_is = in_order sources os unstable expansion version root w s owner own reached files imports h
+  order_is = in_order sources expansion version w has owner own reached files imports h said
 
   -- ---- from files to places
 
@@ -96,8 +94,8 @@ module _ {Y Z : Type 0} (sources : BTreeMap (String Y) (String Z)) (os : Os) (un
   at_place : (place : ℕ) (key : Text) → slice_get keys place ≡ Some key → IsAt place key
   at_place place key e =
       let f = mapped_at (λ f. f.key.now) files place key e in
-      let r = row_at sources os unstable expansion version root w s owner own reached (length files) files imports h place f.0 (slice_get_within files place f.0 f.1) f.1 in
-      let row = file_row sources os unstable expansion version root w s owner own reached (length files) files imports h place f.0 f.1 r.0 r.2 in
+      let r = row_at sources expansion version w has owner own reached (length files) files imports h said place f.0 (slice_get_within files place f.0 f.1) f.1 in
+      let row = file_row sources expansion version w has owner own reached (length files) files imports h said place f.0 f.1 r.0 r.2 in
       let p = places_at place r.0 r.1 in
       record { row = r.0; numbers = p.0; here = p.1; is_row = p.2; named = row ∙ ap (imports_of w) f.2 }
 
@@ -161,8 +159,8 @@ module _ {Y Z : Type 0} (sources : BTreeMap (String Y) (String Z)) (os : Os) (un
   imports_by a b n =
       let r = other_at (map (λ f. Some f.0)) (map (slice_get keys)) imports places (sym are) a n.row n.here in
       let row = r.0 in
-      let f = file_of_row sources os unstable expansion version root w s owner own reached (length files) files imports h a row r.1 in
-      let named = file_row sources os unstable expansion version root w s owner own reached (length files) files imports h a f.0 f.1 row f.2 in
+      let f = file_of_row sources expansion version w has owner own reached (length files) files imports h said a row r.1 in
+      let named = file_row sources expansion version w has owner own reached (length files) files imports h said a f.0 f.1 row f.2 in
       let k = place_of n.row b n.listed in
       let g = other_at (λ g. Some g.0) (slice_get keys) row n.row r.2 k.0 b k.1 in
       let to : key_at b ≡ g.0.0 = key_at_is b g.0.0 (sym g.2) in
@@ -174,8 +172,8 @@ module _ {Y Z : Type 0} (sources : BTreeMap (String Y) (String Z)) (os : Os) (un
   needs_reached : (a b : ℕ) → Needs places a b → Reached w (key_at a)
   needs_reached a b n =
       let r = other_at (map (λ f. Some f.0)) (map (slice_get keys)) imports places (sym are) a n.row n.here in
-      let f = file_of_row sources os unstable expansion version root w s owner own reached (length files) files imports h a r.0 r.1 in
-      subst (Reached w) (sym (ap key_of f.1)) (is_reached sources os unstable expansion version root w s owner own reached (length files) files imports h a f.0 f.1)
+      let f = file_of_row sources expansion version w has owner own reached (length files) files imports h said a r.0 r.1 in
+      subst (Reached w) (sym (ap key_of f.1)) (is_reached sources expansion version w has owner own reached (length files) files imports h said a f.0 f.1)
 
   -- a walk is a way of imports
   leads_on : (n a b : ℕ) (others : List ℕ) → Walks places (a ∷ others) → slice_get (a ∷ others) n ≡ Some b → (count : ℕ) × Leads w (key_at a) count (key_at b)

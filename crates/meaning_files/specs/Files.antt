@@ -3,7 +3,7 @@ use Rattle.std.specs.Prelude.{◌≡◌, ℕ, min, List, Some, map, slice_get}
 use Rattle.tree_items.specs.Files.{item_shapes}
 use Rattle.modules_compilation.specs.declared.module_node.File.{File}
 use Rattle.meaning_worlds.specs.Given.{Text, World, filled}
-use Rattle.meaning_worlds.specs.Sources.{Imports, IsDepth, IsFileOf, Leads}
+use Rattle.meaning_worlds.specs.Sources.{Imports, IsDepth, IsFileOf, Leads, Reached}
 use Rattle.meaning_worlds.specs.Modules.{IsReadingOrder}
 
 abbrev pub keys_of : List File → List Text
@@ -13,6 +13,10 @@ module _ (w : World) where
   -- the file says what the world says at its key
   abbrev pub IsSaid : File → Type 0
   IsSaid file = w.said file.key.now ≡ Some (filled (item_shapes file.ast.items.items))
+
+  -- so does each of the files that the world reaches
+  abbrev pub AreSaidWhereReached : List File → Type 0
+  AreSaidWhereReached files = (place : ℕ) (file : File) → slice_get files place ≡ Some file → Reached w file.key.now → IsSaid file
 
   module _ (owner : ℕ) (own : Text) where
     -- the file is one of the module, which has this number and this own file, as deep as imports lead to it

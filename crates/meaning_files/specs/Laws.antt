@@ -16,16 +16,14 @@ use Rattle.meaning_worlds.specs.Sources.{ImportsAt, IsFileOf, Reached}
 use Rattle.meaning_worlds.specs.Standing.{StandsFor}
 use Rattle.meaning_rules.specs.Rules.{Broken, LeadsNowhere}
 use Rattle.meaning_rules.specs.Told.{IsTold}
-use Rattle.meaning_files.specs.Files.{AreFiles}
-use Rattle.meaning_files.specs.Views.{given_of}
+use Rattle.meaning_files.specs.Files.{AreFiles, AreSaidWhereReached}
+use Rattle.meaning_files.specs.Views.{given_of, HasSources}
 
 module _ {Y Z : Type 0} (sources : BTreeMap (String Y) (String Z)) where
-  -- these are the files of a module whose own file the world reaches, and the world is one that the sources stand for
+  -- these are the files of a module whose own file the world reaches; where it reaches them, they say what the world says
   pub record AreLoadedFiles (expansion : Expansion) (version : Version) (w : World) (owner : ℕ) (own : Text) (files : List File) : Type 0 where
-    pub os : Os
-    pub unstable : Bool
-    pub root : Text
-    pub stands : StandsFor (given_of sources os unstable expansion version root) w
+    pub has : HasSources sources expansion w
+    pub said : AreSaidWhereReached w files
     pub own_reached : Reached w own
     pub are : AreFilesOf sources expansion version owner own files
 
@@ -38,9 +36,10 @@ module _ {Y Z : Type 0} (sources : BTreeMap (String Y) (String Z)) where
   LoadedImportThere = (expansion : Expansion) (version : Version) (w : World) (owner : ℕ) (own : Text) (files : List File) → AreLoadedFiles expansion version w owner own files
       → (file : Text) (place : ℕ) (path told : Text) → IsFileOf w own file → ImportsAt w file place false path → LeadsNowhere w file path told → ⊥
 
-  -- none of them is refused
+  -- none of them is refused, in a world that the sources stand for
   abbrev pub LoadedAreFaultless : Type 0
-  LoadedAreFaultless = FaultsSayNothing → (expansion : Expansion) (version : Version) (w : World) (owner : ℕ) (own : Text) (files : List File) → AreLoadedFiles expansion version w owner own files
+  LoadedAreFaultless = FaultsSayNothing → (os : Os) (unstable : Bool) (expansion : Expansion) (version : Version) (root : Text) (w : World) → StandsFor (given_of sources os unstable expansion version root) w
+      → (owner : ℕ) (own : Text) (files : List File) → AreLoadedFiles expansion version w owner own files
       → (file : Text) (kind : CompileErrorKind) → IsFileOf w own file → w.refused file kind ≡ true → ⊥
 
   -- where the files of a module are refused, a rule is broken that the refusal names

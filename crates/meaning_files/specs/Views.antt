@@ -1,5 +1,5 @@
 -- What is seen of files and modules, and which worlds the arguments of a call that compiles stand for.
-use Rattle.std.specs.Prelude.{◌≡◌, ℕ, Bool, List, Option, map, is_some}
+use Rattle.std.specs.Prelude.{◌≡◌, Bool, map, is_some}
 use Rattle.std.specs.BTreeMap.{BTreeMap}
 use Rattle.std.specs.Option.{option_map}
 use Rattle.std.specs.declared.string.String.{String}

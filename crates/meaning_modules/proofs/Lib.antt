@@ -1,7 +1,9 @@
 pub mod Ranges
 pub mod Waiting
+pub mod Said
 pub mod Started
 pub mod Loaded
+pub mod There
 pub mod Numbers
 pub mod Inner
 pub mod Rounds

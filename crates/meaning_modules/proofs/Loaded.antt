@@ -39,12 +39,14 @@ module _ {Y Z : Type 0} (sources : BTreeMap (String Y) (String Z)) (files_law : 
   abbrev pub started : AreStarted sources w files modules
   started = record {
     os = h.os;
-    unstable = h.unstable;
     expansion = h.expansion;
     version = h.version;
     root = h.root;
     start = h.start;
-    stands = h.stands;
+    has = h.has;
+    same_os = h.same_os;
+    same_root = h.same_root;
+    said = h.said;
     has_root = h.are.root;
     all = h.are.modules;
     lookup = h.are.lookup;
@@ -116,7 +118,7 @@ module _ {Y Z : Type 0} (sources : BTreeMap (String Y) (String Z)) (files_law : 
   pub complete : (path : List Text) (own : Text) → IsModule w path own → HasPlace w files modules path own
   complete _ _ root_module =
       let root = h.are.root in
-      record { k = 0; node = root.node; there = root.first; source = root.source ∙ sym h.stands.same_root; has_path = root_path (mapped node_view modules 0 root.node root.first) root.parent }
+      record { k = 0; node = root.node; there = root.first; source = root.source ∙ sym h.same_root; has_path = root_path (mapped node_view modules 0 root.node root.first) root.parent }
   complete _ _ (inside_module {path} {own} {file} {name} {key} is of sub) =
       let r = complete path own is in
       (inner_child path r.k r.node r.there r.has_path file name key (subst (λ o. IsFileOf w o file) (sym r.source) of) sub).place

@@ -1,17 +1,23 @@
 -- Numbers rise through all files.
-use Rattle.std.proofs.Common.{◌≡◌, sym, ◌∙◌, ap, subst, ◌<◌, ◌+◌, ◌++◌, ◌∷◌, [], ℕ, zero, suc, List, refl, append_assoc, arith, length, length-append, map}
+use Rattle.std.proofs.Common.{◌≡◌, inl, inr, sym, ◌∙◌, ap, subst, ◌<◌, ◌≤◌, ◌+◌, ◌++◌, ◌∷◌, [], ℕ, zero, suc, List, Some, refl, append_assoc, arith, length, length-append, map}
+use Rattle.std.specs.Prelude.{slice_get}
 use Rattle.std.specs.Cmp.{nat_cmp_is}
-use Rattle.std.specs.List.{AllByRecursion, flat_map}
+use Rattle.std.specs.List.{All, AllByRecursion, flat_map}
 use Rattle.std.specs.List.Sorted.{IsStrictlySortedBy}
 use Rattle.std.specs.Ordering.{nat_cmp}
 use Rattle.std.specs.declared.cmp.Ordering.TheVariants.{Less}
 use Rattle.std.proofs.lemmas.List.{append-nil}
+use Rattle.std.proofs.lemmas.List.Elements.{All-cons, All-nil}
+use Rattle.std.proofs.lemmas.Option.{none-some}
 use Rattle.just_text.specs.Numbers.{Numbers}
 use Rattle.parse_recipes.specs.Numbering.{count_from}
 use Rattle.justfile_syntax.specs.Numbered.{bindings_in, recipes_in}
 use Rattle.modules_compilation.specs.declared.module_node.File.{File}
 use Rattle.modules_sources.specs.ReadingOrder.{AreNumbered, numbered_more, numbered_none}
+use Rattle.modules_sources.proofs.Reaching.{end_cases}
+use Rattle.meaning_worlds.specs.Compiled.{FileView}
 use Rattle.meaning_files.specs.Views.{file_view}
+use Rattle.meaning_files.proofs.Lists.{mapped_at}
 
 -- ---- numbers one after the other
 
@@ -92,3 +98,26 @@ bindings_rise start next files so = subst (IsStrictlySortedBy nat_cmp) (sym (vie
 
 pub recipes_rise : (start next : Numbers) (files : List File) → AreNumbered start files next → IsStrictlySortedBy nat_cmp (flat_map (λ f. f.recipes) (map file_view files))
 recipes_rise start next files so = subst (IsStrictlySortedBy nat_cmp) (sym (view_recipes files ∙ (counted so).recipes)) (sorted start.recipes (length (recipes_of files)))
+
+-- ---- none is less than the first
+
+at_least : (low start n : ℕ) → low ≤ start → All (λ number. low ≤ number) (count_from start n)
+at_least low start zero le = All-nil (λ number. low ≤ number)
+at_least low start (suc n) le = All-cons (λ number. low ≤ number) start (count_from (start + 1) n) le (at_least low (start + 1) n (omega (arith, le)))
+
+file_above : {start next : Numbers} {files : List File} → AreNumbered start files next → (low : ℕ) → low ≤ start.bindings
+    → (k : ℕ) (file : File) → slice_get files k ≡ Some file → All (λ number. low ≤ number) (bindings_in file.ast.items.items)
+file_above (numbered_none {numbers}) low le k file e = absurd (none-some file e)
+file_above (numbered_more {old} {now} {new} {files} last so in_order) low le k file e = elim (end_cases files last k file e) [
+  | inl there ↦ file_above so low le k file there
+  | inr at ↦
+      let n = (counted so).next_binding in
+      subst (λ f. All (λ number. low ≤ number) (bindings_in f.ast.items.items)) at.1
+      (subst (All (λ number. low ≤ number)) (sym in_order.bindings) (at_least low now.bindings (length (bindings_in last.ast.items.items)) (omega (arith, le, n))))
+]
+
+pub bindings_above : (start next : Numbers) (files : List File) → AreNumbered start files next → (low : ℕ) → low ≤ start.bindings
+    → (k : ℕ) (view : FileView) → slice_get (map file_view files) k ≡ Some view → All (λ number. low ≤ number) view.bindings
+bindings_above start next files so low le k view e =
+    let at = mapped_at file_view files k view e in
+    subst (λ v. All (λ number. low ≤ number) v.bindings) at.2 (file_above so low le k at.0 at.1)

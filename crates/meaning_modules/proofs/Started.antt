@@ -1,6 +1,6 @@
 -- The modules that are loaded so far are modules of the world.
 use Rattle.std.proofs.Common.{◌≡◌, sym, ◌∙◌, ap, subst, ◌<◌, ◌≤◌, ◌+◌, ◌-◌, ◌++◌, ◌∷◌, [], ℕ, zero, suc, List, Some, None, true, refl, arith, map}
-use Rattle.std.specs.Prelude.{slice_get, option_map, Bool}
+use Rattle.std.specs.Prelude.{slice_get, option_map}
 use Rattle.std.specs.BTreeMap.{BTreeMap}
 use Rattle.std.specs.declared.string.String.{String}
 use Rattle.std.proofs.lemmas.Option.{same_Some}
@@ -18,26 +18,28 @@ use Rattle.modules_sources.specs.Loaded.{AllLoaded, AllLoadedBelow, files_of, Ha
 use Rattle.modules_sources.specs.Submodules.{AreFound, Found, Waiting, waiting}
 use Rattle.meaning_worlds.specs.Given.{Text, World}
 use Rattle.meaning_worlds.specs.Sources.{MayMean, Reached, root as root_reached}
-use Rattle.meaning_worlds.specs.Standing.{StandsFor}
 use Rattle.meaning_worlds.specs.Modules.{IsModule, root as root_module, inside as inside_module}
 use Rattle.meaning_worlds.specs.Compiled.{HasItem, root as root_path, inside as inside_path}
 use Rattle.meaning_worlds.proofs.Reached.{own_reached}
-use Rattle.meaning_files.specs.Files.{AreFiles, IsFile}
+use Rattle.meaning_files.specs.Files.{AreFiles, AreSaidWhereReached, IsFile}
 use Rattle.meaning_files.specs.Laws.{LoadedAreFiles}
-use Rattle.meaning_files.specs.Views.{file_view, given_of, name_text, node_view}
+use Rattle.meaning_files.specs.Views.{file_view, HasSources, name_text, node_view}
 use Rattle.meaning_submodules.specs.Submodules.{AreSubmodules, FoundAreSubmodules}
 use Rattle.meaning_modules.specs.Modules.{IsModuleAt}
 use Rattle.meaning_modules.proofs.Ranges.{in_range, mapped, there_within}
+use Rattle.meaning_modules.proofs.Said.{range_said}
 
--- Modules are loaded, the root's first and each other for a submodule of one of them; others may wait.
+-- Modules are loaded, the root's first and each other for a submodule of one of them; others may wait. Where the world reaches their files, they say what the world says.
 pub record AreStarted {Y Z : Type 0} (sources : BTreeMap (String Y) (String Z)) (w : World) (files : List File) (modules : List ModuleNode) : Type 0 where
   pub os : Os
-  pub unstable : Bool
   pub expansion : Expansion
   pub version : Version
   pub root : Text
   pub start : Numbers
-  pub stands : StandsFor (given_of sources os unstable expansion version root) w
+  pub has : HasSources sources expansion w
+  pub same_os : w.os ≡ os
+  pub same_root : w.root ≡ root
+  pub said : AreSaidWhereReached w files
   pub has_root : HasRoot root modules
   pub all : AllLoaded sources expansion version os start true files modules
   pub lookup : Files
@@ -49,10 +51,8 @@ module _ {Y Z : Type 0} (sources : BTreeMap (String Y) (String Z)) (files_law : 
   -- the files of a module whose own file is reached
   node_files : (k : ℕ) (node : ModuleNode) → slice_get modules k ≡ Some node → Reached w node.source.now → AreFiles w k node.source.now (files_of files node)
   node_files k node e reached = files_law h.expansion h.version w k node.source.now (files_of files node) (record {
-    os = h.os;
-    unstable = h.unstable;
-    root = h.root;
-    stands = h.stands;
+    has = h.has;
+    said = range_said w node.first_file node.end_file files h.said;
     own_reached = reached;
     are = (h.all k node e).own_files refl;
   })
@@ -76,8 +76,8 @@ module _ {Y Z : Type 0} (sources : BTreeMap (String Y) (String Z)) (files_law : 
         there = f.1;
         is = is;
         submodules = λ found are. submodules_law h.expansion w h.os h.lookup f.0.key.now f.0.ast.items.items found (record {
-          has = record { same_expansion = h.stands.same_expansion; there = h.stands.there };
-          same_os = h.stands.same_os;
+          has = h.has;
+          same_os = h.same_os;
           looks_up = h.looks_up;
           cooked = read.whole.cooked;
           says = is.says;
@@ -93,7 +93,7 @@ module _ {Y Z : Type 0} (sources : BTreeMap (String Y) (String Z)) (files_law : 
       let root = h.has_root in
       let same = same_Some root.node node (sym root.first ∙ e) in
       let no_parent : node.parent ≡ None = ap (λ n. n.parent) (sym same) ∙ root.parent in
-      let own : w.root ≡ node.source.now = h.stands.same_root ∙ sym root.source ∙ ap (λ n. n.source.now) same in
+      let own : w.root ≡ node.source.now = h.same_root ∙ sym root.source ∙ ap (λ n. n.source.now) same in
       let reached = subst (Reached w) own root_reached in
       record {
         path = [];

@@ -1,5 +1,5 @@
 //! Laws of modules that are loaded.
-ghost use Rattle.meaning_modules.specs.Laws.{LoadedAreModules, LoadedAreSaid};
+ghost use Rattle.meaning_modules.specs.Laws.{LoadedAreModules, LoadedAreSaid, WorldIsThere};
 
 use std::collections::BTreeMap;
 
@@ -8,4 +8,9 @@ use std::collections::BTreeMap;
 pub fn loaded_modules(sources: &BTreeMap<String, String>)
     ensures modules { LoadedAreModules sources.now }
     ensures said { LoadedAreSaid sources.now }
+{}
+
+/// For each justfile that is loaded there is a world that its sources stand for.
+pub fn its_world(sources: &BTreeMap<String, String>)
+    ensures { WorldIsThere sources.now }
 {}

@@ -47,14 +47,14 @@ module _ (w : World) (compilation : Compilation) (is : IsOfWorld w compilation) 
       same_name a b e = ap (λ (p : Kind × Text). p.1) (same_Some (an_alias, a) (an_alias, b) e)
 
   -- an alias of the world is one of the compilation
-  record IsAliasHere (own : Text) (a : AliasShape) : Type 0 where
+  pub record IsAliasHere (own : Text) (a : AliasShape) : Type 0 where
     pub k : ℕ
     pub alias : Alias (List Name)
     pub keeps : KeepsAlias w compilation k alias
     pub source : keeps.node.source.now ≡ own
     pub shape : alias_shape alias ≡ a
 
-  alias_here : (own : Text) (a : AliasShape) → HasAlias w own a → IsAliasHere own a
+  pub alias_here : (own : Text) (a : AliasShape) → HasAlias w own a → IsAliasHere own a
   alias_here own a ((path, m), (attributes, kept)) =
       let c = is.complete path own m in
       let node = node_of w compilation is c.0 path c.1 in

@@ -22,11 +22,11 @@ module _ (w : World) (compilation : Compilation) (is : IsOfWorld w compilation) 
   pub node_is : IsNode w (views w compilation) (nodes w compilation) k (node_view node)
   node_is = is.sound k (node_view node) (mapped node_view compilation.modules.items k node here)
 
-  abbrev recipes : AreRecipes w (views w compilation) (nodes w compilation) (node_view node)
+  abbrev pub recipes : AreRecipes w (views w compilation) (nodes w compilation) (node_view node)
   recipes = node_is.recipes
 
   -- the recipe that stands at a place of the list has the name there
-  listed : (n : ℕ) (name : Text) (place : Place) → slice_get recipes.names n ≡ Some name → slice_get node.recipes.items n ≡ Some place → KeepsRecipe w compilation node name place × (text_at compilation place ≡ name)
+  pub listed : (n : ℕ) (name : Text) (place : Place) → slice_get recipes.names n ≡ Some name → slice_get node.recipes.items n ≡ Some place → KeepsRecipe w compilation node name place × (text_at compilation place ≡ name)
   listed n name place e f =
       let s = recipes.are.sound n name place e f in
       let r = is_recipe w.os s.2 name s.4.defines.is in

@@ -30,17 +30,17 @@ use Rattle.meaning_worlds.proofs.Kept.{keeps_at_most_one}
 
 module _ (w : World) where
   -- the first name of a path leads to a submodule
-  record Into (own name : Text) (names : List Text) (key : Text) : Type 0 where
+  pub record Into (own name : Text) (names : List Text) (key : Text) : Type 0 where
     pub file : Text
     pub inner : Text
     pub of : IsFileOf w own file
     pub is : IsSubmodule w file name inner
     pub leads : LeadsTo w inner names key
 
-  first_into : (own name key : Text) (names : List Text) → LeadsTo w own (name ∷ names) key → Into own name names key
+  pub first_into : (own name key : Text) (names : List Text) → LeadsTo w own (name ∷ names) key → Into own name names key
   first_into own name key names (into {file = file} {inner = inner} f s l) = record { file = file; inner = inner; of = f; is = s; leads = l }
 
-  stays : (own key : Text) (names : List Text) → names ≡ [] → LeadsTo w own names key → own ≡ key
+  pub stays : (own key : Text) (names : List Text) → names ≡ [] → LeadsTo w own names key → own ≡ key
   stays own _ _ e here = refl
   stays own key _ e (into f s l) = absurd (cc e)
 
@@ -83,7 +83,7 @@ nothing_leads compilation [] = refl
 nothing_leads compilation (name ∷ names) = nothing_leads compilation names
 
 module _ (w : World) (compilation : Compilation) (is : IsOfWorld w compilation) (single : AreSingle w compilation) where
-  leads_here : (k : ℕ) (node : ModuleNode) → HasNode w compilation k node → LeadsFrom w compilation k node [] k node
+  pub leads_here : (k : ℕ) (node : ModuleNode) → HasNode w compilation k node → LeadsFrom w compilation k node [] k node
   leads_here k node there = record {
     there = there;
     below = λ above has. subst (HasPath w (views w compilation) (nodes w compilation) k) (sym (append-nil above)) has;
@@ -93,7 +93,7 @@ module _ (w : World) (compilation : Compilation) (is : IsOfWorld w compilation) 
 
   -- from a submodule on
   module _ (k : ℕ) (node : ModuleNode) (at_k : HasNode w compilation k node) (name : Text) (place : ℕ) (submodule : ModuleNode) (i : IsInner w compilation k node name place submodule) where
-    leads_into : (names : List Text) (inner : ℕ) (last : ModuleNode) → LeadsFrom w compilation place submodule names inner last → LeadsFrom w compilation k node (name ∷ names) inner last
+    pub leads_into : (names : List Text) (inner : ℕ) (last : ModuleNode) → LeadsFrom w compilation place submodule names inner last → LeadsFrom w compilation k node (name ∷ names) inner last
     leads_into names inner last l = record {
       there = l.there;
       below = λ above has.

@@ -1,3 +1,4 @@
 pub mod Names
 pub mod Modules
 pub mod Targets
+pub mod Meant

@@ -213,7 +213,7 @@ module _ (w : World) where
 
   -- ---- names
 
-  -- definitions whose expressions are looked at: those that are kept, of functions and settings all
+  -- definitions whose expressions are looked at: those that are kept
   pub data IsLooked (own : Text) : ItemShape → Type 0 where
     looked : {kind : Kind} {name : Text} {item : ItemShape} {path : List Text} → IsModule w path own → Keeps w own kind name item → IsLooked own item
 

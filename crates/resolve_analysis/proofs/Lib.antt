@@ -7,3 +7,6 @@ pub mod Mapped
 pub mod Rows
 pub mod Kept
 pub mod Numbered
+pub mod Done
+pub mod Same
+pub mod Named

@@ -1,1 +1,6 @@
+pub mod Earlier
 pub mod Gathered
+pub mod Itself
+pub mod Seeing
+pub mod Variables
+pub mod Whole

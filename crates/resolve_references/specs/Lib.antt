@@ -4,3 +4,4 @@ pub mod ItemReferences
 pub mod Numbered
 pub mod Places
 pub mod References
+pub mod Seen

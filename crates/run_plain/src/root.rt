@@ -6,7 +6,7 @@ ghost use Rattle.justfile_syntax.specs.Plain.{plain_of};
 ghost use Rattle.run_plain.specs.Inputs.{root_at, text_at, given, reader_of};
 ghost use Rattle.run_plain.specs.Drives.{verdict};
 ghost use Rattle.run_plain.specs.Stages.{IsTold, IsRoot};
-ghost use Rattle.run_plain.specs.Rooted.{IsRootless, IsMissing};
+ghost use Rattle.run_plain.specs.Rooted.{IsFileRead, IsRootless, IsMissing};
 ghost use Rattle.std.specs.Option.{option_map};
 ghost use Rattle.std.specs.String.{string_bytes};
 
@@ -103,7 +103,7 @@ fn root_of<'src>(
     plain: Result<Option<Ast<'src>>, AllocError>,
     numerator: Numerator,
 ) -> Result<Root<'src>, AllocError>
-    ensures { IfOk result (λ root. (root.path.now ≡ path.now) × (plain.entry ≡ Ok root.plain)) }
+    ensures { IfOk result (λ root. (root.path.now ≡ path.now) × (plain.entry ≡ Ok root.plain) × (root.file ≡ file.entry) × (root.numerator ≡ numerator)) }
 {
     match plain {
         Ok(plain) => Ok(Root {
@@ -131,6 +131,7 @@ pub fn read_root<'src, E: Expander>(
     version: &Version,
 ) -> Result<Root<'src>, Fault<'src>>
     ensures ok { IfOk result (λ root. IsRoot (given (reader_of (E.expansion expander.now) version.now) sources.now roots.now words.now) root.path.now (option_map shape_of root.plain)) }
+    ensures read { IfOk result (λ root. IsFileRead (given (reader_of (E.expansion expander.now) version.now) sources.now roots.now words.now) root.path.now root.file root.numerator) }
     ensures err { IfErr result (λ fault. IsTold (given (reader_of (E.expansion expander.now) version.now) sources.now roots.now words.now) (verdict fault)) }
 {
     file_law();

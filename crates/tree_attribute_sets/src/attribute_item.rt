@@ -42,7 +42,8 @@ fn print_arguments(alloc: Global, attribute: &Attribute) -> Result<Text, AllocEr
 
 impl<'src> AttributeItem<'src> {
     ghost use Rattle.std.specs.Prelude.{option_map};
-    ghost use Rattle.tree_attribute_sets.specs.Sets.{group_of, is_of, written_item};
+    ghost use Rattle.tree_attribute_sets.specs.Numbering.{IsNumberedItem};
+    ghost use Rattle.tree_attribute_sets.specs.Sets.{group_of, is_of};
 
     /// Prints the attribute's arguments, once and for all comparisons.
     pub fn new(
@@ -86,7 +87,7 @@ impl<'src> AttributeItem<'src> {
     /// Gives the variables in the attribute their numbers, those of an `env` the environment's. Takes
     /// no memory.
     pub(crate) fn number_variables<N: VariableNumbers>(&mut self, numbers: &N, environment: &N)
-        ensures { written_item self.new ≡ written_item self.old }
+        ensures { IsNumberedItem (N.number numbers.now) (N.number environment.now) self.old self.new }
     {
         number_attribute(&mut self.attribute, numbers, environment);
     }

@@ -33,6 +33,7 @@ impl Drop for AttributeSet<'_> {
 impl<'src> AttributeSet<'src> {
     ghost use Rattle.tree_attribute_sets.specs.Sets as spec;
     ghost use Rattle.tree_attribute_sets.specs.Sets.{items_of};
+    ghost use Rattle.tree_attribute_sets.specs.Numbering.{AreNumberedItems};
 
     /// The empty set, which takes no memory.
     pub fn new(alloc: Global) -> AttributeSet<'src>
@@ -109,7 +110,8 @@ impl<'src> AttributeSet<'src> {
     /// Gives the variables in the attributes their numbers, those of an `env` the environment's. Takes
     /// no memory.
     pub fn number_variables<N: VariableNumbers>(&mut self, numbers: &N, environment: &N)
-        ensures { map spec.written_item (items_of self.new) ≡ map spec.written_item (items_of self.old) }
+        ensures written { map spec.written_item (items_of self.new) ≡ map spec.written_item (items_of self.old) }
+        ensures numbered { AreNumberedItems (N.number numbers.now) (N.number environment.now) (items_of self.old) (items_of self.new) }
     {
         for index in 0..self.items.len() {
             self.items[index].number_variables(numbers, environment);

@@ -1,6 +1,8 @@
 //! Numbers for the variables of attributes.
 ghost use Rattle.std.specs.Prelude.{◌≡◌, map};
+ghost use Rattle.tree_attribute_sets.specs.Numbering.{AreNumberedItems};
 ghost use Rattle.tree_attribute_sets.specs.Sets.{items_of, written_item};
+ghost use Rattle.tree_items.specs.Resolving.{number_for};
 
 use crate::variables::context::ExpressionContext;
 use crate::variables::resolving::Scope;
@@ -15,7 +17,8 @@ pub fn resolve_attributes<'a, 'src>(
     environment: &'a ExpressionContext<'src>,
     bindings: &'a ExpressionContext<'src>,
 )
-    ensures { map written_item (items_of attributes.new) ≡ map written_item (items_of attributes.old) }
+    ensures written { map written_item (items_of attributes.new) ≡ map written_item (items_of attributes.old) }
+    ensures numbered { AreNumberedItems (number_for context.now bindings.now) (number_for environment.now bindings.now) (items_of attributes.old) (items_of attributes.new) }
 {
     let inside = Scope { context, bindings };
     let outside = Scope {

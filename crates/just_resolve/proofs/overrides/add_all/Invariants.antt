@@ -4,7 +4,7 @@ use Rattle.std.specs.List.{list_all}
 use Rattle.std.specs.Option.{option_or}
 use Rattle.evaluate_variables.specs.Opened.{overridden}
 use Rattle.resolve_recipes.specs.Named.{AllByName}
-use Rattle.just_resolve.specs.Overrides.{is_named, text_given}
+use Rattle.resolve_analysis.specs.Overriding.{is_named, text_given}
 use Rattle.just_resolve.proofs.overrides.add_all.Given as goal
 
 abbrev pub invariant-loop-one : goal.invariant-loop-one

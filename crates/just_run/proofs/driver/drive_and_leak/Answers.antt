@@ -4,6 +4,7 @@ pub returns : goal.returns
 returns g c = record {
   plain = c.drive_words.ensures.plain;
   early = c.drive_words.ensures.early;
+  sources = c.drive_words.ensures.sources;
   silent = c.drive_words.ensures.silent;
   kept = c.drive_words.ensures.kept;
   unfailed = c.drive_words.ensures.unfailed;

@@ -1,4 +1,5 @@
-use Rattle.std.proofs.Common.{option_map, ap, subst}
+use Rattle.std.proofs.Common.{◌∙◌, sym, inl, inr, option_map, ap, subst}
+use Rattle.std.proofs.lemmas.Option.{none-some}
 use Rattle.justfile_syntax.specs.PlainShapes.{shape_of}
 use Rattle.run_plain.specs.Stages.{IsRoot}
 use Rattle.run_plain.specs.Setup.{setup_of}
@@ -41,3 +42,9 @@ returns-in-Run-clause-unfailed g c = answer_fails (g.O.Out.failed c.args.out.now
 
 pub returns-in-Run-clause-asks : goal.returns-in-Run-clause-asks
 returns-in-Run-clause-asks g c = rw c.in-Run.ensures.0 c.run_plain.ensures.asks
+
+pub returns-in-Run-clause-sources : goal.returns-in-Run-clause-sources
+returns-in-Run-clause-sources g c = λ whole. absurd (none-some c.in-Run.recipes (sym (whole (inl c.in-Run.ensures.0)) ∙ c.in-Run.ensures.1))
+
+pub returns-in-Plan-clause-sources : goal.returns-in-Plan-clause-sources
+returns-in-Plan-clause-sources g c = λ whole. absurd (none-some c.in-Plan.recipes (sym (whole (inr c.in-Plan.ensures.0)) ∙ c.in-Plan.ensures.1))

@@ -1,4 +1,4 @@
-use Rattle.std.proofs.Common.{sym, subst}
+use Rattle.std.proofs.Common.{sym, subst, refl}
 use Rattle.std.proofs.lemmas.Result.{err_from_is_err_and}
 use Rattle.std.specs.Option.{option_map}
 use Rattle.just_host.specs.AskingLaws.{asked_nothing}
@@ -11,6 +11,9 @@ use Rattle.run_plain.specs.Drives.{verdict}
 use Rattle.run_plain.specs.Stages.{IsRoot, IsTold}
 use Rattle.just_run.proofs.Driven.{ran_out_answers, told_answers_plain}
 use Rattle.just_run.specs.Plain.{fault_of}
+use Rattle.just_run.specs.Sources.{unread}
+use Rattle.just_run.proofs.Sources.{told_of_root}
+use Rattle.run_plain.specs.declared.fault.Fault.TheVariants as plain_faults
 use Rattle.just_run.proofs.Failed.{no_write_fails, plain_is_no_write}
 use Rattle.just_run.proofs.driver.drive_words.Goals as goal
 
@@ -57,3 +60,19 @@ pub returns-in_err-root-clause-unfailed : goal.returns-in_err-root-clause-unfail
 returns-in_err-root-clause-unfailed g c =
     let p = err_from_is_err_and c.from_residual-in_err-root.result c.from_residual-in_err-root.ensures.1 in
     rw (p.1, p.2) (no_write_fails (g.O.Out.failed c.args.out.now) (fault_of c.in_err-root.field-0.0) (plain_is_no_write c.in_err-root.field-0.0))
+
+pub returns-in_err-words-clause-sources : goal.returns-in_err-words-clause-sources
+returns-in_err-words-clause-sources g c = λ all.
+    let p = err_from_is_err_and c.from_residual.result c.from_residual.ensures.1 in
+    rw (p.1, p.2) (unread plain_faults.OutOfMemory refl tt)
+
+pub returns-in_err-root-clause-sources : goal.returns-in_err-root-clause-sources
+returns-in_err-root-clause-sources g c = λ all.
+    let p = err_from_is_err_and c.from_residual-in_err-root.result c.from_residual-in_err-root.ensures.1 in
+    rw (p.1, p.2) (unread c.in_err-root.field-0.0 refl
+    (subst (λ w. IsTold (given (reader_of (g.E.Expander.expansion c.args.expander.now) c.args.config.now.version) c.args.sources.now c.args.roots.now w) (verdict c.in_err-root.field-0.0)) c.in_ok-words.ensures c.in_err-root.ensures.err))
+
+pub returns-clause-sources : goal.returns-clause-sources
+returns-clause-sources g c = rw (sym c.in_ok-words.ensures) (λ all.
+    told_of_root c.args.sources.now c.args.roots.now c.in_ok-words.words (g.E.Expander.expansion c.args.expander.now) c.args.config.now.version c.args.config.now.os c.args.config.now.unstable c.args.action c.in_ok-root.root.path.now c.in_ok-root.root.file c.in_ok-root.root.numerator c.in_ok-root.root.plain
+    c.drive_root.result c.in_ok-root.ensures.read c.in_ok-root.ensures.ok all c.drive_root.ensures.sources)

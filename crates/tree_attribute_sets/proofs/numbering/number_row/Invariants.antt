@@ -1,7 +1,7 @@
--- The expressions are written as before.
-use Rattle.std.proofs.Common.{◌≡◌, map}
-use Rattle.tree_expressions.specs.Shape.{shape_of}
+-- The expressions up to the index are numbered.
+use Rattle.tree_expressions.specs.Numbering.{IsNumbered}
+use Rattle.tree_attribute_sets.proofs.InTurn.{AreUpTo}
 use Rattle.tree_attribute_sets.proofs.numbering.number_row.Given as goal
 
 abbrev pub invariant-loop-index : goal.invariant-loop-index
-invariant-loop-index g l = map shape_of l.expressions.items ≡ map shape_of l.initial.expressions.items
+invariant-loop-index g l = AreUpTo (IsNumbered (g.N.VariableNumbers.number l.numbers)) l.initial.expressions.items l.expressions.items l.index

@@ -4,7 +4,7 @@ use Rattle.modules_sources.specs.Loaded.{AreLoaded, first_numbers}
 use Rattle.just_modules.proofs.Refusing.{refused_by_either}
 use Rattle.just_modules.proofs.ByName.{all_by_name, fresh_of}
 use Rattle.meaning_rules.specs.Rules.{Broken}
-use Rattle.just_modules.proofs.Compiling.{none_broken, refused_told, told_unless}
+use Rattle.just_modules.proofs.Compiling.{after_constants, has_world, meant, none_broken, refused_told, told_unless}
 use Rattle.just_modules.proofs.Made.{made}
 use Rattle.just_modules.proofs.Keeping.{filled_whole, kept_both, kept_gives, kept_says, ok_holds, refusal_gives}
 use Rattle.just_modules.proofs.compiler.Compiler.compile.Goals as goal
@@ -43,6 +43,24 @@ returns-clause-made g c = kept_gives c.settled.result c.settled.ensures.filled (
     let os = c.args.config.now.os in
     let loaded = ok_holds (AreLoaded sources expansion version os first_numbers true c.args.root.now) c.load_root-loaded.result h.0 h.1 c.load_root-loaded.ensures.loaded in
     made sources expansion version os c.args.config.now.unstable first_numbers c.args.root.now h.0 compilation loaded h.2 w stands)
+
+pub returns-clause-meant : goal.returns-clause-meant
+returns-clause-meant g c = kept_gives c.settled.result c.settled.ensures.filled (λ compilation h w stands.
+    let sources = c.args.sources.now in
+    let expansion = g.E.Expander.expansion c.args.expander.now in
+    let version = c.args.config.now.version in
+    let os = c.args.config.now.os in
+    let loaded = ok_holds (AreLoaded sources expansion version os first_numbers true c.args.root.now) c.load_root-loaded.result h.0 h.1 c.load_root-loaded.ensures.loaded in
+    meant sources expansion version os c.args.config.now.unstable first_numbers c.args.root.now h.0 compilation loaded h.2 w stands after_constants)
+
+pub returns-clause-there : goal.returns-clause-there
+returns-clause-there g c = kept_says c.settled.result c.settled.ensures.filled (returns-clause-aliases g c) (λ compilation filled lead.
+    let sources = c.args.sources.now in
+    let expansion = g.E.Expander.expansion c.args.expander.now in
+    let version = c.args.config.now.version in
+    let os = c.args.config.now.os in
+    let loaded = ok_holds (AreLoaded sources expansion version os first_numbers true c.args.root.now) c.load_root-loaded.result filled.0 filled.1 c.load_root-loaded.ensures.loaded in
+    has_world sources expansion version os c.args.config.now.unstable first_numbers c.args.root.now c.file_law.ensures.texts c.file_law.ensures.faults filled.0 loaded)
 
 pub returns-clause-clear : goal.returns-clause-clear
 returns-clause-clear g c = kept_says c.settled.result c.settled.ensures.filled (returns-clause-aliases g c) (λ compilation filled lead w stands.

@@ -8,7 +8,7 @@ use Rattle.just_modules.specs.Refused.{IsRefused}
 use Rattle.just_modules.proofs.Refusing.{refused_by_either, refused_under}
 use Rattle.just_modules.proofs.ByName.{all_by_name, fresh_of}
 use Rattle.meaning_rules.specs.Rules.{Broken}
-use Rattle.just_modules.proofs.Compiling.{none_broken, refused_told, told_unless}
+use Rattle.just_modules.proofs.Compiling.{has_world, meant, none_broken, refused_told, told_unless}
 use Rattle.just_modules.proofs.Made.{made}
 use Rattle.just_modules.proofs.Keeping.{filled_whole, kept_both, kept_gives, kept_says, ok_holds, refusal_gives}
 use Rattle.just_modules.proofs.compiler.Compiler.compile_parsed.Goals as goal
@@ -58,6 +58,26 @@ returns-clause-made g c = kept_gives c.settled.result c.settled.ensures.filled (
     let loaded = ok_holds (λ (loaded : Compilation). (start : Numbers) (is_read : Bool) → (is_read ≡ true → IsRootRead sources expansion version start c.args.root.now c.args.parsed) → AreLoaded sources expansion version os start is_read c.args.root.now loaded)
     c.load_modules-loaded.result h.0 h.1 c.load_modules-loaded.ensures.loaded in
     made sources expansion version os c.args.config.now.unstable start c.args.root.now h.0 compilation (loaded start true (λ e. read)) h.2 w stands)
+
+pub returns-clause-meant : goal.returns-clause-meant
+returns-clause-meant g c = kept_gives c.settled.result c.settled.ensures.filled (λ compilation h start after read w stands.
+    let sources = c.args.sources.now in
+    let expansion = g.E.Expander.expansion c.args.expander.now in
+    let version = c.args.config.now.version in
+    let os = c.args.config.now.os in
+    let loaded = ok_holds (λ (loaded : Compilation). (start : Numbers) (is_read : Bool) → (is_read ≡ true → IsRootRead sources expansion version start c.args.root.now c.args.parsed) → AreLoaded sources expansion version os start is_read c.args.root.now loaded)
+    c.load_modules-loaded.result h.0 h.1 c.load_modules-loaded.ensures.loaded in
+    meant sources expansion version os c.args.config.now.unstable start c.args.root.now h.0 compilation (loaded start true (λ e. read)) h.2 w stands after)
+
+pub returns-clause-there : goal.returns-clause-there
+returns-clause-there g c = kept_says c.settled.result c.settled.ensures.filled (returns-clause-aliases g c) (λ compilation filled lead start read.
+    let sources = c.args.sources.now in
+    let expansion = g.E.Expander.expansion c.args.expander.now in
+    let version = c.args.config.now.version in
+    let os = c.args.config.now.os in
+    let loaded = ok_holds (λ (loaded : Compilation). (start : Numbers) (is_read : Bool) → (is_read ≡ true → IsRootRead sources expansion version start c.args.root.now c.args.parsed) → AreLoaded sources expansion version os start is_read c.args.root.now loaded)
+    c.load_modules-loaded.result filled.0 filled.1 c.load_modules-loaded.ensures.loaded in
+    has_world sources expansion version os c.args.config.now.unstable start c.args.root.now c.file_law.ensures.texts c.file_law.ensures.faults filled.0 (loaded start true (λ e. read)))
 
 pub returns-clause-clear : goal.returns-clause-clear
 returns-clause-clear g c = kept_says c.settled.result c.settled.ensures.filled (returns-clause-aliases g c) (λ compilation filled lead start read w stands.

@@ -1,16 +1,9 @@
--- The texts are given, and what comes of them is refused.
-use Rattle.std.proofs.Common.{◌≢◌}
-use Rattle.std.proofs.lemmas.Result.{IfErr-weaker}
-use Rattle.resolve_recipes.specs.Named.{AllByName}
-use Rattle.just_resolve.specs.Analysis.{IsRefused, IsRefusedWith, others}
-use Rattle.just_resolve.specs.declared.error.Error.TheVariants.{OutOfMemory}
+-- What is resolved breaks no rule on names, and a refusal names one that is broken.
+use Rattle.just_resolve.proofs.Judged.{clear_of, named_of}
 use Rattle.just_resolve.proofs.analyzer.Analyzer.analyze.Goals as goal
 
-pub returns-clause-refused : goal.returns-clause-refused
-returns-clause-refused c =
-    let compilation = c.args.compilation.now in
-    let overrides = c.in_ok-overrides.overrides in
-    IfErr-weaker c.analyzed.result (λ error. error ≢ OutOfMemory → AllByName compilation → IsRefusedWith compilation overrides error)
-    (λ error. error ≢ OutOfMemory → AllByName compilation → IsRefused compilation c.args.overrides.now error)
-    (λ error refused some all. others overrides (c.in_ok-overrides.ensures.given all) (refused some all))
-    c.analyzed.ensures.refused
+pub returns-clause-clear : goal.returns-clause-clear
+returns-clause-clear c = clear_of c.args.compilation.now _ c.args.overrides.now c.analyze_words.result c.analyze_words.ensures.analysis
+
+pub returns-clause-broken : goal.returns-clause-broken
+returns-clause-broken c = named_of c.args.compilation.now c.args.overrides.now c.analyze_words.result c.analyze_words.ensures.refused

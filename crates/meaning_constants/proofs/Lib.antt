@@ -1,0 +1,13 @@
+pub mod Unfiled
+pub mod Expressions
+pub mod Forms
+pub mod Languages
+pub mod Kept
+pub mod Lists
+pub mod Marked
+pub mod Named
+pub mod Ordered
+pub mod Variables
+pub mod Settings
+pub mod Seen
+pub mod Broken

@@ -1,0 +1,17 @@
+pub mod Lists
+pub mod Counting
+pub mod Kept
+pub mod Standing
+pub mod Leading
+pub mod Outcomes
+pub mod Needing
+pub mod Led
+pub mod Told
+pub mod Cycles
+pub mod Walks
+pub mod Ranks
+pub mod Disabled
+pub mod Dropped
+pub mod Missing
+pub mod Refused
+pub mod Clear

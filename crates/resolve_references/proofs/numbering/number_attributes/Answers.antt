@@ -1,0 +1,11 @@
+-- Attributes that are numbered are written as before, and have the numbers of what they see.
+use Rattle.tree_attribute_sets.specs.Sets.{items_of}
+use Rattle.resolve_references.proofs.Seeing.{attributes_numbered}
+use Rattle.resolve_references.proofs.Whole.{shapes_from_written}
+use Rattle.resolve_references.proofs.numbering.number_attributes.Goals as goal
+
+pub returns-clause-shapes : goal.returns-clause-shapes
+returns-clause-shapes c = shapes_from_written (items_of c.args.attributes.now) (items_of c.resolve_attributes.new.attributes) c.resolve_attributes.ensures.written
+
+pub returns-clause-numbers : goal.returns-clause-numbers
+returns-clause-numbers c = attributes_numbered c.args.names.now.parameters.now c.args.names.now.bindings.now c.new-none.result c.new-none.ensures (items_of c.args.attributes.now) (items_of c.resolve_attributes.new.attributes) c.resolve_attributes.ensures.numbered
