@@ -3,3 +3,5 @@ pub mod Asking
 pub mod Blocks
 pub mod Entering
 pub mod Around
+pub mod Openings
+pub mod Memory

@@ -1,5 +1,6 @@
 pub mod Calls
 pub mod Placed
+pub mod Opening
 pub mod Ran
 pub mod Asked
 pub mod Entered

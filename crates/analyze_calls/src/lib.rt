@@ -6,11 +6,13 @@ mod block;
 mod call;
 mod confirm;
 mod enter;
+pub mod fault;
 mod opening;
 mod plan;
 
 pub use call::{Call, Done, Pending};
 pub use enter::{Entered, begin, end, enter_recipe};
+pub use fault::OpeningFault;
 pub use justfile_evaluator::RunFault;
 pub use opening::{Opened, Opening, open_modules};
 pub use plan::{Placed, Planned, Runner};

@@ -1,10 +1,18 @@
 //! What modules open with: their files of variables, and their variables' values.
+ghost use Rattle.std.specs.Prelude.{◌≡◌, ◌∷◌, [], Err, IfOk, List, Some, false, map, true};
 ghost use Rattle.just_host.specs.Kinds.{AsksQuestions, AsksRequests};
+ghost use Rattle.just_host.specs.declared.host.HostFault.TheVariants.{Memory};
+ghost use Rattle.evaluate_context.specs.Environment.{variable};
+ghost use Rattle.evaluate_context.specs.Surroundings as by;
+ghost use Rattle.analyze_calls.specs.declared.fault.OpeningFault.TheVariants.{OutOfMemory};
+ghost use Rattle.meaning_opening.specs.Requests.{Requests};
+ghost use Rattle.analyze_calls.specs.Opening.{IfOpened, IsContextOf, IsFilled, IsTold, OpensAfter, OpensAll, OpensOne, asks_for, opened_row, opened_rows, passed, request_if_any, request_in};
 
+use crate::fault::OpeningFault;
 use just_host::{Config, DotenvRequest, HostFault, Pair, Recorded, RunHost};
 use just_text::{Number, Sequence, Text};
 use just_value::{Scope, Value};
-use justfile_evaluator::{ExecutionContext, ModuleView, RunFault, Settings, open_assignments};
+use justfile_evaluator::{ExecutionContext, ModuleView, Settings, open_assignments};
 use std::alloc::{AllocError, Global};
 use std::collections::{BTreeMap, BTreeSet};
 
@@ -34,7 +42,9 @@ pub struct Opened<'c, 'src> {
 }
 
 /// Whether the settings ask for files of variables.
-fn asks(settings: &Settings) -> bool {
+fn asks(settings: &Settings) -> bool
+    ensures { result ≡ asks_for settings.now }
+{
     settings.dotenv_load
         || settings.dotenv_override
         || settings.dotenv_required
@@ -43,7 +53,10 @@ fn asks(settings: &Settings) -> bool {
         || !settings.dotenv_command.is_empty()
 }
 
-fn texts(alloc: Global, value: &Value) -> Result<Sequence<Text>, AllocError> {
+/// The value's texts.
+fn texts(alloc: Global, value: &Value) -> Result<Sequence<Text>, AllocError>
+    ensures { IfOk result (λ texts. texts ≡ value.now) }
+{
     let mut texts = Sequence::new(alloc);
     for element in value {
         texts.push(Text::from_text(alloc, element.as_str())?)?;
@@ -52,7 +65,9 @@ fn texts(alloc: Global, value: &Value) -> Result<Sequence<Text>, AllocError> {
 }
 
 /// Which files of variables are read, and how.
-fn request(alloc: Global, context: &ExecutionContext) -> Result<DotenvRequest, AllocError> {
+fn request(alloc: Global, context: &ExecutionContext) -> Result<DotenvRequest, AllocError>
+    ensures { IfOk result (λ request. request ≡ request_in context.now.config.now context.now.module.now) }
+{
     let settings = context.module.settings;
     let folder = context.working_directory(alloc)?;
     Ok(DotenvRequest {
@@ -67,7 +82,9 @@ fn request(alloc: Global, context: &ExecutionContext) -> Result<DotenvRequest, A
 }
 
 /// The pairs by their names; of equal names the last counts.
-fn by_name(alloc: Global, pairs: Sequence<Pair>) -> Result<BTreeMap<String, String>, AllocError> {
+fn by_name(alloc: Global, pairs: Sequence<Pair>) -> Result<BTreeMap<String, String>, AllocError>
+    ensures { IfOk result (λ values. map variable values.entries ≡ by.by_name pairs) }
+{
     let mut values = BTreeMap::new(alloc);
     for pair in pairs.into_vec() {
         values.insert(pair.name.into_string(), pair.value.into_string())?;
@@ -79,11 +96,14 @@ fn by_name(alloc: Global, pairs: Sequence<Pair>) -> Result<BTreeMap<String, Stri
 fn told<'src>(
     asked: Result<Sequence<Pair>, HostFault>,
     is_exhausted: bool,
-) -> Result<Sequence<Pair>, RunFault<'src>> {
+) -> Result<Sequence<Pair>, OpeningFault<'src>>
+    ensures open { is_exhausted ≡ false → result ≡ passed asked }
+    ensures exhausted { is_exhausted ≡ true → asked ≡ Err Memory → result ≡ Err OutOfMemory }
+{
     match asked {
         Ok(pairs) => Ok(pairs),
-        Err(HostFault::Memory) if is_exhausted => Err(RunFault::OutOfMemory),
-        Err(fault) => Err(RunFault::Dotenv(fault)),
+        Err(HostFault::Memory) if is_exhausted => Err(OpeningFault::OutOfMemory),
+        Err(fault) => Err(OpeningFault::Dotenv(fault)),
     }
 }
 
@@ -91,8 +111,9 @@ fn told<'src>(
 fn ask_dotenv<'src, H: RunHost + Drop>(
     host: &mut Recorded<H>,
     request: &DotenvRequest,
-) -> Result<Sequence<Pair>, RunFault<'src>>
+) -> Result<Sequence<Pair>, OpeningFault<'src>>
     ensures asks { AsksRequests H.goes host.old host.new }
+    ensures requests { IfOpened (λ pairs. pairs) result (Requests (Some request.now) host.old.entries host.new.entries) }
 {
     let asked = host.dotenv(request);
     told(asked, host.exhausted())
@@ -103,8 +124,9 @@ fn read_dotenv<'src, H: RunHost + Drop>(
     alloc: Global,
     host: &mut Recorded<H>,
     context: &ExecutionContext<'_, 'src>,
-) -> Result<BTreeMap<String, String>, RunFault<'src>>
+) -> Result<BTreeMap<String, String>, OpeningFault<'src>>
     ensures asks { AsksRequests H.goes host.old host.new }
+    ensures told { IfOpened (λ values. map variable values.entries) result (IsTold (request_if_any context.now.config.now context.now.module.now) host.old.entries host.new.entries) }
 {
     if !asks(context.module.settings) {
         return Ok(BTreeMap::new(alloc));
@@ -115,11 +137,16 @@ fn read_dotenv<'src, H: RunHost + Drop>(
 }
 
 impl<'a, 'src> Opening<'a, 'src> {
+    /// In what the module's variables are evaluated.
     fn context(
         &self,
         module: &'a ModuleView<'a, 'src>,
         dotenv: &'a BTreeMap<String, String>,
-    ) -> ExecutionContext<'a, 'src> {
+    ) -> ExecutionContext<'a, 'src>
+        ensures context { (pairs : List Pair) → map variable dotenv.now.entries ≡ by.by_name pairs → IsContextOf self.now module.now pairs result }
+        ensures config { result.config.now ≡ self.now.config.now }
+        ensures view { result.module.now ≡ module.now }
+    {
         ExecutionContext {
             config: self.config,
             dotenv,
@@ -138,8 +165,9 @@ fn dotenv_of<'x, 'src, H: RunHost + Drop>(
     opening: &Opening<'x, 'src>,
     module: &'x ModuleView<'x, 'src>,
     none: &'x BTreeMap<String, String>,
-) -> Result<BTreeMap<String, String>, RunFault<'src>>
+) -> Result<BTreeMap<String, String>, OpeningFault<'src>>
     ensures asks { AsksRequests H.goes host.old host.new }
+    ensures told { IfOpened (λ values. map variable values.entries) result (IsTold (request_if_any opening.now.config.now module.now) host.old.entries host.new.entries) }
 {
     let context = opening.context(module, none);
     read_dotenv(alloc, host, &context)
@@ -153,8 +181,10 @@ fn fill<'x, 'src, H: RunHost + Drop>(
     module: &'x ModuleView<'x, 'src>,
     dotenv: &'x BTreeMap<String, String>,
     scope: &mut Scope<'_, 'src>,
-) -> Result<(), RunFault<'src>>
+) -> Result<(), OpeningFault<'src>>
     ensures asks { AsksQuestions H.goes host.old host.new }
+    ensures around { scope.new.outer ≡ scope.old.outer }
+    ensures fills { (pairs : List Pair) → map variable dotenv.now.entries ≡ by.by_name pairs → scope.old.own ≡ [] → scope.old.outer ≡ opening.now.constants.now.own ∷ opening.now.constants.now.outer → IfOpened (λ done. scope.new.own) result (IsFilled opening.now module.now pairs host.old.entries host.new.entries) }
 {
     let context = opening.context(module, dotenv);
     let wanted = if module.settings.lazy {
@@ -164,7 +194,7 @@ fn fill<'x, 'src, H: RunHost + Drop>(
     };
     match open_assignments(alloc, host, &context, scope, wanted) {
         Ok(()) => Ok(()),
-        Err(error) => Err(RunFault::opening(error)),
+        Err(error) => Err(OpeningFault::from(error)),
     }
 }
 
@@ -175,8 +205,9 @@ fn open_module<'c, 'src, H: RunHost + Drop>(
     opening: &Opening<'c, 'src>,
     place: usize,
     module: &ModuleView<'_, 'src>,
-) -> Result<Opened<'c, 'src>, RunFault<'src>>
+) -> Result<Opened<'c, 'src>, OpeningFault<'src>>
     ensures asks { AsksRequests H.goes host.old host.new }
+    ensures opens { IfOpened opened_row result (OpensOne opening.now place module.now host.old.entries host.new.entries) }
 {
     let none = BTreeMap::new(alloc);
     let dotenv = dotenv_of(alloc, host, &*opening, &*module, &none)?;
@@ -203,8 +234,9 @@ fn push_opened<'c, 'src, H: RunHost + Drop>(
     modules: &[ModuleView<'_, 'src>],
     place: usize,
     opened: &mut Vec<Opened<'c, 'src>>,
-) -> Result<(), RunFault<'src>>
+) -> Result<(), OpeningFault<'src>>
     ensures asks { AsksRequests H.goes host.old host.new }
+    ensures opens { IfOpened (λ done. opened_rows opened.new.items) result (OpensAfter opening.now modules.now place (opened_rows opened.old.items) host.old.entries host.new.entries) }
 {
     if place >= modules.len() {
         return Ok(());
@@ -222,8 +254,9 @@ pub fn open_modules<'c, 'src, H: RunHost + Drop>(
     opening: &Opening<'c, 'src>,
     modules: &[ModuleView<'_, 'src>],
     order: &[usize],
-) -> Result<Vec<Opened<'c, 'src>>, RunFault<'src>>
+) -> Result<Vec<Opened<'c, 'src>>, OpeningFault<'src>>
     ensures asks { AsksRequests H.goes host.old host.new }
+    ensures opens { IfOpened (λ all. opened_rows all.items) result (OpensAll opening.now modules.now order.now host.old.entries host.new.entries) }
 {
     let mut opened = Vec::new(alloc);
     for place in order {

@@ -7,6 +7,8 @@ mod stack;
 mod steps;
 pub mod tally;
 
-pub use analyze_calls::{Call, Opened, Opening, Planned, RunFault, Runner, open_modules};
+pub use analyze_calls::{
+    Call, Opened, Opening, OpeningFault, Planned, RunFault, Runner, open_modules,
+};
 pub use running::run_calls;
 pub use tally::Tally;

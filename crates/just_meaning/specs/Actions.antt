@@ -13,7 +13,8 @@ use Rattle.meaning_runs.specs.Failures.{Failure, next_by}
 use Rattle.meaning_calls.specs.Named.{VariableName, VariableRow, ModuleRow, Modules, no_module, a_module, Definitions, paths_of}
 use Rattle.modules_compilation.specs.Modulepaths.{pieces}
 use Rattle.meaning_calls.specs.Scopes.{Configuration, Scene, surroundings_in}
-use Rattle.just_meaning.specs.Opening.{reading_in, Held, held, Opened, OpeningFault, OpensAll, named, opening_standing, scene_in, pairs_of, variable_says, IsOpened}
+use Rattle.just_meaning.specs.Opening.{reading_in, Held, held, Opened, OpensAll, named, opening_standing, scene_in, pairs_of, variable_says, IsOpened}
+use Rattle.meaning_opening.specs.Requests.{OpeningFailure}
 use Rattle.just_meaning.specs.Runs.{pairs_at, values_at}
 use Rattle.meaning_calls.specs.Calling.{without_next}
 use Rattle.meaning_runs.specs.Task.{Task, TaskLeads, ends, hands, line}
@@ -133,7 +134,7 @@ pub data BreaksText : List (List ℕ) → ActionRule → Type 0 where
 
 pub data ActionEnd : Type 0 where
   refused : ActionRule → ActionEnd
-  not_opened : OpeningFault → ActionEnd
+  not_opened : OpeningFailure → ActionEnd
   command_failed : Failure → ActionEnd
   written : List ℕ → ActionEnd
   unwritten : ActionEnd
@@ -152,7 +153,7 @@ module _ (c : Configuration) (defined : Definitions) where
   -- Evaluating: all variables of all modules open; then the text of what the word names is written.
   pub data EvaluateGoes (writes : Bool) (words : List (List ℕ)) : List Entry → List Entry → ActionEnd → Type 0 where
     by_word : {old : List Entry} {rule : ActionRule} → BreaksEvaluate defined words rule → EvaluateGoes writes words old old (refused rule)
-    by_opening : {old new : List Entry} {target : Target} {fault : OpeningFault} → target_of defined words ≡ Some target → OpensAll c defined (IsKept defined) (paths_of defined.modules) old new (Err fault)
+    by_opening : {old new : List Entry} {target : Target} {fault : OpeningFailure} → target_of defined words ≡ Some target → OpensAll c defined (IsKept defined) (paths_of defined.modules) old new (Err fault)
         → EvaluateGoes writes words old new (not_opened fault)
     evaluated : {old new : List Entry} {target : Target} (opened : List Opened) → target_of defined words ≡ Some target → OpensAll c defined (IsKept defined) (paths_of defined.modules) old new (Ok opened)
         → EvaluateGoes writes words old new (writing writes (evaluated_text defined opened target))
@@ -160,7 +161,7 @@ module _ (c : Configuration) (defined : Definitions) where
   -- Handing over one command: the variables open that open where no recipe is invoked; then the command.
   pub data CommandGoes (words : List (List ℕ)) : List Entry → List Entry → ActionEnd → Type 0 where
     by_word : {old : List Entry} {rule : ActionRule} → BreaksCommand words rule → CommandGoes words old old (refused rule)
-    by_opening : {old new : List Entry} {word : List ℕ} {others : List (List ℕ)} {fault : OpeningFault} → words ≡ word ∷ others
+    by_opening : {old new : List Entry} {word : List ℕ} {others : List (List ℕ)} {fault : OpeningFailure} → words ≡ word ∷ others
         → OpensAll c defined (IsOpened defined c.no_dependencies []) (paths_of defined.modules) old new (Err fault) → CommandGoes words old new (not_opened fault)
     commanded : {old mid new : List Entry} {word : List ℕ} {others : List (List ℕ)} {row : ModuleRow} {end : Result (Unit {0}) Failure} (opened : List Opened) → words ≡ word ∷ others
         → defined.inside [] ≡ Some row → OpensAll c defined (IsOpened defined c.no_dependencies []) (paths_of defined.modules) old mid (Ok opened)

@@ -6,7 +6,8 @@ use Rattle.meaning_dialogues.specs.Faults.{Fault}
 use Rattle.meaning_calls.specs.Named.{VariableName, Call, ModuleRow, Definitions}
 use Rattle.meaning_calls.specs.Scopes.{Configuration}
 use Rattle.meaning_runs.specs.Told.{Answers, Agrees, AgreesThere}
-use Rattle.just_meaning.specs.Opening.{Held, Opened, OpeningFault, exported_names, Fills, all, has_value, has_none, OpensOne, not_told, opened, refused, OpensAll, none_left, one_more, fault_here, fault_later}
+use Rattle.just_meaning.specs.Opening.{Held, Opened, exported_names, Fills, all, has_value, has_none, OpensOne, not_told, opened, refused, OpensAll, none_left, one_more, fault_here, fault_later}
+use Rattle.meaning_opening.specs.Requests.{OpeningFailure}
 use Rattle.meaning_runs.specs.Tallies.{Tally}
 use Rattle.just_meaning.specs.Runs.{Outcome, Runs}
 use Rattle.just_meaning.specs.Runs as runs
@@ -30,12 +31,12 @@ module _ (f : Answers) (c : Configuration) (defined : Definitions) where
   AgreesFills {path = path} (has_value {old = old} {mid = mid} value side goes others) = AgreesFrom f (exported_names defined path) old mid × AgreesFills others
   AgreesFills {path = path} (has_none {old = old} {new = new} side goes) = AgreesFrom f (exported_names defined path) old new
 
-  abbrev pub AgreesOne : {Open : VariableName → Type 0} {path : List (List ℕ)} {old new : List Entry} {r : Result Opened OpeningFault} → OpensOne c defined Open path old new r → Type 0
+  abbrev pub AgreesOne : {Open : VariableName → Type 0} {path : List (List ℕ)} {old new : List Entry} {r : Result Opened OpeningFailure} → OpensOne c defined Open path old new r → Type 0
   AgreesOne {path = path} (not_told {old = old} {new = new} row request) = AgreesFrom f (exported_names defined path) old new
   AgreesOne {path = path} (opened {old = old} {mid = mid} row request order fills) = AgreesFrom f (exported_names defined path) old mid × AgreesFills fills
   AgreesOne {path = path} (refused {old = old} {mid = mid} row request order fills) = AgreesFrom f (exported_names defined path) old mid × AgreesFills fills
 
-  abbrev pub AgreesAll : {Open : VariableName → Type 0} {paths : List (List (List ℕ))} {old new : List Entry} {r : Result (List Opened) OpeningFault} → OpensAll c defined Open paths old new r → Type 0
+  abbrev pub AgreesAll : {Open : VariableName → Type 0} {paths : List (List (List ℕ))} {old new : List Entry} {r : Result (List Opened) OpeningFailure} → OpensAll c defined Open paths old new r → Type 0
   AgreesAll none_left = Unit {0}
   AgreesAll (one_more o os) = AgreesOne o × AgreesAll os
   AgreesAll (fault_here o) = AgreesOne o

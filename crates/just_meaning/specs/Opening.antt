@@ -2,9 +2,6 @@
 use Rattle.std.specs.Prelude.{◌≡◌, ℕ, List, [], ◌∷◌, ◌++◌, Bool, true, false, ◌||◌, cond, Option, Some, None, Result, Ok, Err, map, Contains, codes}
 use Rattle.std.specs.Str.{bytes_eq}
 use Rattle.just_host.specs.declared.entry.Entry.{Entry}
-use Rattle.just_host.specs.declared.entry.Entry.TheVariants.{Dotenv}
-use Rattle.just_host.specs.declared.host.HostFault.{HostFault}
-use Rattle.just_host.specs.declared.job.DotenvRequest.{DotenvRequest}
 use Rattle.just_host.specs.declared.job.Pair.{Pair}
 use Rattle.just_value.specs.Constants.{constant_rows}
 use Rattle.meaning_dialogues.specs.Faults.{Fault}
@@ -19,6 +16,7 @@ use Rattle.meaning_dialogues.specs.Written.{term_in, unnumbered}
 use Rattle.meaning_calls.specs.Scopes.{defined_in, Configuration, Scene, surroundings_in, exported_pair}
 use Rattle.just_meaning.specs.Reading.{VariableReads, RecipeReads}
 use Rattle.meaning_runs.specs.Counts.{each_once}
+use Rattle.meaning_opening.specs.Requests.{OpeningFailure, Requests, opening}
 
 abbrev pub named : List (List ℕ) → List ℕ → VariableName
 named path name = record { path = path; name = name }
@@ -139,17 +137,6 @@ abbrev pub pairs_of : Definitions → List (List ℕ) → List Held → List Pai
 pairs_of defined path [] = []
 pairs_of defined path (h ∷ hs) = exported_pair (is_exported defined (named path h.name)) h.name h.value ++ pairs_of defined path hs
 
--- why an opening ends early
-pub data OpeningFault : Type 0 where
-  dotenv : HostFault → OpeningFault
-  opening : Fault → OpeningFault
-
--- the pairs that a module asks for, where its settings ask for any
-pub data Requests : Option DotenvRequest → List Entry → List Entry → Result (List Pair) OpeningFault → Type 0 where
-  unasked : {log : List Entry} → Requests None log log (Ok [])
-  told : {old new : List Entry} {request : DotenvRequest} {pairs : List Pair} → new ≡ old ++ Dotenv request (Ok pairs) ∷ [] → Requests (Some request) old new (Ok pairs)
-  refused : {old new : List Entry} {request : DotenvRequest} {fault : HostFault} → new ≡ old ++ Dotenv request (Err fault) ∷ [] → Requests (Some request) old new (Err (dotenv fault))
-
 -- a module that is open
 pub record Opened : Type 0 where
   pub path : List (List ℕ)
@@ -170,19 +157,19 @@ module _ (c : Configuration) (defined : Definitions) where
         → Fills path row pairs values (name ∷ names) old new (Err fault)
 
   -- one module: its pairs, and then its variables in some order
-  pub data OpensOne (Open : VariableName → Type 0) (path : List (List ℕ)) : List Entry → List Entry → Result Opened OpeningFault → Type 0 where
-    not_told : {row : ModuleRow} {old new : List Entry} {fault : OpeningFault} → defined.inside path ≡ Some row → Requests row.request old new (Err fault) → OpensOne Open path old new (Err fault)
+  pub data OpensOne (Open : VariableName → Type 0) (path : List (List ℕ)) : List Entry → List Entry → Result Opened OpeningFailure → Type 0 where
+    not_told : {row : ModuleRow} {old new : List Entry} {fault : OpeningFailure} → defined.inside path ≡ Some row → Requests row.request old new (Err fault) → OpensOne Open path old new (Err fault)
     opened : {row : ModuleRow} {old mid new : List Entry} {pairs : List Pair} {names : List (List ℕ)} {values : List Held} → defined.inside path ≡ Some row → Requests row.request old mid (Ok pairs)
         → IsOrder defined Open path names → Fills path row pairs [] names mid new (Ok values) → OpensOne Open path old new (Ok (record { path = path; pairs = pairs; values = values }))
     refused : {row : ModuleRow} {old mid new : List Entry} {pairs : List Pair} {names : List (List ℕ)} {fault : Fault} → defined.inside path ≡ Some row → Requests row.request old mid (Ok pairs)
         → IsOrder defined Open path names → Fills path row pairs [] names mid new (Err fault) → OpensOne Open path old new (Err (opening fault))
 
   -- modules in order; the first fault ends it
-  pub data OpensAll (Open : VariableName → Type 0) : List (List (List ℕ)) → List Entry → List Entry → Result (List Opened) OpeningFault → Type 0 where
+  pub data OpensAll (Open : VariableName → Type 0) : List (List (List ℕ)) → List Entry → List Entry → Result (List Opened) OpeningFailure → Type 0 where
     none_left : {log : List Entry} → OpensAll Open [] log log (Ok [])
     one_more : {path : List (List ℕ)} {paths : List (List (List ℕ))} {old mid new : List Entry} {o : Opened} {os : List Opened}
         → OpensOne Open path old mid (Ok o) → OpensAll Open paths mid new (Ok os) → OpensAll Open (path ∷ paths) old new (Ok (o ∷ os))
-    fault_here : {path : List (List ℕ)} {paths : List (List (List ℕ))} {old new : List Entry} {fault : OpeningFault}
+    fault_here : {path : List (List ℕ)} {paths : List (List (List ℕ))} {old new : List Entry} {fault : OpeningFailure}
         → OpensOne Open path old new (Err fault) → OpensAll Open (path ∷ paths) old new (Err fault)
-    fault_later : {path : List (List ℕ)} {paths : List (List (List ℕ))} {old mid new : List Entry} {o : Opened} {fault : OpeningFault}
+    fault_later : {path : List (List ℕ)} {paths : List (List (List ℕ))} {old mid new : List Entry} {o : Opened} {fault : OpeningFailure}
         → OpensOne Open path old mid (Ok o) → OpensAll Open paths mid new (Err fault) → OpensAll Open (path ∷ paths) old new (Err fault)

@@ -12,7 +12,8 @@ use Rattle.meaning_calls.specs.Named.{RecipeName, Call, Definitions, paths_of}
 use Rattle.just_meaning.specs.Menus.{menu_of}
 use Rattle.meaning_runs.specs.Invokes.{WordRule, Invoke, BreaksWords}
 use Rattle.meaning_calls.specs.Scopes.{Configuration}
-use Rattle.just_meaning.specs.Opening.{Held, Opened, OpeningFault, OpensAll, IsOpened, reading_in, pairs_of}
+use Rattle.just_meaning.specs.Opening.{Held, Opened, OpensAll, IsOpened, reading_in, pairs_of}
+use Rattle.meaning_opening.specs.Requests.{OpeningFailure}
 use Rattle.meaning_calls.specs.Calling.{Ground, acts}
 use Rattle.meaning_runs.specs.Acts.{host_parts}
 use Rattle.meaning_runs.specs.Parts.{Parts}
@@ -49,7 +50,7 @@ module _ (c : Configuration) (defined : Definitions) where
     pub run : Goes (steps opened) false [] old t calls done new t' failure
     pub counted : IsCounted (steps opened) run
 
-  abbrev pub Opens : List Call → List Entry → List Entry → Result (List Opened) OpeningFault → Type 0
+  abbrev pub Opens : List Call → List Entry → List Entry → Result (List Opened) OpeningFailure → Type 0
   Opens calls = OpensAll c defined (IsOpened defined c.no_dependencies (map (λ call. call.recipe) calls)) (paths_of defined.modules)
 
 -- how a run ends: a rule is broken, the listing is written, or not, its opening was refused, a recipe failed, or it ran
@@ -58,7 +59,7 @@ pub data Outcome (Rule : Type 0) : Type 0 where
   broken_word : WordRule → Outcome Rule
   listed : Outcome Rule
   unwritten : Outcome Rule
-  not_opened : OpeningFault → Outcome Rule
+  not_opened : OpeningFailure → Outcome Rule
   failed : Failure → Outcome Rule
   ran : Outcome Rule
 
@@ -68,7 +69,7 @@ outcome_of (Some failure) = failed failure
 
 -- The opening, and after it, where nothing was refused, the run of the invocations over what was opened.
 pub data Runs {Rule : Type 0} (c : Configuration) (defined : Definitions) (calls : List Call) : List Entry → Tally → List Entry → Tally → Outcome Rule → Type 0 where
-  refused : {old new : List Entry} {t : Tally} {fault : OpeningFault} → Opens c defined calls old new (Err fault) → Runs c defined calls old t new t (not_opened fault)
+  refused : {old new : List Entry} {t : Tally} {fault : OpeningFailure} → Opens c defined calls old new (Err fault) → Runs c defined calls old t new t (not_opened fault)
   opened : {old mid new : List Entry} {t t' : Tally} {opened : List Opened} {failure : Option Failure} → Opens c defined calls old mid (Ok opened) → HasRun c defined opened calls mid t new t' failure
       → Runs c defined calls old t new t' (outcome_of failure)
 

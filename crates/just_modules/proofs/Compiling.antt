@@ -10,8 +10,8 @@ use Rattle.just_text.specs.Numbers.{Numbers}
 use Rattle.just_text.specs.Tokens.{lexeme}
 use Rattle.just_text.specs.declared.os.Os.{Os}
 use Rattle.tree_items.specs.Paths.{path_names}
-use Rattle.parse_expressions.specs.Literals.{Expansion}
-use Rattle.parse_attributed_items.specs.Held.{IsOwnItem}
+use Rattle.parse_expressions.specs.Literals.{Expansion, from_file}
+use Rattle.parse_attributed_items.specs.Held.{IsItemCooked, IsOwnItem}
 use Rattle.justfile_syntax.specs.Laws.{FaultsSayNothing, SaysAtMostOne}
 use Rattle.semver.specs.declared.Version.{Version}
 use Rattle.just_value.specs.Constants.{constant_rows}
@@ -40,8 +40,8 @@ use Rattle.meaning_modules.proofs.Ranges.{there_within}
 use Rattle.meaning_modules.proofs.Said.{each_read}
 use Rattle.meaning_modules.proofs.There.{world_is_there}
 use Rattle.meaning_modules.proofs.Rounds.{no_round}
-use Rattle.meaning_names.specs.Meant.{IsMeant}
-use Rattle.meaning_names.specs.Names.{AreSingle, HasNode, IsOfWorld, views}
+use Rattle.meaning_names.specs.Meant.{AreFilesCooked, IsMeantWhole}
+use Rattle.meaning_names.specs.Names.{AreSetOnce, AreSingle, HasNode, IsOfWorld, views}
 use Rattle.meaning_names.proofs.Aliases.{leading_aliases_are_known, other_aliases_are_unknown}
 use Rattle.just_modules.specs.Aliases.{AllAliasesLead, IsAliasUnknown}
 use Rattle.just_modules.specs.Keeping.{AreFilled}
@@ -68,11 +68,18 @@ module _ {Y Z : Type 0} (sources : BTreeMap (String Y) (String Z)) (expansion : 
         (b.0, b.1, subst (IsSameModule b.0) (same_Some t.0 node (sym t.1 ∙ e)) t.2.gains.same)
 
     -- no module has two definitions of a name
-    single : AreSingle w compilation
-    single k node here kind name space twice =
+    twice_in_node : (k : ℕ) (node : ModuleNode) → slice_get compilation.modules.items k ≡ Some node → (kind : Kind) (name : Text) → IsTwice w node.source.now kind name → ⊥
+    twice_in_node k node here kind name twice =
         let b = before k node here in
         let m = (modules sources expansion version os unstable start root loaded are w stands).each k b.0 b.1 in
         twice_clear sources expansion version os unstable start root loaded compilation are filled w stands kind name (b.0.source.now, (m.path, m.is), subst (λ own. IsTwice w own kind name) (ap (λ s. s.now) b.2.source) twice)
+
+    single : AreSingle w compilation
+    single k node here kind name space twice = twice_in_node k node here kind name twice
+
+    -- nor two settings of a name
+    set_once : AreSetOnce w compilation
+    set_once k node here name twice = twice_in_node k node here a_setting name twice
 
     -- each item is what its attributes make of it
     own_items : (k : ℕ) (file : File) → slice_get compilation.files.items k ≡ Some file → All (IsOwnItem w.expansion) file.ast.items.items
@@ -80,14 +87,20 @@ module _ {Y Z : Type 0} (sources : BTreeMap (String Y) (String Z)) (expansion : 
         let r = each_read sources expansion version os start loaded.files.items loaded.modules.items are.modules are.linked.covered k file (subst (λ fs. slice_get fs k ≡ Some file) filled.files e) in
         subst (λ x. All (IsOwnItem x) file.ast.items.items) (sym stands.same_expansion) r.1.whole.own
 
+    -- and holds what its strings stand for
+    cooked : AreFilesCooked w compilation
+    cooked k file e =
+        let r = each_read sources expansion version os start loaded.files.items loaded.modules.items are.modules are.linked.covered k file (subst (λ fs. slice_get fs k ≡ Some file) filled.files e) in
+        subst (λ x. All (IsItemCooked (from_file file.key.now x)) file.ast.items.items) (sym stands.same_expansion) r.1.whole.cooked
+
     -- no number of a binding is less than the first one
     numbers_above : (low : ℕ) → low ≤ start.bindings → (k : ℕ) (view : FileView) → slice_get (views w compilation) k ≡ Some view → All (λ number. low ≤ number) view.bindings
     numbers_above low le k view e =
         bindings_above start are.numbers loaded.files.items (are.numbered refl) low le k view (subst (λ fs. slice_get (map file_view fs) k ≡ Some view) filled.files e)
 
     -- names and numbers are read from the compilation, where numbers begin after those of the constants
-    pub meant : length constant_rows ≤ start.bindings → IsMeant w compilation
-    meant le = record { of = of_world; single = single; options = own_items; above = numbers_above (length constant_rows) le }
+    pub meant : length constant_rows ≤ start.bindings → IsMeantWhole w compilation
+    meant le = record { meant = record { of = of_world; single = single; settings = set_once; options = own_items; above = numbers_above (length constant_rows) le }; cooked = cooked }
 
     -- no file leads back to itself
     no_circle : (o : Overrides) (current other : Text) → Breaks w o (circular_import current other) → ⊥

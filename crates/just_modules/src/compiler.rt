@@ -1,7 +1,7 @@
 //! From texts to modules.
 ghost use Rattle.std.specs.Prelude.{[], ◌≡◌, ◌≢◌, ◌≤◌, ◌&&◌, ◌||◌, ℕ, Bool, true, List, IfErr, IfOk, OnOk, Ok, Err, Some, None, bytes_eq, length, slice_get};
 ghost use Rattle.just_value.specs.Constants.{constant_rows};
-ghost use Rattle.meaning_names.specs.Meant.{IsMeant};
+ghost use Rattle.meaning_names.specs.Meant.{IsMeantWhole};
 ghost use Rattle.modules_compilation.specs.declared.compilation.Compilation.{Compilation};
 ghost use Rattle.modules_compilation.specs.declared.module_node.ModuleNode.{ModuleNode};
 ghost use Rattle.modules_definitions.specs.Keeping.{AreInOrder, AreKept};
@@ -401,7 +401,7 @@ impl Compiler {
     ) -> Result<Compilation<'src>, Error<'src>>
         ensures filled { IfOk result (IsSettled config.now.os config.now.unstable sources.now (E.expansion expander.now) config.now.version first_numbers true root.now) }
         ensures made { IfOk result (λ compilation. InEachWorld config.now.os config.now.unstable sources.now (E.expansion expander.now) config.now.version root.now (IsCompilationOf compilation)) }
-        ensures meant { IfOk result (λ compilation. InEachWorld config.now.os config.now.unstable sources.now (E.expansion expander.now) config.now.version root.now (λ w. IsMeant w compilation)) }
+        ensures meant { IfOk result (λ compilation. InEachWorld config.now.os config.now.unstable sources.now (E.expansion expander.now) config.now.version root.now (λ w. IsMeantWhole w compilation)) }
         ensures there { OnOk result (HasWorld config.now.os config.now.unstable sources.now (E.expansion expander.now) config.now.version root.now) }
         ensures clear { OnOk result (InEachWorld config.now.os config.now.unstable sources.now (E.expansion expander.now) config.now.version root.now BreaksNone) }
         ensures broken { IfErr result (λ error. InEachWorld config.now.os config.now.unstable sources.now (E.expansion expander.now) config.now.version root.now (BreaksTold error)) }
@@ -426,7 +426,7 @@ impl Compiler {
     ) -> Result<Compilation<'src>, Error<'src>>
         ensures filled { IfOk result (λ compilation. (start : Numbers) (is_read : Bool) → (is_read ≡ true → IsRootRead sources.now (E.expansion expander.now) config.now.version start root.now parsed.entry) → IsSettled config.now.os config.now.unstable sources.now (E.expansion expander.now) config.now.version start is_read root.now compilation) }
         ensures made { IfOk result (λ compilation. (start : Numbers) → IsRootRead sources.now (E.expansion expander.now) config.now.version start root.now parsed.entry → InEachWorld config.now.os config.now.unstable sources.now (E.expansion expander.now) config.now.version root.now (IsCompilationOf compilation)) }
-        ensures meant { IfOk result (λ compilation. (start : Numbers) → length constant_rows ≤ start.bindings → IsRootRead sources.now (E.expansion expander.now) config.now.version start root.now parsed.entry → InEachWorld config.now.os config.now.unstable sources.now (E.expansion expander.now) config.now.version root.now (λ w. IsMeant w compilation)) }
+        ensures meant { IfOk result (λ compilation. (start : Numbers) → length constant_rows ≤ start.bindings → IsRootRead sources.now (E.expansion expander.now) config.now.version start root.now parsed.entry → InEachWorld config.now.os config.now.unstable sources.now (E.expansion expander.now) config.now.version root.now (λ w. IsMeantWhole w compilation)) }
         ensures there { OnOk result ((start : Numbers) → IsRootRead sources.now (E.expansion expander.now) config.now.version start root.now parsed.entry → HasWorld config.now.os config.now.unstable sources.now (E.expansion expander.now) config.now.version root.now) }
         ensures clear { OnOk result ((start : Numbers) → IsRootRead sources.now (E.expansion expander.now) config.now.version start root.now parsed.entry → InEachWorld config.now.os config.now.unstable sources.now (E.expansion expander.now) config.now.version root.now BreaksNone) }
         ensures broken { IfErr result (λ error. (start : Numbers) → IsRootRead sources.now (E.expansion expander.now) config.now.version start root.now parsed.entry → InEachWorld config.now.os config.now.unstable sources.now (E.expansion expander.now) config.now.version root.now (BreaksTold error)) }

@@ -41,7 +41,7 @@ use Rattle.just_resolve.proofs.Laws.{Laws}
 
 -- a world with the numbers of names is one of what recipes are meant to be
 meant_by : (w : World) (compilation : Compilation) → IsNumberedWorld w compilation → IsMeant w compilation
-meant_by w compilation is = record { of = is.of; single = is.single; options = is.options; above = is.above }
+meant_by w compilation is = record { of = is.of; single = is.single; settings = is.settings; options = is.options; above = is.above }
 
 -- a resolver for all recipes that are kept is one for the compilation
 resolver_for : (compilation : Compilation) (nodes : List RecipeNode) (resolver : RecipeResolver) → map view nodes ≡ all_kept compilation → IsResolver nodes resolver → IsResolverFor compilation resolver

@@ -157,7 +157,7 @@ module _ (laws : Laws) (w : World) (compilation : Compilation) (is : IsResolvabl
 
     module _ (path : List Text) (has_path : HasPath w (views w compilation) (nodes w compilation) k path) (constants : Frames) (language : AreConstantFrames constants) where
       settled_module : IsSettledModule w compilation k node path
-      settled_module = record { numbered = is.numbered; cooked = is.cooked; here = here; has_path = has_path; single = λ name twice. is.settings k node name here twice }
+      settled_module = record { numbered = is.numbered; here = here; has_path = has_path }
 
       -- and they tell the rule
       told : ConstantsAreTold w compilation k node path words overrides m.lists.assignments.items m.order.items sets (contains nat_cmp numbers) constants (set_lists compilation node.sets.items)

@@ -38,7 +38,7 @@ use Rattle.just_resolve.proofs.Refusing.{first_answered}
 
 -- what a compilation is taken for by the laws on dependencies
 pub meant_of : (w : World) (compilation : Compilation) → IsNumberedWorld w compilation → IsMeant w compilation
-meant_of w compilation is = record { of = is.of; single = is.single; options = is.options; above = is.above }
+meant_of w compilation is = record { of = is.of; single = is.single; settings = is.settings; options = is.options; above = is.above }
 
 -- a resolver of nodes that are all recipes that are kept is one of the compilation
 pub resolver_of : (compilation : Compilation) (nodes : List RecipeNode) (resolver : RecipeResolver) → map view nodes ≡ all_kept compilation → IsResolver nodes resolver → IsResolverFor compilation resolver

@@ -5,25 +5,19 @@ use Rattle.just_text.specs.declared.name.Name.{Name}
 use Rattle.tree_items.specs.Paths.{path_names}
 use Rattle.just_value.specs.declared.positional.Override.{Override}
 use Rattle.modules_compilation.specs.declared.compilation.Compilation.{Compilation}
-use Rattle.modules_compilation.specs.declared.module_node.ModuleNode.{ModuleNode}
 use Rattle.resolve_recipes.specs.Named.{AllByName}
-use Rattle.meaning_worlds.specs.Given.{Overrides, Text, World}
-use Rattle.meaning_worlds.specs.Keeping.{IsTwice, a_setting}
+use Rattle.meaning_worlds.specs.Given.{Overrides, World}
 use Rattle.meaning_rules.specs.Rules.{Broken, Rule, circular_recipe, circular_variable, const_error, dependency_argument_count, function_argument_count, is_of_sources, module_as_recipe, undefined_variable, unknown_dependency, unknown_function, unknown_override}
 use Rattle.meaning_rules.specs.Told as told
-use Rattle.meaning_names.specs.Names.{HasNode}
 use Rattle.meaning_overriding.specs.Texts.{overrides_of}
 use Rattle.meaning_reading.specs.Meant.{IsNumberedWorld}
-use Rattle.meaning_constants.specs.Sought.{AreFilesCooked}
 use Rattle.just_resolve.specs.declared.error.Error.{Error}
 use Rattle.just_resolve.specs.declared.error.Error.TheVariants.{OutOfMemory, CircularRecipe, CircularVariable, Compile, ConstEval, DependencyArgumentCount, FunctionArgumentCount, ModuleAsRecipe, UndefinedVariable, UnknownDependency, UnknownFunction, UnknownOverride}
 
--- a compilation stands for the modules of the world, its names have their numbers, its lists stand in the order in which names are looked up, its items hold what their strings stand for, and no module has two settings of a name
+-- a compilation stands for the modules of the world, its names have their numbers, and its lists stand in the order in which names are looked up
 pub record IsResolvable (w : World) (compilation : Compilation) : Type 0 where
   pub numbered : IsNumberedWorld w compilation
   pub by_name : AllByName compilation
-  pub cooked : AreFilesCooked w compilation
-  pub settings : (k : ℕ) (node : ModuleNode) (name : Text) → HasNode w compilation k node → IsTwice w node.source.now a_setting name → ⊥
 
 abbrev pub texts_of : List Name → List (List ℕ)
 texts_of names = map (λ name. lexeme name.token) names

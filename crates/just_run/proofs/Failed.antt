@@ -9,11 +9,13 @@ use Rattle.just_resolve.specs.declared.error.Error as names
 use Rattle.just_resolve.specs.declared.error.Error.TheVariants as of_names
 use Rattle.justfile_evaluator.specs.declared.fault.RunFault.{RunFault}
 use Rattle.justfile_evaluator.specs.declared.fault.RunFault.TheVariants as runs
+use Rattle.analyze_calls.specs.declared.fault.OpeningFault.{OpeningFault}
+use Rattle.analyze_calls.specs.declared.fault.OpeningFault.TheVariants as openings
 use Rattle.run_tasks.specs.declared.fault.TaskFault.{TaskFault}
 use Rattle.run_tasks.specs.declared.fault.TaskFault.TheVariants as tasks
 use Rattle.run_plain.specs.declared.fault.Fault as plain_fault
 use Rattle.run_plain.specs.declared.fault.Fault.TheVariants as plain_faults
-use Rattle.just_run.specs.Passed.{word_fault, file_fault, name_fault, run_fault, task_fault}
+use Rattle.just_run.specs.Passed.{word_fault, file_fault, name_fault, opening_fault, run_fault, task_fault}
 use Rattle.just_run.specs.Plain.{fault_of}
 use Rattle.just_run.specs.Plans.{IsEnd, IsOfRun}
 use Rattle.just_run.specs.Writes.{IsNoWrite, WriteFails}
@@ -128,15 +130,19 @@ plain_is_no_write (plain_faults.CouldNotStart x0) = tt
 -- a run and a command end with faults of a run
 pub run_is_of_run : (fault : RunFault) → IsOfRun (run_fault fault)
 run_is_of_run runs.OutOfMemory = tt
-run_is_of_run (runs.Dotenv fault) = tt
-run_is_of_run (runs.Opening error) = tt
 run_is_of_run (runs.Evaluation error) = tt
 run_is_of_run (runs.Code recipe code is_silent) = tt
 run_is_of_run (runs.Signal recipe signal is_silent) = tt
 run_is_of_run (runs.CouldNotStart recipe) = tt
 run_is_of_run (runs.NotConfirmed recipe) = tt
 
+pub opening_is_of_run : (fault : OpeningFault) → IsOfRun (opening_fault fault)
+opening_is_of_run openings.OutOfMemory = tt
+opening_is_of_run (openings.Dotenv fault) = tt
+opening_is_of_run (openings.Opening error) = tt
+
 pub task_is_of_run : (fault : TaskFault) → IsOfRun (task_fault fault)
+task_is_of_run (tasks.Opening fault) = opening_is_of_run fault
 task_is_of_run (tasks.Run fault) = run_is_of_run fault
 task_is_of_run (tasks.Command fault) = tt
 

@@ -1,5 +1,5 @@
 -- The root file that was read, as the file that modules are loaded from.
-use Rattle.std.proofs.Common.{◌≡◌, ◌⊎◌, sym, ◌∙◌, ap, Bool, true, false, cond, ℕ, List, Option, Some, None, Result, refl}
+use Rattle.std.proofs.Common.{◌≡◌, ◌≤◌, ◌⊎◌, length, sym, ◌∙◌, ap, Bool, true, false, cond, ℕ, List, Option, Some, None, Result, refl}
 use Rattle.std.specs.Prelude.{String}
 use Rattle.std.specs.BTreeMap.{BTreeMap}
 use Rattle.std.specs.Option.{option_map}
@@ -9,6 +9,7 @@ use Rattle.tree_items.specs.declared.ast.Ast.{Ast}
 use Rattle.parse_expressions.specs.Literals.{Expansion}
 use Rattle.justfile_syntax.specs.PlainShapes.{shape_of}
 use Rattle.justfile_syntax.specs.declared.plain_files.ast.Ast.{Ast as PlainAst}
+use Rattle.just_value.specs.Constants.{constant_rows}
 use Rattle.just_value.specs.declared.positional.Positional.{Positional}
 use Rattle.semver.specs.declared.Version.{Version}
 use Rattle.modules_compilation.specs.Paths.{is_clean}
@@ -21,6 +22,7 @@ use Rattle.run_plain.specs.Stages.{IsRoot}
 use Rattle.meaning_worlds.specs.Given.{Text, World}
 use Rattle.meaning_worlds.specs.Standing.{StandsFor}
 use Rattle.meaning_files.specs.Views.{given_of}
+use Rattle.meaning_overriding.specs.Texts.{overrides_of}
 use Rattle.just_run.specs.Sources.{AnswersSources, LooksAtAll, TellsSources, read}
 use Rattle.just_run.specs.declared.fault.Fault.{Fault}
 use Rattle.just_run.specs.declared.outcome.Action.{Action}
@@ -51,6 +53,6 @@ module _ {A B C D : Type 0} (sources : BTreeMap (String A) (String B)) (roots : 
   -- what is told of them is told of the root at its path
   pub told_of_root : (os : _) (unstable : Bool) (action : Action) (path : List ℕ) (file : Ast) (next : Numbers) (plain : Option PlainAst) (result : Result Outcome Fault)
       → IsFileRead inputs path file next → IsRoot inputs path (option_map shape_of plain) → LooksAtAll action inputs
-      → (((action ≡ Run) ⊎ (action ≡ Plan) → plain ≡ None) → (start : Numbers) → IsRootRead sources expansion version start path (record { ast = file; numerator = next }) → (w : World) → StandsFor (given_of sources os unstable expansion version path) w → TellsSources result w)
+      → (((action ≡ Run) ⊎ (action ≡ Plan) → plain ≡ None) → (start : Numbers) → length constant_rows ≤ start.bindings → IsRootRead sources expansion version start path (record { ast = file; numerator = next }) → (w : World) → StandsFor (given_of sources os unstable expansion version path) w → TellsSources (overrides_of words.overrides) result w)
       → AnswersSources (given_of sources os unstable expansion version) inputs result
-  told_of_root os unstable action path file next plain result f is all tells = read path f.rooted (tells (λ asked. none_plain inputs path plain is (all asked)) f.start (root_read path file next f))
+  told_of_root os unstable action path file next plain result f is all tells = read path f.rooted (tells (λ asked. none_plain inputs path plain is (all asked)) f.start f.above (root_read path file next f))

@@ -7,6 +7,8 @@ use Rattle.just_resolve.specs.declared.error.Error as names
 use Rattle.just_resolve.specs.declared.error.Error.TheVariants as of_names
 use Rattle.justfile_evaluator.specs.declared.fault.RunFault.{RunFault}
 use Rattle.justfile_evaluator.specs.declared.fault.RunFault.TheVariants as runs
+use Rattle.analyze_calls.specs.declared.fault.OpeningFault.{OpeningFault}
+use Rattle.analyze_calls.specs.declared.fault.OpeningFault.TheVariants as openings
 use Rattle.run_tasks.specs.declared.fault.TaskFault.{TaskFault}
 use Rattle.run_tasks.specs.declared.fault.TaskFault.TheVariants as tasks
 use Rattle.just_run.specs.declared.fault.Fault.{Fault}
@@ -27,18 +29,23 @@ abbrev pub name_fault : names.Error → Fault
 name_fault of_names.OutOfMemory = OutOfMemory
 name_fault error = Justfile error
 
+-- why modules could not open
+abbrev pub opening_fault : OpeningFault → Fault
+opening_fault openings.OutOfMemory = OutOfMemory
+opening_fault (openings.Dotenv fault) = Dotenv fault
+opening_fault (openings.Opening error) = Opening error
+
 -- how a run ended
 abbrev pub run_fault : RunFault → Fault
 run_fault runs.OutOfMemory = OutOfMemory
-run_fault (runs.Dotenv fault) = Dotenv fault
-run_fault (runs.Opening error) = Opening error
 run_fault (runs.Evaluation error) = Evaluation error
 run_fault (runs.Code recipe code is_silent) = Code recipe code is_silent
 run_fault (runs.Signal recipe signal is_silent) = Signal recipe signal is_silent
 run_fault (runs.CouldNotStart recipe) = CouldNotStart recipe
 run_fault (runs.NotConfirmed recipe) = NotConfirmed recipe
 
--- how a run or a command ended
+-- why a task failed
 abbrev pub task_fault : TaskFault → Fault
+task_fault (tasks.Opening fault) = opening_fault fault
 task_fault (tasks.Run fault) = run_fault fault
 task_fault (tasks.Command fault) = Command fault

@@ -1,10 +1,16 @@
 //! The whole: from texts and words to what is done.
-ghost use Rattle.std.specs.Prelude.{◌≡◌, ◌⊎◌, Bool, None, IfErr, option_map};
+ghost use Rattle.std.specs.Prelude.{◌≡◌, ◌≤◌, ◌⊎◌, Bool, None, IfErr, length, option_map};
 ghost use Rattle.just_text.specs.Numbers.{Numbers};
 ghost use Rattle.justfile_syntax.specs.PlainShapes.{shape_of};
 ghost use Rattle.modules_sources.specs.Loaded.{IsRootRead};
 ghost use Rattle.meaning_files.specs.Views.{given_of};
+ghost use Rattle.just_value.specs.Constants.{constant_rows};
 ghost use Rattle.just_modules.specs.Worlds.{InEachWorld};
+ghost use Rattle.just_resolve.specs.Rules.{IsResolvable};
+ghost use Rattle.meaning_names.specs.Meant.{IsMeantWhole};
+ghost use Rattle.meaning_overriding.specs.Texts.{overrides_of};
+ghost use Rattle.meaning_worlds.specs.Given.{World};
+ghost use Rattle.resolve_recipes.specs.Named.{AllByName};
 ghost use Rattle.run_plain.specs.Inputs.{Inputs, inputs_of, reader_of};
 ghost use Rattle.run_plain.specs.Setup.{setup_of};
 ghost use Rattle.run_plain.specs.Stages.{IsRead, IsRoot};
@@ -13,7 +19,7 @@ ghost use Rattle.just_run.specs.Early.{IsEarly, IsLate};
 ghost use Rattle.just_run.specs.Plain.{IsPlain, AnswersPlain, IsWay};
 ghost use Rattle.just_run.specs.Plans.{IsKeptBy, Plans};
 ghost use Rattle.just_run.specs.Requests.{IsText};
-ghost use Rattle.just_run.specs.Sources.{AnswersSources, LooksAtAll, TellsSources};
+ghost use Rattle.just_run.specs.Sources.{AnswersSources, LooksAtAll, TellsNames, TellsSources};
 ghost use Rattle.just_run.specs.Writes.{IsKept, IsNoWrite, WriteFails};
 ghost use Rattle.just_run.specs.declared.outcome.Action.TheVariants.{Plan, Run};
 ghost use Rattle.just_host.specs.Asking.{IsAsked};
@@ -25,7 +31,6 @@ ghost use Rattle.run_tasks.specs.Kinds as tasks;
 use crate::fault::Fault;
 use crate::outcome::{Action, Outcome};
 use crate::plan::{drive_plan, plan_file};
-use crate::prepared::perform_task;
 use crate::request::{Request, request_of};
 use crate::texts::{tell, write_performed};
 use just_host::{Config, Out, Recorded, RunHost};
@@ -35,6 +40,7 @@ use just_value::Positional;
 use justfile_syntax::Expander;
 use justfile_syntax::plain_files::Ast as PlainAst;
 use run_plain::{Root, read_root, run_file};
+use run_prepared::perform_task;
 use run_tasks::Task;
 use std::alloc::Global;
 use std::collections::BTreeMap;
@@ -122,6 +128,7 @@ fn drive_modules<'src, H: RunHost + Drop, O: Out>(
     ensures early { IfErr result (λ fault. IsEarly fault host.old (O.written out.old) host.new (O.written out.new)) }
     ensures silent { IsText action → host.new ≡ host.old }
     ensures asks { AsksFor action config.now.dry_run H.goes host.old host.new }
+    ensures names { (w : World) → IsResolvable w compilation.now → TellsNames (overrides_of words.now.overrides) result w }
 {
     let overrides = words.overrides.as_slice();
     match Analyzer::analyze(alloc, compilation, config, overrides) {
@@ -173,6 +180,7 @@ fn drive_compilation<'src, H: RunHost + Drop, O: Out>(
     ensures early { IfErr result (λ fault. IsEarly fault host.old (O.written out.old) host.new (O.written out.new)) }
     ensures silent { IsText action → host.new ≡ host.old }
     ensures asks { AsksFor action config.now.dry_run H.goes host.old host.new }
+    ensures names { AllByName compilation.entry → (w : World) → IsMeantWhole w compilation.entry → TellsNames (overrides_of words.now.overrides) result w }
 {
     match number_variables(alloc, &mut compilation) {
         Ok(()) => {
@@ -204,7 +212,7 @@ fn drive_files<'src, E: Expander, H: RunHost + Drop, O: Out>(
     ensures early { IfErr result (λ fault. IsEarly fault host.old (O.written out.old) host.new (O.written out.new)) }
     ensures silent { IsText action → host.new ≡ host.old }
     ensures asks { AsksFor action config.now.dry_run H.goes host.old host.new }
-    ensures sources { (start : Numbers) → IsRootRead sources.now (E.expansion expander.now) config.now.version start path.now parsed.entry → InEachWorld config.now.os config.now.unstable sources.now (E.expansion expander.now) config.now.version path.now (TellsSources result) }
+    ensures sources { (start : Numbers) → length constant_rows ≤ start.bindings → IsRootRead sources.now (E.expansion expander.now) config.now.version start path.now parsed.entry → InEachWorld config.now.os config.now.unstable sources.now (E.expansion expander.now) config.now.version path.now (TellsSources (overrides_of words.now.overrides) result) }
 {
     match Compiler::compile_parsed(alloc, config, expander, sources, path, parsed) {
         Ok(compilation) => drive_compilation(
@@ -288,7 +296,7 @@ fn drive_root<'src, E: Expander, H: RunHost + Drop, O: Out>(
     ensures early { (i : Inputs) → i.words ≡ words.now → IsRoot i root.entry.path.now (option_map shape_of root.entry.plain) → IfErr result (λ fault. IsEarly fault host.old (O.written out.old) host.new (O.written out.new)) }
     ensures silent { IsText action → host.new ≡ host.old }
     ensures asks { AsksFor action config.now.dry_run H.goes host.old host.new }
-    ensures sources { ((action ≡ Run) ⊎ (action ≡ Plan) → root.entry.plain ≡ None) → (start : Numbers) → IsRootRead sources.now (E.expansion expander.now) config.now.version start root.entry.path.now (record { ast = root.entry.file; numerator = root.entry.numerator }) → InEachWorld config.now.os config.now.unstable sources.now (E.expansion expander.now) config.now.version root.entry.path.now (TellsSources result) }
+    ensures sources { ((action ≡ Run) ⊎ (action ≡ Plan) → root.entry.plain ≡ None) → (start : Numbers) → length constant_rows ≤ start.bindings → IsRootRead sources.now (E.expansion expander.now) config.now.version start root.entry.path.now (record { ast = root.entry.file; numerator = root.entry.numerator }) → InEachWorld config.now.os config.now.unstable sources.now (E.expansion expander.now) config.now.version root.entry.path.now (TellsSources (overrides_of words.now.overrides) result) }
 {
     let Root {
         path,

@@ -7,7 +7,7 @@ ghost use Rattle.just_run.specs.Faulted as spec;
 ghost use Rattle.just_run.specs.Statuses.{command_status, status_of};
 ghost use Rattle.just_run.specs.declared.fault.Fault.TheVariants.{OutOfMemory, Write};
 
-use analyze_runs::RunFault;
+use analyze_runs::{OpeningFault, RunFault};
 use analyze_words::WordFault;
 use just_host::{HostFault, Status, WriteFailed};
 use justfile_evaluator::Error as EvaluationError;
@@ -248,6 +248,20 @@ impl From<WordFault> for Fault<'_> {
     }
 }
 
+impl<'src> From<OpeningFault<'src>> for Fault<'src> {
+    ghost use Rattle.just_run.specs.Passed.{opening_fault};
+
+    ghost from_gives = { λ fault e. e ≡ opening_fault fault };
+
+    fn from(fault: OpeningFault<'src>) -> Self {
+        match fault {
+            OpeningFault::OutOfMemory => Fault::OutOfMemory,
+            OpeningFault::Dotenv(fault) => Fault::Dotenv(fault),
+            OpeningFault::Opening(error) => Fault::Opening(error),
+        }
+    }
+}
+
 impl<'src> From<RunFault<'src>> for Fault<'src> {
     ghost use Rattle.just_run.specs.Passed.{run_fault};
 
@@ -256,8 +270,6 @@ impl<'src> From<RunFault<'src>> for Fault<'src> {
     fn from(fault: RunFault<'src>) -> Self {
         match fault {
             RunFault::OutOfMemory => Fault::OutOfMemory,
-            RunFault::Dotenv(fault) => Fault::Dotenv(fault),
-            RunFault::Opening(error) => Fault::Opening(error),
             RunFault::Evaluation(error) => Fault::Evaluation(error),
             RunFault::Code {
                 recipe,
@@ -290,6 +302,7 @@ impl<'src> From<TaskFault<'src>> for Fault<'src> {
 
     fn from(fault: TaskFault<'src>) -> Self {
         match fault {
+            TaskFault::Opening(fault) => Fault::from(fault),
             TaskFault::Run(fault) => Fault::from(fault),
             TaskFault::Command(fault) => Fault::Command(fault),
         }

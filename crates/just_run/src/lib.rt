@@ -5,7 +5,6 @@ pub mod driver;
 pub mod fault;
 pub mod outcome;
 mod plan;
-mod prepared;
 mod request;
 mod texts;
 

@@ -16,7 +16,6 @@ ghost use Rattle.just_run.specs.declared.outcome.Action.TheVariants.{Plan};
 
 use crate::fault::Fault;
 use crate::outcome::Outcome;
-use crate::prepared::perform_task;
 use crate::texts::write_text;
 use analyze_runs::Call;
 use just_host::{Config, Out, Recorded, RunHost};
@@ -27,6 +26,7 @@ use just_value::Positional;
 use justfile_syntax::plain_files::Ast as PlainAst;
 use run_plain::{Fault as PlainFault, run_file};
 use run_plan::{Planning, plan_text};
+use run_prepared::perform_task;
 use run_tasks::{Performed, Task, TaskFault};
 use std::alloc::Global;
 

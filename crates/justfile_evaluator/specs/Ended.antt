@@ -1,17 +1,15 @@
 -- How a body ends: its faults as failures of its recipe.
-use Rattle.std.specs.Prelude.{Bool, true, false, Result, Ok, Err, codes}
+use Rattle.std.specs.Prelude.{Bool, true, false, Result, Ok, Err}
 use Rattle.just_text.specs.Tokens.{lexeme}
 use Rattle.evaluate_context.specs.Refusals.{fault_of}
-use Rattle.meaning_dialogues.specs.Faults.{memory, internal}
+use Rattle.meaning_dialogues.specs.Faults.{memory}
 use Rattle.meaning_runs.specs.Failures.{Failure, by_code, by_signal, not_started, not_confirmed, evaluation, Next, goes_on, stops}
 use Rattle.justfile_evaluator.specs.declared.fault.RunFault.{RunFault}
-use Rattle.justfile_evaluator.specs.declared.fault.RunFault.TheVariants.{OutOfMemory, Dotenv, Opening, Evaluation, Code, Signal, CouldNotStart, NotConfirmed}
+use Rattle.justfile_evaluator.specs.declared.fault.RunFault.TheVariants.{OutOfMemory, Evaluation, Code, Signal, CouldNotStart, NotConfirmed}
 
--- the failure of a recipe for its fault; the faults of a module are none of a recipe
+-- the failure of a recipe for its fault
 abbrev pub failure_of : RunFault → Failure
 failure_of OutOfMemory = evaluation memory
-failure_of (Dotenv fault) = evaluation (internal (codes "dotenv"))
-failure_of (Opening error) = evaluation (internal (codes "opening"))
 failure_of (Evaluation error) = evaluation (fault_of error)
 failure_of (Code recipe code is_silent) = by_code (lexeme recipe.token) code
 failure_of (Signal recipe signal is_silent) = by_signal (lexeme recipe.token) signal

@@ -3,7 +3,6 @@ ghost use Rattle.std.specs.Prelude.{◌≡◌, Some};
 ghost use Rattle.justfile_evaluator.specs.declared.fault.RunFault.TheVariants.{OutOfMemory};
 
 use evaluate_context::Error;
-use just_host::HostFault;
 use just_text::{Name, Text};
 use std::alloc::{AllocError, AllocFailed, Global};
 use std::fmt;
@@ -13,10 +12,6 @@ use std::fmt;
 pub enum RunFault<'src> {
     /// Memory ran out.
     OutOfMemory,
-    /// The files of variables of a module could not be read.
-    Dotenv(HostFault),
-    /// A variable of a module has no value.
-    Opening(Error<'src>),
     /// A recipe's parameter, attribute, dependency or body has no value.
     Evaluation(Error<'src>),
     /// A command of the recipe ended with this code.
@@ -72,14 +67,6 @@ impl<'src> From<Error<'src>> for RunFault<'src> {
 }
 
 impl<'src> RunFault<'src> {
-    /// The fault of a variable of a module.
-    pub fn opening(error: Error<'src>) -> RunFault<'src> {
-        match error {
-            Error::OutOfMemory => RunFault::OutOfMemory,
-            other => RunFault::Opening(other),
-        }
-    }
-
     /// A fault that a resolved justfile doesn't meet.
     pub fn internal(alloc: Global, text: &str) -> RunFault<'src> {
         match Text::from_text(alloc, text) {
@@ -97,8 +84,6 @@ impl fmt::Display for RunFault<'_> {
     fn fmt<W: fmt::Write>(&self, f: &mut fmt::Formatter<W>) -> fmt::Result {
         match self {
             RunFault::OutOfMemory => write!(f, "out of memory"),
-            RunFault::Dotenv(fault) => write!(f, "dotenv: `{fault}`"),
-            RunFault::Opening(error) => write!(f, "opening: `{error}`"),
             RunFault::Evaluation(error) => write!(f, "evaluation: `{error}`"),
             RunFault::Code { recipe, code, .. } => {
                 write!(f, "recipe `{recipe}` failed with exit code {code}")

@@ -14,7 +14,8 @@ use Rattle.meaning_runs.specs.Told.{Answers, AgreesThere}
 use Rattle.meaning_runs.specs.Counts.{each_once}
 use Rattle.meaning_calls.specs.Named.{VariableName, ModuleRow, Definitions, paths_of}
 use Rattle.meaning_calls.specs.Scopes.{Configuration}
-use Rattle.just_meaning.specs.Opening.{Held, Opened, named, held, Requests, unasked, told, Fills, all, has_value, OpensOne, opened, OpensAll, none_left, one_more, exported_names}
+use Rattle.just_meaning.specs.Opening.{Held, Opened, named, held, Fills, all, has_value, OpensOne, opened, OpensAll, none_left, one_more, exported_names}
+use Rattle.meaning_opening.specs.Requests.{Requests, told, unasked}
 use Rattle.just_meaning.specs.Runs.{same_path, pairs_at, values_at}
 use Rattle.just_meaning.specs.Meanings.{pairs_told, pairs_asked, dotenv_at, in_module}
 use Rattle.meaning_worlds.proofs.Places.{contains_first, contains_later}

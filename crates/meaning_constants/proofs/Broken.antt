@@ -48,7 +48,7 @@ use Rattle.meaning_constants.proofs.Kept.{cooked_at, setting_item, setting_kept,
 use Rattle.meaning_constants.proofs.Marked.{read_number, reference_given}
 use Rattle.meaning_constants.proofs.Named.{is_written, name_stands}
 use Rattle.meaning_constants.proofs.Ordered.{constant_means, variable_means}
-use Rattle.meaning_constants.proofs.Seen.{IsPlain, setting_plain}
+use Rattle.meaning_constants.proofs.Seen.{setting_plain}
 use Rattle.meaning_constants.proofs.Settings.{refused_ones_lack, set_ones_answer}
 use Rattle.meaning_constants.proofs.Variables.{constants_mean}
 
@@ -80,21 +80,22 @@ module _ {A : Type 0} (overrides : BTreeMap ℕ (String A)) (w : World) (compila
       own_name = own_item w compilation f.module'.numbered listed.0 (set_item s) listed.2
 
       abbrev file : Text
-      file = (cooked_at w compilation f.module'.cooked listed.0 (set_item s) listed.2).0
+      file = (cooked_at w compilation f.module'.numbered listed.0 (set_item s) listed.2).0
 
-      plain : (x : Seen) → Contains (seen_in_setting s.value) x → IsPlain (from_file file w.expansion) x
-      plain x d = setting_plain (from_file file w.expansion) s.value (cooked_at w compilation f.module'.cooked listed.0 (set_item s) listed.2).1.inside x d
+      -- an expression of the setting is seen without parameters
+      plain : (x : Seen) → Contains (seen_in_setting s.value) x → Contains (seen_in (set_item s)) (seeing [] x.expression)
+      plain x d = subst (Contains (seen_in (set_item s))) (sym (setting_plain s.value x d)) d
 
       written : (x : Seen) → Contains (seen_in_setting s.value) x → IsWrittenIn (from_file file w.expansion) (bindings_of compilation node) x.expression
       written x d =
           let i = setting_item w compilation k node path f.module' s listed in
-          is_written w compilation k node path f.module' (set_item s) i x.expression (subst (Contains (seen_in (set_item s))) (sym (plain x d).0) d) file (plain x d).1
+          is_written w compilation k node path f.module' (set_item s) i x.expression (plain x d) file ((cooked_at w compilation f.module'.numbered listed.0 (set_item s) listed.2).1 x d)
 
       -- what a name in the setting means
       name_means : (x : Seen) → Contains (seen_in_setting s.value) x → (name : Text) → Contains (occurrences (shape_of x.expression)) (naming.a_variable name) → Means w (overrides_of words) path own name (so_far name)
       name_means x d name occurs =
           let i = setting_item w compilation k node path f.module' s listed in
-          let here = subst (Contains (seen_in (set_item s))) (sym (plain x d).0) d in
+          let here = plain x d in
           elim (name_stands w compilation k node path f.module' (set_item s) i x.expression here f.sought.resolver
           (λ r e. let g = reference_given w compilation k node path f.module' words overrides variables order sets is_read f.sought s listed x d r e in (g.0, g.1)) name occurs) [
             | inl v ↦

@@ -12,8 +12,7 @@ use Rattle.std.proofs.lemmas.Slice.Eq.{bytes_eq-Decides}
 use Rattle.std.proofs.lemmas.Option.{none-some, same_Some, get_or_from_slice_get, slice_get_within}
 use Rattle.just_text.specs.Tokens.{lexeme}
 use Rattle.just_text.specs.declared.os.Os.{Os}
-use Rattle.parse_expressions.specs.Literals.{from_file}
-use Rattle.parse_attributed_items.specs.Held.{IsItemCooked}
+use Rattle.parse_expressions.specs.Literals.{IsCooked, from_file}
 use Rattle.tree_attributes.specs.Attributes.{AttributeShape}
 use Rattle.tree_expressions.specs.declared.expression.Expression.{Expression}
 use Rattle.tree_items.specs.Contexts.{last_named}
@@ -34,6 +33,7 @@ use Rattle.modules_compilation.specs.declared.module_node.File.{File}
 use Rattle.modules_compilation.specs.declared.module_node.ModuleNode.{ModuleNode}
 use Rattle.modules_compilation.specs.declared.place.Place.{Place}
 use Rattle.resolve_order.specs.Flooded.{is_stop}
+use Rattle.resolve_references.specs.Seen.{Seen, seen_in}
 use Rattle.resolve_analysis.specs.Bound.{binding_number, bindings_of, constant_number}
 use Rattle.resolve_analysis.specs.Lists.{variable_of}
 use Rattle.resolve_analysis.specs.Reads.{overridden_by}
@@ -47,6 +47,7 @@ use Rattle.meaning_files.specs.Views.{node_view}
 use Rattle.meaning_names.specs.Names.{nodes, views}
 use Rattle.meaning_names.proofs.Defined.{none_defined}
 use Rattle.meaning_names.proofs.Found.{mapped, mapped_at, there_within}
+use Rattle.meaning_reading.specs.Meant.{AreSeenCooked, IsNumberedWorld}
 use Rattle.meaning_reading.specs.Places.{IsItemOf, variable_names}
 use Rattle.meaning_reading.proofs.Bindings.{numbered_once}
 use Rattle.meaning_reading.proofs.Finding.{last_named_there, none_named}
@@ -56,7 +57,7 @@ use Rattle.meaning_reading.proofs.Lists.{contains_map, contains_mapped}
 use Rattle.meaning_reading.proofs.Module.{is_node, variable_kept, variable_once, variables}
 use Rattle.meaning_overriding.specs.Texts.{IsGivenBy, overrides_of}
 use Rattle.meaning_overriding.proofs.Texts.{given_texts_override}
-use Rattle.meaning_constants.specs.Sought.{AreFilesCooked, AreSought, IsListedSet, IsSettledModule}
+use Rattle.meaning_constants.specs.Sought.{AreSought, IsListedSet, IsSettledModule}
 
 -- a setting is defined by its name
 pub shape_named : (os : Os) (attributes : List AttributeShape) (s : SetShape) (name : Text) → defined_by os (set_item_shape attributes s) ≡ Some (a_setting, name) → s.name ≡ name
@@ -117,16 +118,21 @@ one_setting w own name single key key' place place' a b d d' = by_key (bytes_eq 
     by_key true is = by_place ((bytes_eq-Decides key key').0 is) (nat_eq place place') refl
     by_key false is = absurd (apart (inl (λ e. true≢false (sym ((bytes_eq-Decides key key').1 e) ∙ is))))
 
-module _ (w : World) (compilation : Compilation) where
-  -- the items that stand at places of a compilation are cooked in their files
-  pub cooked_at : AreFilesCooked w compilation → (place : Place) (item : Item) → item_at compilation place ≡ Some item → (path : Text) × IsItemCooked (from_file path w.expansion) item
-  cooked_at cooked place item e = by_file (slice_get compilation.files.items place.file) refl e
+module _ (w : World) (compilation : Compilation) (n : IsNumberedWorld w compilation) (place : Place) (item : Item) (there : item_at compilation place ≡ Some item) where
+  -- an expression of the item is cooked in this file
+  abbrev pub IsCookedIn : Text → Seen → Type 0
+  IsCookedIn file s = IsCooked (from_file file w.expansion) s.expression
+
+  -- the expressions of an item that stands at a place of a compilation are cooked in its file
+  pub cooked_at : (file : Text) × ((s : Seen) → Contains (seen_in item) s → IsCookedIn file s)
+  cooked_at = by_file (slice_get compilation.files.items place.file) refl there
     where
-      by_file : (o : Option File) → slice_get compilation.files.items place.file ≡ o → slice_get (items_of o) place.item ≡ Some item → (path : Text) × IsItemCooked (from_file path w.expansion) item
+      by_file : (o : Option File) → slice_get compilation.files.items place.file ≡ o → slice_get (items_of o) place.item ≡ Some item → (file : Text) × ((s : Seen) → Contains (seen_in item) s → IsCookedIn file s)
       by_file None is e = absurd (none-some item e)
       by_file (Some file) is e =
-          let c = cooked place.file file is in
-          (c.0, All-contains (IsItemCooked (from_file c.0 w.expansion)) file.ast.items.items item c.1 (contains_at file.ast.items.items place.item item e))
+          let origin = from_file file.key.now w.expansion in
+          let cooked = All-contains (AreSeenCooked origin) file.ast.items.items item (n.cooked place.file file is) (contains_at file.ast.items.items place.item item e) in
+          (file.key.now, λ s c. All-contains (λ (s : Seen). IsCooked origin s.expression) (seen_in item) s cooked c)
 
 module _ (w : World) (compilation : Compilation) (k : ℕ) (node : ModuleNode) (path : List Text) (m : IsSettledModule w compilation k node path) where
   abbrev own : Text
@@ -191,7 +197,7 @@ module _ (w : World) (compilation : Compilation) (k : ℕ) (node : ModuleNode) (
             let named : r.0 ≡ s.name = same_Some r.0 s.name (sym r.2 ∙ p.1) in
             let thing = r.3.thing in
             let keeps = subst (λ t. Defines w own a_setting t r.3.key r.3.at (item_shape r.1)) named r.3.keeps.defines in
-            let items : item_shape r.1 ≡ set_item_shape has.attributes s = one_setting w own s.name (m.single s.name) r.3.key has.key r.3.at has.place (item_shape r.1) (set_item_shape has.attributes s) keeps has.defines in
+            let items : item_shape r.1 ≡ set_item_shape has.attributes s = one_setting w own s.name (m.numbered.settings k node m.here s.name) r.3.key has.key r.3.at has.place (item_shape r.1) (set_item_shape has.attributes s) keeps has.defines in
             let same : item_shape (set_item thing.0) ≡ set_item_shape has.attributes s = ap item_shape (sym thing.1) ∙ items in
             let shapes : set_shape thing.0 ≡ s = cc same in
             (thing.0, (q.0, contains_at node.sets.items p.0 q.0 q.1, r.3.there ∙ ap (λ i. Some i) thing.1), shapes)

@@ -97,7 +97,7 @@ module _ (w : World) (compilation : Compilation) (k : ℕ) (node : ModuleNode) (
       let g = setting_there w compilation k node path m o t y in
       let first = subst (λ n. Defines w own a_setting n h.key h.place (set_item_shape h.attributes (set_shape s))) (lists_named s x a e) h.defines in
       let second = subst (λ n. Defines w own a_setting n g.key g.place (set_item_shape g.attributes (set_shape t))) (lists_named t y b f) g.defines in
-      let items : set_item_shape h.attributes (set_shape s) ≡ set_item_shape g.attributes (set_shape t) = one_setting w own (codes "lists") (m.single (codes "lists")) h.key g.key h.place g.place _ _ first second in
+      let items : set_item_shape h.attributes (set_shape s) ≡ set_item_shape g.attributes (set_shape t) = one_setting w own (codes "lists") (m.numbered.settings k node m.here (codes "lists")) h.key g.key h.place g.place _ _ first second in
       let shapes : set_shape s ≡ set_shape t = cc items in
       truth_is a b (sym (ap value_shape e) ∙ ap (λ (s : SetShape). s.value) shapes ∙ ap value_shape f)
 

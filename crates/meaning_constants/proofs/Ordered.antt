@@ -187,8 +187,9 @@ module _ {A : Type 0} (w : World) (compilation : Compilation) (k : ℕ) (node : 
     by_text (Some text) is h = by_override h
     by_text None is free =
         let kept = variable_kept w compilation m.numbered k node m.here place v there in
-        let cooked = cooked_at w compilation m.cooked kept.0 (Assignment v) kept.3.there in
-        let written = is_written w compilation k node path m (Assignment v) side_item v.value (contains_first (seeing [] v.value) []) cooked.0 cooked.1.inside in
+        let seen = contains_first (seeing [] v.value) [] in
+        let cooked = cooked_at w compilation m.numbered kept.0 (Assignment v) kept.3.there in
+        let written = is_written w compilation k node path m (Assignment v) side_item v.value seen cooked.0 (cooked.1 (seeing [] v.value) seen) in
         let same = expressions_settle (from_file cooked.0 w.expansion) (bindings_of compilation node) (reading frame excluded) (constants_tell_names outer frame excluded) lists (so_far frame excluded) v.value written (λ name c. refl) in
         subst (MeansThat (text_of v)) (sym (ap constant same))
         (by_side {attributes = shapes_in v.attributes} {a = assignment_shape v} {lists = lists} free (keeps_variable w compilation m.numbered k node m.here place v there) are_lists (so_far frame excluded) (name_means is))

@@ -1,9 +1,7 @@
 -- What the constants of a module are found by: its variables in an order after what they read, texts given for them, and which of them its settings read.
-use Rattle.std.specs.Prelude.{◌≡◌, ◌≤◌, ◌^◌, ◌↔◌, ℕ, Bool, true, List, Option, Some, Ok, Contains, String, length, slice_get}
+use Rattle.std.specs.Prelude.{◌≡◌, ◌≤◌, ◌^◌, ◌↔◌, ℕ, Bool, true, List, Option, Some, Ok, Contains, String, length}
 use Rattle.std.specs.BTreeMap.{BTreeMap}
-use Rattle.std.specs.List.{All, flat_map}
-use Rattle.parse_expressions.specs.Literals.{from_file}
-use Rattle.parse_attributed_items.specs.Held.{IsItemCooked}
+use Rattle.std.specs.List.{flat_map}
 use Rattle.tree_items.specs.declared.ast.Item.TheVariants.{Set as set_item}
 use Rattle.tree_items.specs.declared.set.Set.{Set}
 use Rattle.just_value.specs.Constants.{constant_rows}
@@ -13,7 +11,6 @@ use Rattle.evaluate_context.specs.declared.context.AssignmentRef.{AssignmentRef}
 use Rattle.evaluate_variables.specs.Opened.{overridden}
 use Rattle.modules_compilation.specs.Places.{item_at}
 use Rattle.modules_compilation.specs.declared.compilation.Compilation.{Compilation}
-use Rattle.modules_compilation.specs.declared.module_node.File.{File}
 use Rattle.modules_compilation.specs.declared.module_node.ModuleNode.{ModuleNode}
 use Rattle.modules_compilation.specs.declared.place.Place.{Place}
 use Rattle.resolve_order.specs.Flooded.{AreReached}
@@ -27,22 +24,15 @@ use Rattle.resolve_analysis.specs.Reads.{IsResolverOf, expressions_of, overridde
 use Rattle.resolve_analysis.specs.Unions.{IsMarkedNumber}
 use Rattle.meaning_worlds.specs.Given.{Text, World}
 use Rattle.meaning_worlds.specs.Compiled.{HasPath}
-use Rattle.meaning_worlds.specs.Keeping.{IsTwice, a_setting}
 use Rattle.meaning_names.specs.Names.{HasNode, nodes, views}
 use Rattle.meaning_reading.specs.Meant.{IsNumberedWorld}
 use Rattle.meaning_reading.specs.Places.{variable_names}
 
--- the items of each file hold what their strings stand for
-abbrev pub AreFilesCooked : World → Compilation → Type 0
-AreFilesCooked w compilation = (k : ℕ) (file : File) → slice_get compilation.files.items k ≡ Some file → (path : Text) × All (IsItemCooked (from_file path w.expansion)) file.ast.items.items
-
--- a module of a world, whose settings are told apart, is the node at a place of a compilation
+-- a module of a world is the node at a place of a compilation
 pub record IsSettledModule (w : World) (compilation : Compilation) (k : ℕ) (node : ModuleNode) (path : List Text) : Type 0 where
   pub numbered : IsNumberedWorld w compilation
-  pub cooked : AreFilesCooked w compilation
   pub here : HasNode w compilation k node
   pub has_path : HasPath w (views w compilation) (nodes w compilation) k path
-  pub single : (name : Text) → IsTwice w node.source.now a_setting name → ⊥
 
 -- the setting stands at a place that the module lists
 abbrev pub IsListedSet : Compilation → ModuleNode → Set → Type 0

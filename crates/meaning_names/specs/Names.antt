@@ -10,7 +10,7 @@ use Rattle.modules_compilation.specs.declared.place.Place.{Place}
 use Rattle.resolve_recipes.specs.Named.{recipe_of, submodule_in}
 use Rattle.meaning_worlds.specs.Given.{Text, World}
 use Rattle.meaning_worlds.specs.Sources.{IsFileOf, IsSubmodule}
-use Rattle.meaning_worlds.specs.Keeping.{IsDefined, IsTwice, KeepsAt, Kind, a_recipe, recipes, space_of}
+use Rattle.meaning_worlds.specs.Keeping.{IsDefined, IsTwice, KeepsAt, Kind, a_recipe, a_setting, recipes, space_of}
 use Rattle.meaning_worlds.specs.Compiled.{FileView, IsAt, IsCompiled, NodeView}
 use Rattle.meaning_files.specs.Views.{file_view, name_text, node_view}
 
@@ -32,6 +32,10 @@ module _ (w : World) (compilation : Compilation) where
   -- no module has two definitions of a name among recipes, aliases and submodules
   abbrev pub AreSingle : Type 0
   AreSingle = (k : ℕ) (node : ModuleNode) → HasNode k node → (kind : Kind) (name : Text) → space_of kind ≡ recipes → IsTwice w node.source.now kind name → ⊥
+
+  -- no module has two settings of a name
+  abbrev pub AreSetOnce : Type 0
+  AreSetOnce = (k : ℕ) (node : ModuleNode) → HasNode k node → (name : Text) → IsTwice w node.source.now a_setting name → ⊥
 
   -- the recipe of the name that the module keeps stands at the place
   pub record KeepsRecipe (node : ModuleNode) (name : Text) (place : Place) : Type 0 where

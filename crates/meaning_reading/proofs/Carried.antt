@@ -3,7 +3,7 @@ use Rattle.std.proofs.Common.{◌≡◌, refl, sym, ◌∙◌, ap, subst, List, 
 use Rattle.std.specs.Prelude.{slice_get}
 use Rattle.std.specs.List.{flat_map}
 use Rattle.std.proofs.lemmas.List.{length-map}
-use Rattle.std.proofs.lemmas.List.Elements.{All-cons, All-head, All-map, All-nil, All-tail}
+use Rattle.std.proofs.lemmas.List.Elements.{All-cons, All-head, All-map, All-nil, All-tail, All-weaker}
 use Rattle.std.proofs.lemmas.Simd.{map-map}
 use Rattle.std.proofs.lemmas.Option.{none-some, slice_get-map}
 use Rattle.just_text.specs.Tokens.{lexeme}
@@ -19,24 +19,27 @@ use Rattle.tree_items.specs.declared.ast.Item.TheVariants.{Alias, Assignment, Co
 use Rattle.tree_items.specs.declared.recipe.Parameter.{Parameter}
 use Rattle.tree_items.specs.declared.recipe.Recipe.{Recipe as RecipeOf}
 use Rattle.tree_items.specs.declared.recipe.UnresolvedDependency.{UnresolvedDependency}
-use Rattle.parse_expressions.specs.Literals.{Expansion}
+use Rattle.parse_expressions.specs.Literals.{Expansion, Origin, from_file}
 use Rattle.parse_recipes.specs.Numbering.{numbers_of}
 use Rattle.parse_items.specs.Names.{setting_name}
 use Rattle.parse_items.specs.Numbered.{binding_numbers}
 use Rattle.parse_attributed_items.specs.Fitting.{options_among}
-use Rattle.parse_attributed_items.specs.Held.{HasOptions, IsOwnItem}
+use Rattle.parse_attributed_items.specs.Held.{HasOptions, IsItemCooked, IsOwnItem}
 use Rattle.parse_attributed_items.specs.Options.{HaveOptions, ParameterOptions, meant_for}
 use Rattle.justfile_syntax.specs.Numbered.{bindings_in, recipe_numbers, recipes_in}
 use Rattle.modules_compilation.specs.declared.compilation.Compilation.{Compilation}
 use Rattle.modules_compilation.specs.declared.module_node.File.{File}
 use Rattle.resolve_references.specs.Numbered.{IsNumberedItem, IsSameSetting, bare_parameter, bare_parameters}
+use Rattle.resolve_references.specs.Seen.{seen_in}
 use Rattle.resolve_analysis.specs.Numbered.{AreSameItems, IsNumbered, file_names}
 use Rattle.meaning_worlds.specs.Compiled.{IsCompiled}
 use Rattle.meaning_worlds.specs.Given.{World}
 use Rattle.meaning_files.specs.Views.{file_view, node_view}
-use Rattle.meaning_names.specs.Meant.{IsMeant}
+use Rattle.meaning_names.specs.Meant.{IsMeantWhole}
 use Rattle.meaning_names.specs.Names.{nodes, views}
 use Rattle.meaning_reading.specs.Carried.{NumberedAreMeant}
+use Rattle.meaning_reading.specs.Meant.{AreExpressionsCooked, AreSeenCooked}
+use Rattle.meaning_reading.proofs.Cooked.{said_cooked, seen_cooked}
 
 -- ---- lists that are the same place by place
 
@@ -239,10 +242,10 @@ module _ (w : World) (before after : Compilation) (is : IsNumbered before after)
           ∙ slice_get-map file_names after.files.items k ∙ ap (option_map file_names) f))
       by_old (Some old) e = (old, e)
 
-  module _ (meant : IsMeant w before) where
+  module _ (whole : IsMeantWhole w before) where
     -- the modules are those of the world
     compiled : IsCompiled w (views w after) (nodes w after)
-    compiled = subst (λ vs. IsCompiled w vs (nodes w after)) (sym same_views) (subst (λ ns. IsCompiled w (views w before) ns) (sym same_nodes) meant.of)
+    compiled = subst (λ vs. IsCompiled w vs (nodes w after)) (sym same_views) (subst (λ ns. IsCompiled w (views w before) ns) (sym same_nodes) whole.meant.of)
 
     -- the items are what their attributes make of them
     owned : (k : ℕ) (file : File) → slice_get after.files.items k ≡ Some file → All (IsOwnItem w.expansion) file.ast.items.items
@@ -250,14 +253,28 @@ module _ (w : World) (before after : Compilation) (is : IsNumbered before after)
         let o = old_at k file f in
         let are = is.items k o.0 file o.1 f in
         all_kept (IsOwnItem w.expansion) o.0.ast.items.items file.ast.items.items are.many
-        (λ place x y e g. own_kept w.expansion x y (are.each place x y e g).numbered (are.each place x y e g).shape) (meant.options k o.0 o.1)
+        (λ place x y e g. own_kept w.expansion x y (are.each place x y e g).numbered (are.each place x y e g).shape) (whole.meant.options k o.0 o.1)
+
+    -- their expressions hold what their strings stand for
+    cooked : AreExpressionsCooked w after
+    cooked k file f =
+        let o = old_at k file f in
+        let are = is.items k o.0 file o.1 f in
+        let same : file.key.now ≡ o.0.key.now = ap (λ n. n.key) (names_at k o.0 file o.1 f) in
+        let origin : Origin = from_file o.0.key.now w.expansion in
+        subst (λ key. All (AreSeenCooked (from_file key w.expansion)) file.ast.items.items) (sym same)
+        (all_kept (AreSeenCooked origin) o.0.ast.items.items file.ast.items.items are.many
+        (λ place x y e g. said_cooked origin (seen_in x) (seen_in y) (are.each place x y e g).said)
+        (All-weaker (IsItemCooked origin) (AreSeenCooked origin) (seen_cooked origin) o.0.ast.items.items (whole.cooked k o.0 o.1)))
 
 -- what holds before the variables get their numbers holds after
 pub numbered_world : NumberedAreMeant
-numbered_world w before after meant is bound = record {
-  of = compiled w before after is meant;
-  single = λ k node there. meant.single k node (ap (λ ms. slice_get ms.items k) (sym is.modules) ∙ there);
+numbered_world w before after whole is bound = record {
+  of = compiled w before after is whole;
+  single = λ k node there. whole.meant.single k node (ap (λ ms. slice_get ms.items k) (sym is.modules) ∙ there);
+  settings = λ k node there. whole.meant.settings k node (ap (λ ms. slice_get ms.items k) (sym is.modules) ∙ there);
   bound = bound;
-  options = owned w before after is meant;
-  above = λ k view there. meant.above k view (ap (λ vs. slice_get vs k) (sym (same_views w before after is)) ∙ there);
+  options = owned w before after is whole;
+  cooked = cooked w before after is whole;
+  above = λ k view there. whole.meant.above k view (ap (λ vs. slice_get vs k) (sym (same_views w before after is)) ∙ there);
 }

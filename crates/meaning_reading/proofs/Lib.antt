@@ -17,4 +17,5 @@ pub mod Told
 pub mod Clear
 pub mod Chains
 pub mod Cycles
+pub mod Cooked
 pub mod Carried

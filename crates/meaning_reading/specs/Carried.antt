@@ -3,9 +3,9 @@ use Rattle.modules_compilation.specs.declared.compilation.Compilation.{Compilati
 use Rattle.resolve_analysis.specs.Bound.{AreBound}
 use Rattle.resolve_analysis.specs.Numbered.{IsNumbered}
 use Rattle.meaning_worlds.specs.Given.{World}
-use Rattle.meaning_names.specs.Meant.{IsMeant}
+use Rattle.meaning_names.specs.Meant.{IsMeantWhole}
 use Rattle.meaning_reading.specs.Meant.{IsNumberedWorld}
 
 -- a compilation that stands for the modules of a world before its variables get their numbers does so after, with the numbers of its names
 abbrev pub NumberedAreMeant : Type 0
-NumberedAreMeant = (w : World) (before after : Compilation) → IsMeant w before → IsNumbered before after → AreBound after → IsNumberedWorld w after
+NumberedAreMeant = (w : World) (before after : Compilation) → IsMeantWhole w before → IsNumbered before after → AreBound after → IsNumberedWorld w after

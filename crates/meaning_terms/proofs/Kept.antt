@@ -153,12 +153,16 @@ step level h left =
 is_from : (e : Expression) → IsFrom e
 is_from = induction IsFrom step
 
--- where an expression was numbered, it holds what it held
-pub numbered_holds : (number : List ℕ → Option ℕ) (old new : Expression) → IsNumbered number old new → held_by new ≡ held_by old
-numbered_holds number old new h =
+-- expressions of one shape, with the same texts, tokens and strings, hold the same
+pub same_holds : (old new : Expression) → shape_of new ≡ shape_of old → texts_of new ≡ texts_of old → tokens_of new ≡ tokens_of old → literals_of new ≡ literals_of old → held_by new ≡ held_by old
+same_holds old new shape texts tokens literals =
     let nothing : Left = record { texts = []; literals = []; tokens = [] } in
     ap (λ (a : List Held × Left). a.0)
-    (sym (is_from new nothing) ∙ (λ i. held_from (h.shape i) (record { texts = h.texts i ++ []; literals = h.literals i ++ []; tokens = h.tokens i ++ [] })) ∙ is_from old nothing)
+    (sym (is_from new nothing) ∙ (λ i. held_from (shape i) (record { texts = texts i ++ []; literals = literals i ++ []; tokens = tokens i ++ [] })) ∙ is_from old nothing)
+
+-- where an expression was numbered, it holds what it held
+pub numbered_holds : (number : List ℕ → Option ℕ) (old new : Expression) → IsNumbered number old new → held_by new ≡ held_by old
+numbered_holds number old new h = same_holds old new h.shape h.texts h.tokens h.literals
 
 -- where an expression that was cooked was numbered, it is cooked
 pub numbered_cooked : (x : Origin) (number : List ℕ → Option ℕ) (old new : Expression) → IsNumbered number old new → IsCooked x old → IsCooked x new

@@ -30,7 +30,7 @@ when_ok (Err e) f p = tt
 
 -- an item is the same as itself
 pub same_item : (item : Item) → IsSameItem item item
-same_item item = record { numbered = numbered_itself item; shape = refl }
+same_item item = record { numbered = numbered_itself item; shape = refl; said = refl }
 
 pub same_file : (file : File) → IsSameFile file file
 same_file file = record { many = refl; each = λ place old new before after. subst (IsSameItem old) (cc (sym before ∙ after)) (same_item old) }

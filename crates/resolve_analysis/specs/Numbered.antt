@@ -10,7 +10,8 @@ use Rattle.modules_compilation.specs.Places.{name_of}
 use Rattle.modules_compilation.specs.declared.compilation.Compilation.{Compilation}
 use Rattle.modules_compilation.specs.declared.module_node.File.{File}
 use Rattle.resolve_references.specs.Numbered.{IsNumberedItem}
-use Rattle.resolve_references.specs.Seen.{HaveNumbers}
+use Rattle.resolve_references.specs.Said.{said_by}
+use Rattle.resolve_references.specs.Seen.{HaveNumbers, seen_in}
 
 -- the names of items, in order
 abbrev pub names_of : List Item → List (Option Name)
@@ -30,6 +31,7 @@ file_names file = record { key = file.key.now; owner = file.module; depth = file
 pub record IsSameItem (before after : Item) : Type 0 where
   pub numbered : IsNumberedItem before after
   pub shape : item_shape after ≡ item_shape before
+  pub said : said_by (seen_in after) ≡ said_by (seen_in before)
 
 -- the same of all items, place by place
 pub record AreSameItems (before after : List Item) : Type 0 where

@@ -1,5 +1,5 @@
 -- What is as it was is numbered.
-use Rattle.std.proofs.Common.{◌≡◌, refl}
+use Rattle.std.proofs.Common.{refl}
 use Rattle.tree_attributes.specs.declared.setting.Setting.{Setting}
 use Rattle.tree_attributes.specs.declared.setting.Setting.TheVariants as settings
 use Rattle.tree_items.specs.declared.ast.Item.{Item}

@@ -10,7 +10,6 @@ use Rattle.tree_attribute_sets.specs.declared.attribute_item.AttributeItem.{Attr
 use Rattle.tree_attribute_sets.specs.Order.{item_shape}
 use Rattle.tree_attribute_sets.specs.Sets.{items_of, written_item}
 use Rattle.tree_items.specs.Contexts.{number_in, parameter_number}
-use Rattle.tree_items.specs.Recipes.{parameter_shapes, recipe_shape}
 use Rattle.tree_items.specs.declared.recipe.Parameter.{Parameter}
 use Rattle.tree_items.specs.declared.recipe.Recipe.{Recipe}
 use Rattle.tree_items.specs.declared.recipe.UnresolvedDependency.{UnresolvedDependency}

@@ -5,3 +5,4 @@ pub mod Numbered
 pub mod Places
 pub mod References
 pub mod Seen
+pub mod Said

@@ -12,7 +12,8 @@ ghost use Rattle.tree_items.specs.Files.{item_shape};
 ghost use Rattle.tree_items.specs.Lines.{piece_of, pieces_of};
 ghost use Rattle.tree_items.specs.Recipes.{argument_shape, body_shape, dependency_shape, dependency_shapes, parameter_shape, parameter_shapes, recipe_shape};
 ghost use Rattle.resolve_references.specs.Numbered.{IsNumberedItem, IsSameRecipe, IsSameSetting, bare_parameter, bare_parameters};
-ghost use Rattle.resolve_references.specs.Seen.{AreNumberedBy, HasNumbers, HaveNumbers, StandsFor, seeing, seeing_if_there, seen_in_attributes, seen_in_body, seen_in_dependencies, seen_in_dependency, seen_in_fragment, seen_in_interpreter, seen_in_line, seen_in_parameters, seen_in_recipe, seen_in_setting};
+ghost use Rattle.resolve_references.specs.Said.{SayTheSame, said_by, said_of};
+ghost use Rattle.resolve_references.specs.Seen.{AreNumberedBy, HasNumbers, HaveNumbers, StandsFor, seeing, seeing_if_there, seen_in, seen_in_attributes, seen_in_body, seen_in_dependencies, seen_in_dependency, seen_in_fragment, seen_in_interpreter, seen_in_line, seen_in_parameters, seen_in_recipe, seen_in_setting};
 
 use std::alloc::{AllocError, Global};
 use tree_attribute_sets::AttributeSet;
@@ -33,6 +34,7 @@ struct Names<'a, 'src> {
 
 fn number_expression(expression: &mut Expression, names: &Names)
     ensures shape { shape_of expression.new ≡ shape_of expression.old }
+    ensures said { SayTheSame (λ seen. seeing seen expression.old ∷ []) (λ seen. seeing seen expression.new ∷ []) }
     ensures numbers { AreNumberedBy names.now.parameters.now names.now.bindings.now (λ seen. seeing seen expression.new ∷ []) }
 {
     resolve_variables(expression, names.parameters, names.bindings);
@@ -40,6 +42,7 @@ fn number_expression(expression: &mut Expression, names: &Names)
 
 fn number_if_there(expression: &mut Option<Expression>, names: &Names)
     ensures shape { option_map shape_of expression.new ≡ option_map shape_of expression.old }
+    ensures said { SayTheSame (λ seen. seeing_if_there seen expression.old) (λ seen. seeing_if_there seen expression.new) }
     ensures numbers { AreNumberedBy names.now.parameters.now names.now.bindings.now (λ seen. seeing_if_there seen expression.new) }
 {
     if let Some(expression) = expression {
@@ -49,6 +52,7 @@ fn number_if_there(expression: &mut Option<Expression>, names: &Names)
 
 fn number_row(expressions: &mut Vec<Expression>, names: &Names)
     ensures shapes { map shape_of expressions.new.items ≡ map shape_of expressions.old.items }
+    ensures said { SayTheSame (λ seen. map (seeing seen) expressions.old.items) (λ seen. map (seeing seen) expressions.new.items) }
     ensures numbers { AreNumberedBy names.now.parameters.now names.now.bindings.now (λ seen. map (seeing seen) expressions.new.items) }
 {
     for index in 0..expressions.len() {
@@ -58,6 +62,7 @@ fn number_row(expressions: &mut Vec<Expression>, names: &Names)
 
 fn number_interpreter<'src>(interpreter: &mut Interpreter<Expression<'src>>, names: &Names)
     ensures shape { interpreter_shape interpreter.new ≡ interpreter_shape interpreter.old }
+    ensures said { SayTheSame (λ seen. seen_in_interpreter seen interpreter.old) (λ seen. seen_in_interpreter seen interpreter.new) }
     ensures numbers { AreNumberedBy names.now.parameters.now names.now.bindings.now (λ seen. seen_in_interpreter seen interpreter.new) }
 {
     number_expression(&mut interpreter.command, names);
@@ -66,6 +71,7 @@ fn number_interpreter<'src>(interpreter: &mut Interpreter<Expression<'src>>, nam
 
 fn number_fragment(fragment: &mut Fragment, names: &Names)
     ensures shape { piece_of fragment.new ≡ piece_of fragment.old }
+    ensures said { SayTheSame (λ seen. seen_in_fragment seen fragment.old) (λ seen. seen_in_fragment seen fragment.new) }
     ensures numbers { AreNumberedBy names.now.parameters.now names.now.bindings.now (λ seen. seen_in_fragment seen fragment.new) }
 {
     if let Fragment::Interpolation { expression } = fragment {
@@ -75,6 +81,7 @@ fn number_fragment(fragment: &mut Fragment, names: &Names)
 
 fn number_line(line: &mut Line, names: &Names)
     ensures shape { pieces_of line.new ≡ pieces_of line.old }
+    ensures said { SayTheSame (λ seen. seen_in_line seen line.old) (λ seen. seen_in_line seen line.new) }
     ensures numbers { AreNumberedBy names.now.parameters.now names.now.bindings.now (λ seen. seen_in_line seen line.new) }
 {
     for index in 0..line.fragments.len() {
@@ -84,6 +91,7 @@ fn number_line(line: &mut Line, names: &Names)
 
 fn number_body(body: &mut Vec<Line>, names: &Names)
     ensures shape { body_shape body.new.items ≡ body_shape body.old.items }
+    ensures said { SayTheSame (λ seen. seen_in_body seen body.old.items) (λ seen. seen_in_body seen body.new.items) }
     ensures numbers { AreNumberedBy names.now.parameters.now names.now.bindings.now (λ seen. seen_in_body seen body.new.items) }
 {
     for index in 0..body.len() {
@@ -93,6 +101,7 @@ fn number_body(body: &mut Vec<Line>, names: &Names)
 
 fn number_argument(argument: &mut DependencyArgument, names: &Names)
     ensures shape { argument_shape argument.new ≡ argument_shape argument.old }
+    ensures said { SayTheSame (λ seen. seeing seen argument.old.expression ∷ []) (λ seen. seeing seen argument.new.expression ∷ []) }
     ensures numbers { AreNumberedBy names.now.parameters.now names.now.bindings.now (λ seen. seeing seen argument.new.expression ∷ []) }
 {
     number_expression(&mut argument.expression, names);
@@ -100,6 +109,7 @@ fn number_argument(argument: &mut DependencyArgument, names: &Names)
 
 fn number_dependency(dependency: &mut UnresolvedDependency, names: &Names)
     ensures shape { dependency_shape dependency.new ≡ dependency_shape dependency.old }
+    ensures said { SayTheSame (λ seen. seen_in_dependency seen dependency.old) (λ seen. seen_in_dependency seen dependency.new) }
     ensures numbers { AreNumberedBy names.now.parameters.now names.now.bindings.now (λ seen. seen_in_dependency seen dependency.new) }
 {
     for index in 0..dependency.arguments.len() {
@@ -109,6 +119,7 @@ fn number_dependency(dependency: &mut UnresolvedDependency, names: &Names)
 
 fn number_dependencies(dependencies: &mut Vec<UnresolvedDependency>, names: &Names)
     ensures shapes { dependency_shapes dependencies.new.items ≡ dependency_shapes dependencies.old.items }
+    ensures said { SayTheSame (λ seen. seen_in_dependencies seen dependencies.old.items) (λ seen. seen_in_dependencies seen dependencies.new.items) }
     ensures numbers { AreNumberedBy names.now.parameters.now names.now.bindings.now (λ seen. seen_in_dependencies seen dependencies.new.items) }
 {
     for index in 0..dependencies.len() {
@@ -120,6 +131,7 @@ fn number_dependencies(dependencies: &mut Vec<UnresolvedDependency>, names: &Nam
 fn number_parameter(parameter: &mut Parameter, names: &Names)
     ensures shape { parameter_shape parameter.new ≡ parameter_shape parameter.old }
     ensures bare { bare_parameter parameter.new ≡ bare_parameter parameter.old }
+    ensures said { SayTheSame (λ seen. seeing_if_there seen parameter.old.default ++ seeing_if_there seen parameter.old.value) (λ seen. seeing_if_there seen parameter.new.default ++ seeing_if_there seen parameter.new.value) }
     ensures numbers { AreNumberedBy names.now.parameters.now names.now.bindings.now (λ seen. seeing_if_there seen parameter.new.default ++ seeing_if_there seen parameter.new.value) }
 {
     number_if_there(&mut parameter.default, names);
@@ -135,6 +147,7 @@ fn number_next<'src>(
 ) -> Result<(), AllocError>
     ensures shape { parameter_shape parameter.new ≡ parameter_shape parameter.old }
     ensures bare { bare_parameter parameter.new ≡ bare_parameter parameter.old }
+    ensures said { SayTheSame (λ seen. seeing_if_there seen parameter.old.default ++ seeing_if_there seen parameter.old.value) (λ seen. seeing_if_there seen parameter.new.default ++ seeing_if_there seen parameter.new.value) }
     ensures numbers { AreNumberedBy earlier.old bindings.now (λ seen. seeing_if_there seen parameter.new.default ++ seeing_if_there seen parameter.new.value) }
     ensures named { OnOk result ((other : List ℕ) → number_in earlier.new other ≡ (if bytes_eq (lexeme parameter.new.name.token) other then Some parameter.new.number else number_in earlier.old other)) }
 {
@@ -157,6 +170,7 @@ fn number_parameters<'src>(
 ) -> Result<ExpressionContext<'src>, AllocError>
     ensures shapes { parameter_shapes parameters.new.items ≡ parameter_shapes parameters.old.items }
     ensures bare { bare_parameters parameters.new.items ≡ bare_parameters parameters.old.items }
+    ensures said { said_by (seen_in_parameters [] parameters.new.items) ≡ said_by (seen_in_parameters [] parameters.old.items) }
     ensures names { IfOk result (λ context. StandsFor context (map parameter_number parameters.new.items)) }
     ensures numbers { OnOk result (All (HasNumbers (number_in bindings.now)) (seen_in_parameters [] parameters.new.items)) }
 {
@@ -174,6 +188,7 @@ fn number_attributes<'src>(
     names: &Names<'_, 'src>,
 )
     ensures shapes { shapes_in attributes.new ≡ shapes_in attributes.old }
+    ensures said { SayTheSame (λ seen. seen_in_attributes seen (items_of attributes.old)) (λ seen. seen_in_attributes seen (items_of attributes.new)) }
     ensures numbers { AreNumberedBy names.now.parameters.now names.now.bindings.now (λ seen. seen_in_attributes seen (items_of attributes.new)) }
 {
     let none = ExpressionContext::new(alloc);
@@ -190,6 +205,10 @@ fn number_rest<'src>(
     ensures kept { recipe.new.parameters ≡ recipe.old.parameters }
     ensures attributes { shapes_in recipe.new.attributes ≡ shapes_in recipe.old.attributes }
     ensures shape { recipe_shape recipe.new ≡ recipe_shape recipe.old }
+    ensures said_front { SayTheSame (λ seen. seen_in_attributes seen (items_of recipe.old.attributes)) (λ seen. seen_in_attributes seen (items_of recipe.new.attributes)) }
+    ensures said_priors { SayTheSame (λ seen. seen_in_dependencies seen recipe.old.priors.items) (λ seen. seen_in_dependencies seen recipe.new.priors.items) }
+    ensures said_subsequents { SayTheSame (λ seen. seen_in_dependencies seen recipe.old.subsequents.items) (λ seen. seen_in_dependencies seen recipe.new.subsequents.items) }
+    ensures said_body { SayTheSame (λ seen. seen_in_body seen recipe.old.body.items) (λ seen. seen_in_body seen recipe.new.body.items) }
     ensures front { AreNumberedBy names.now.parameters.now names.now.bindings.now (λ seen. seen_in_attributes seen (items_of recipe.new.attributes)) }
     ensures priors { AreNumberedBy names.now.parameters.now names.now.bindings.now (λ seen. seen_in_dependencies seen recipe.new.priors.items) }
     ensures subsequents { AreNumberedBy names.now.parameters.now names.now.bindings.now (λ seen. seen_in_dependencies seen recipe.new.subsequents.items) }
@@ -209,6 +228,7 @@ fn number_recipe<'src>(
     ensures same { IsSameRecipe recipe.old recipe.new }
     ensures attributes { shapes_in recipe.new.attributes ≡ shapes_in recipe.old.attributes }
     ensures shape { recipe_shape recipe.new ≡ recipe_shape recipe.old }
+    ensures said { said_by (seen_in_recipe recipe.new) ≡ said_by (seen_in_recipe recipe.old) }
     ensures numbers { OnOk result (All (HasNumbers (number_in bindings.now)) (seen_in_recipe recipe.new)) }
 {
     let parameters = number_parameters(alloc, &mut recipe.parameters, bindings)?;
@@ -244,6 +264,7 @@ fn number_function<'src>(
 ) -> Result<(), AllocError>
     ensures same { function.new ≡ record function.old { body = function.new.body } }
     ensures shape { shape_of function.new.body ≡ shape_of function.old.body }
+    ensures said { said_of function.new.body ≡ said_of function.old.body }
     ensures numbers { OnOk result (HasNumbers (number_in bindings.now) (seeing (map named_number function.new.parameters.items) function.new.body)) }
 {
     let parameters = function_names(alloc, function.parameters.as_slice())?;
@@ -259,6 +280,7 @@ fn number_assignment<'src>(
 )
     ensures same { assignment.new ≡ record assignment.old { value = assignment.new.value } }
     ensures shape { shape_of assignment.new.value ≡ shape_of assignment.old.value }
+    ensures said { said_of assignment.new.value ≡ said_of assignment.old.value }
     ensures numbers { HasNumbers (number_in bindings.now) (seeing [] assignment.new.value) }
 {
     let none = ExpressionContext::new(alloc);
@@ -268,6 +290,7 @@ fn number_assignment<'src>(
 fn number_setting(setting: &mut Setting, names: &Names)
     ensures same { IsSameSetting setting.old setting.new }
     ensures shape { value_shape setting.new ≡ value_shape setting.old }
+    ensures said { said_by (seen_in_setting setting.new) ≡ said_by (seen_in_setting setting.old) }
     ensures numbers { StandsFor names.now.parameters.now [] → All (HasNumbers (number_in names.now.bindings.now)) (seen_in_setting setting.new) }
 {
     match setting {
@@ -288,6 +311,7 @@ fn number_set<'src>(alloc: Global, set: &mut Set<'src>, bindings: &ExpressionCon
     ensures same { set.new ≡ record set.old { value = set.new.value } }
     ensures setting { IsSameSetting set.old.value set.new.value }
     ensures shape { value_shape set.new.value ≡ value_shape set.old.value }
+    ensures said { said_by (seen_in_setting set.new.value) ≡ said_by (seen_in_setting set.old.value) }
     ensures numbers { All (HasNumbers (number_in bindings.now)) (seen_in_setting set.new.value) }
 {
     let none = ExpressionContext::new(alloc);
@@ -310,6 +334,7 @@ pub fn number_item<'src>(
 ) -> Result<(), AllocError>
     ensures numbered { IsNumberedItem item.old item.new }
     ensures shape { item_shape item.new ≡ item_shape item.old }
+    ensures said { said_by (seen_in item.new) ≡ said_by (seen_in item.old) }
     ensures numbers { OnOk result (HaveNumbers (number_in bindings.now) item.new) }
 {
     match item {

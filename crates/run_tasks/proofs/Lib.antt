@@ -1,2 +1,4 @@
 pub mod Added
 pub mod Sentences
+pub mod Standing
+pub mod Ending

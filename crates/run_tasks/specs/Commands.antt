@@ -12,7 +12,7 @@ use Rattle.evaluate_context.specs.Surroundings.{surroundings_of, standing_in, jo
 use Rattle.evaluate_context.specs.declared.context.ExecutionContext.{ExecutionContext}
 use Rattle.justfile_evaluator.specs.declared.fault.RunFault.TheVariants.{OutOfMemory}
 use Rattle.run_tasks.specs.declared.fault.TaskFault.{TaskFault}
-use Rattle.run_tasks.specs.declared.fault.TaskFault.TheVariants.{Run, Command}
+use Rattle.run_tasks.specs.declared.fault.TaskFault.TheVariants.{Run, Command, Opening}
 use Rattle.run_tasks.specs.declared.task.Performed.{Performed}
 use Rattle.run_tasks.specs.declared.task.Performed.TheVariants.{Ran}
 
@@ -36,6 +36,7 @@ abbrev pub IsEnd : Bool → List ℕ → Status → Result Performed TaskFault �
 IsEnd no_exit_message command status (Ok performed) = (status ≡ ends.Code 0) × (performed ≡ Ran)
 IsEnd no_exit_message command status (Err (Command fault)) =
     (status ≢ ends.Code 0) × (fault ≡ record { word = command; status = status; is_silent = is_unsaid no_exit_message status })
+IsEnd no_exit_message command status (Err (Opening fault)) = ⊥
 IsEnd no_exit_message command status (Err (Run fault)) = (status ≢ ends.Code 0) × (fault ≡ OutOfMemory)
 
 -- all is well, and nothing was handed over

@@ -2,3 +2,4 @@ pub mod Commands
 pub mod Faulted
 pub mod Kinds
 pub mod Tasks
+pub mod Opened

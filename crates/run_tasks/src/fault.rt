@@ -4,7 +4,7 @@ ghost use Rattle.std.specs.Fmt.{WritesOnOk};
 ghost use Rattle.just_host.specs.Failures.{status_text};
 ghost use Rattle.justfile_evaluator.specs.declared.fault.RunFault.TheVariants.{OutOfMemory};
 
-use analyze_runs::RunFault;
+use analyze_runs::{OpeningFault, RunFault};
 use just_host::Status;
 use just_text::Text;
 use std::alloc::{AllocError, AllocFailed};
@@ -49,7 +49,9 @@ impl fmt::Display for CommandFault {
 /// Why a task failed.
 #[derive(Debug, Drop)]
 pub enum TaskFault<'src> {
-    /// A module could not open, or a recipe failed; or memory ran out.
+    /// A module could not open.
+    Opening(OpeningFault<'src>),
+    /// A recipe failed, or memory ran out.
     Run(RunFault<'src>),
     /// The command that the words are failed.
     Command(CommandFault),
@@ -72,6 +74,16 @@ impl<T: Drop> From<AllocFailed<T>> for TaskFault<'_> {
 
     fn from(_refused: AllocFailed<T>) -> Self {
         TaskFault::Run(RunFault::OutOfMemory)
+    }
+}
+
+impl<'src> From<OpeningFault<'src>> for TaskFault<'src> {
+    ghost use Rattle.run_tasks.specs.declared.fault.TaskFault.TheVariants.{Opening};
+
+    ghost from_gives = { λ f e. e ≡ Opening f };
+
+    fn from(fault: OpeningFault<'src>) -> Self {
+        TaskFault::Opening(fault)
     }
 }
 

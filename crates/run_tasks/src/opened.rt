@@ -4,6 +4,16 @@ ghost use Rattle.std.specs.String.{string_bytes};
 ghost use Rattle.std.specs.List.{All};
 ghost use Rattle.analyze_calls.specs.Asked.{AsksIn};
 ghost use Rattle.run_tasks.specs.Kinds.{AsksFor, AsksOver, AsksRoot};
+ghost use Rattle.std.specs.Prelude.{[], ℕ, List};
+ghost use Rattle.std.specs.Global.{Vec};
+ghost use Rattle.just_value.specs.Constants.{constant_rows};
+ghost use Rattle.just_value.specs.Frames.{BindsRows};
+ghost use Rattle.analyze_calls.specs.Calls.{rows};
+ghost use Rattle.analyze_calls.specs.Opening.{opened_rows};
+ghost use Rattle.analyze_calls.specs.declared.call.Call.{Call};
+ghost use Rattle.analyze_runs.specs.Tallies.{tally_of};
+ghost use Rattle.run_tasks.specs.Opened.{AreContexts, ArePositions, IfEnded, IsOpeningOf, Runs, RunsIn, RunsOpened};
+ghost use Rattle.run_tasks.specs.declared.task.Task.TheVariants.{Run};
 ghost use Rattle.run_tasks.specs.Tasks as spec;
 ghost use Rattle.run_tasks.specs.Tasks.{CommandsIn, Does, IsEvaluated};
 
@@ -12,7 +22,7 @@ use crate::fault::TaskFault;
 use crate::task::{Performed, Task, TaskContext};
 use analyze_runs::{Call, Opened, Opening, Planned, Runner, Tally, open_modules, run_calls};
 use evaluate_context::{ExecutionContext, ModuleView};
-use just_host::{Config, Recorded, RunHost};
+use just_host::{Recorded, RunHost};
 use just_text::{Number, Text};
 use just_value::Scope;
 use justfile_analyzer::{EvaluationTarget, variables_text};
@@ -20,7 +30,9 @@ use std::alloc::{AllocError, Global};
 use std::collections::BTreeMap;
 
 /// The place of each module among those that are open.
-fn positions(alloc: Global, opened: &[Opened], count: usize) -> Result<Vec<usize>, AllocError> {
+fn positions(alloc: Global, opened: &[Opened], count: usize) -> Result<Vec<usize>, AllocError>
+    ensures { IfOk result (λ positions. ArePositions (opened_rows opened.now) count positions.items) }
+{
     let mut positions = vec![in alloc; opened.len(); count]?;
     for place in 0..opened.len() {
         let module = opened[place].module;
@@ -34,13 +46,12 @@ fn positions(alloc: Global, opened: &[Opened], count: usize) -> Result<Vec<usize
 /// What each module's recipes rest on, by the modules' places.
 fn contexts<'x, 'src>(
     alloc: Global,
+    context: &TaskContext<'x>,
     modules: &'x [ModuleView<'x, 'src>],
     opened: &'x [Opened<'x, 'src>],
-    config: &'x Config,
-    overrides: &'x BTreeMap<Number, String>,
-    root: &'x str,
 ) -> Result<Vec<ExecutionContext<'x, 'src>>, AllocError>
-    ensures { IfOk result (λ contexts. All (λ context. context.config.now ≡ config.now) contexts.items) }
+    ensures configured { IfOk result (λ contexts. All (λ here. here.config.now ≡ context.now.config.now) contexts.items) }
+    ensures contexts { IfOk result (λ contexts. AreContexts context.now (opened_rows opened.now) 0 modules.now contexts.items) }
 {
     let positions = positions(alloc, opened, modules.len())?;
     let mut contexts = Vec::new(alloc);
@@ -49,13 +60,14 @@ fn contexts<'x, 'src>(
         if position >= opened.len() {
             continue;
         }
+        let one = &opened[position];
         contexts.push(ExecutionContext {
-            config,
-            dotenv: &opened[position].dotenv,
+            config: context.config,
+            dotenv: &one.dotenv,
             module: &modules[module],
-            overrides,
-            scope: &opened[position].scope,
-            root,
+            overrides: context.overrides,
+            scope: &one.scope,
+            root: context.root,
         })?;
     }
     Ok(contexts)
@@ -71,6 +83,7 @@ fn run<'a, 'src, H: RunHost + Drop>(
     tally: &mut Tally,
 ) -> Result<Performed, TaskFault<'src>>
     ensures asks { AsksIn contexts.now H.goes host.old host.new }
+    ensures runs { IfEnded host.new.exhausted result (RunsIn recipes.now contexts.now (rows calls.items) host.old.entries (tally_of tally.old) host.new.entries (tally_of tally.new)) }
 {
     let runner = Runner { recipes, contexts };
     run_calls(alloc, host, &runner, calls, tally)?;
@@ -163,6 +176,7 @@ fn perform_in<'a, 'src, H: RunHost + Drop>(
 ) -> Result<Performed, TaskFault<'src>>
     ensures does { Does H.goes contexts.now task.entry host.old result host.new }
     ensures asks { AsksOver contexts.now task.entry H.goes host.old host.new }
+    ensures runs { (calls : Vec Call) → task.entry ≡ Run calls → IfEnded host.new.exhausted result (RunsIn recipes.now contexts.now (rows calls.items) host.old.entries (tally_of tally.old) host.new.entries (tally_of tally.new)) }
 {
     match task {
         Task::Run(calls) => run(alloc, host, recipes, contexts, calls, tally),
@@ -183,15 +197,9 @@ fn perform_opened<'a, 'src, H: RunHost + Drop>(
     tally: &mut Tally,
 ) -> Result<Performed, TaskFault<'src>>
     ensures asks { AsksFor task.entry context.now.config.now.dry_run H.goes host.old host.new }
+    ensures runs { (calls : Vec Call) → task.entry ≡ Run calls → IfEnded host.new.exhausted result (RunsOpened context.now modules.now recipes.now (rows calls.items) (opened_rows opened.now) host.old.entries (tally_of tally.old) host.new.entries (tally_of tally.new)) }
 {
-    let contexts = contexts(
-        alloc,
-        modules,
-        opened,
-        context.config,
-        context.overrides,
-        context.root,
-    )?;
+    let contexts = contexts(alloc, context, modules, opened)?;
     perform_in(alloc, host, recipes, contexts.as_slice(), task, tally)
 }
 
@@ -199,7 +207,9 @@ fn perform_opened<'a, 'src, H: RunHost + Drop>(
 fn opening_of<'a, 'src>(
     context: &TaskContext<'a>,
     constants: &'a Scope<'a, 'src>,
-) -> Opening<'a, 'src> {
+) -> Opening<'a, 'src>
+    ensures { BindsRows constant_rows constants.now.own → constants.now.outer ≡ [] → IsOpeningOf context.now result }
+{
     Opening {
         config: context.config,
         overrides: context.overrides,
@@ -221,6 +231,7 @@ fn perform_inside<'src, H: RunHost + Drop>(
     tally: &mut Tally,
 ) -> Result<Performed, TaskFault<'src>>
     ensures asks { AsksFor task.entry context.now.config.now.dry_run H.goes host.old host.new }
+    ensures runs { BindsRows constant_rows constants.now.own → constants.now.outer ≡ [] → (calls : Vec Call) → task.entry ≡ Run calls → IfEnded host.new.exhausted result (Runs context.now modules.now recipes.now (rows calls.items) host.old.entries (tally_of tally.old) host.new.entries (tally_of tally.new)) }
 {
     let opening = opening_of(&*context, &*constants);
     let opened = open_modules(alloc, host, &opening, modules, context.opening_order)?;
@@ -242,8 +253,8 @@ fn perform_inside<'src, H: RunHost + Drop>(
 ///
 /// # Errors
 ///
-/// `Run` where a module can't open, a recipe fails, or memory runs out; `Command` where the command
-/// that the words are fails.
+/// `Opening` where a module can't open, `Run` where a recipe fails or memory runs out, `Command` where
+/// the command that the words are fails.
 pub fn perform<'src, H: RunHost + Drop>(
     alloc: Global,
     host: &mut Recorded<H>,
@@ -255,6 +266,8 @@ pub fn perform<'src, H: RunHost + Drop>(
 ) -> Result<Performed, TaskFault<'src>>
     // The record has grown by just what was asked, and the host went along by it.
     ensures asks { AsksFor task.entry context.now.config.now.dry_run H.goes host.old host.new }
+    // Where calls run and memory suffices, the modules open, and then the calls run over what is open, up to the first failure.
+    ensures runs { (calls : Vec Call) → task.entry ≡ Run calls → IfEnded host.new.exhausted result (Runs context.now modules.now recipes.now (rows calls.items) host.old.entries (tally_of tally.old) host.new.entries (tally_of tally.new)) }
 {
     let constants = Scope::root(alloc)?;
     perform_inside(

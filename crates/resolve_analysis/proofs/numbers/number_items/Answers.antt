@@ -13,7 +13,7 @@ use Rattle.resolve_analysis.proofs.numbers.number_items.Goals as goal
 pub loop-place-preserved : goal.loop-place-preserved
 loop-place-preserved c = record {
   names = map-set_same name_of c.loop-place.items.items c.loop-place.place c.number_item.new.item c.index_mut.result.now (name_kept c.index_mut.result.now c.number_item.new.item c.number_item.ensures.numbered ∙ ap name_of c.index_mut.ensures.value) ∙ c.loop-place.invariant.names;
-  same = done_more IsSameItem _ c.loop-place.items.items c.loop-place.place c.index_mut.result.now c.number_item.new.item (omega arith) c.loop-place.invariant.same c.index_mut.ensures.value (record { numbered = c.number_item.ensures.numbered; shape = c.number_item.ensures.shape });
+  same = done_more IsSameItem _ c.loop-place.items.items c.loop-place.place c.index_mut.result.now c.number_item.new.item (omega arith) c.loop-place.invariant.same c.index_mut.ensures.value (record { numbered = c.number_item.ensures.numbered; shape = c.number_item.ensures.shape; said = c.number_item.ensures.said });
   numbers = holds_more (HaveNumbers (number_in c.args.names.now)) c.loop-place.items.items c.loop-place.place c.number_item.new.item (omega arith) c.loop-place.invariant.numbers c.in_ok-number_item.ensures.numbers;
 }
 
@@ -22,7 +22,7 @@ returns-in_err-number_item-clause-names c = map-set_same name_of c.loop-place.it
 
 pub returns-in_err-number_item-clause-same : goal.returns-in_err-number_item-clause-same
 returns-in_err-number_item-clause-same c =
-    let done = done_more IsSameItem _ c.loop-place.items.items c.loop-place.place c.index_mut.result.now c.number_item.new.item (omega arith) c.loop-place.invariant.same c.index_mut.ensures.value (record { numbered = c.number_item.ensures.numbered; shape = c.number_item.ensures.shape }) in
+    let done = done_more IsSameItem _ c.loop-place.items.items c.loop-place.place c.index_mut.result.now c.number_item.new.item (omega arith) c.loop-place.invariant.same c.index_mut.ensures.value (record { numbered = c.number_item.ensures.numbered; shape = c.number_item.ensures.shape; said = c.number_item.ensures.said }) in
     record { many = done.many; each = done_all IsSameItem same_item _ _ _ done }
 
 pub returns-clause-same : goal.returns-clause-same

@@ -1,0 +1,9 @@
+pub mod Closing
+pub mod Terms
+pub mod Seen
+pub mod Known
+pub mod Views
+pub mod Evaluated
+pub mod Tables
+pub mod Parameters
+pub mod Opened

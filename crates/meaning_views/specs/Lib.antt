@@ -1,0 +1,4 @@
+pub mod Read
+pub mod Known
+pub mod Recipes
+pub mod Opened

@@ -1,0 +1,4 @@
+pub mod Order
+pub mod Planned
+pub mod Wanted
+pub mod Runs
