@@ -1,5 +1,5 @@
 -- What recipes are bound to, for each way that it goes.
-use Rattle.std.proofs.Common.{◌≡◌, ◌∷◌, ◌∙◌, [], append-nil, ap, refl, sym, Bool, List, ℕ}
+use Rattle.std.proofs.Common.{◌≡◌, ◌∷◌, ◌∙◌, [], append-nil, ap, refl, subst, sym, Bool, List, ℕ}
 use Rattle.std.specs.Prelude.{Err, Ok, Result}
 use Rattle.just_host.specs.declared.entry.Entry.{Entry}
 use Rattle.just_host.specs.Follows.{Nothing}
@@ -12,7 +12,7 @@ use Rattle.just_value.specs.Frames.{Frames}
 use Rattle.evaluate_context.specs.Refusals.{fault_of}
 use Rattle.evaluate_context.specs.declared.context.ExecutionContext.{ExecutionContext}
 use Rattle.evaluate_context.specs.declared.error.Error.{Error}
-use Rattle.evaluate_variables.specs.Given.{AreCounted, BoundRecipe}
+use Rattle.evaluate_variables.specs.Given.{AreCounted, BoundRecipe, HasRowsOf}
 use Rattle.evaluate_variables.specs.declared.parameters.BoundParameters.{BoundParameters}
 use Rattle.meaning_dialogues.specs.Calls.{HasValues, empty}
 use Rattle.meaning_dialogues.specs.Evaluation.{Value}
@@ -55,12 +55,13 @@ module _ (planned : Planned) (context : ExecutionContext) (flag : Bool) (groups 
   abbrev pub IsBoundFrom : Frames → Frames → Result BoundParameters Error → Type 0
   IsBoundFrom here after result = (counts : Formal → ℕ → Bool) → AreCounted may_have counts planned.recipe.now.parameters.items → HasValues here.own empty → BoundRecipe context flag planned.recipe.now counts groups here old new after result
 
-  pub bound_given : (here after : Frames) (given : BoundParameters) → here ≡ inside context.scope.now → after.outer ≡ here.outer → Grew old new → IsBoundFrom here after (Ok given) → Binds planned context flag groups old new (Ok (bound_row after given))
-  bound_given here after given is around grew h = record {
+  pub bound_given : (here after : Frames) (given : BoundParameters) → here ≡ inside context.scope.now → after.outer ≡ here.outer → Grew old new → (HasValues here.own empty → HasRowsOf planned.recipe.now.parameters.items after.own) → IsBoundFrom here after (Ok given) → Binds planned context flag groups old new (Ok (bound_row after given))
+  bound_given here after given is around grew rows h = record {
     grew = grew;
     by_test = λ counts counted.
         let from : IsBoundFrom (inside context.scope.now) after (Ok given) = rw is at h in
         (around ∙ ap (λ f. f.outer) is, from counts counted (none_bound context.scope.now));
+    rows = rows (subst (λ frames. HasValues frames.own empty) (sym is) (none_bound context.scope.now));
   }
 
   pub bound_refused : (here after : Frames) (error : Error) (failure : Failure) → here ≡ inside context.scope.now → failure ≡ evaluation (fault_of error) → Grew old new → IsBoundFrom here after (Err error) → Binds planned context flag groups old new (Err failure)
@@ -69,8 +70,9 @@ module _ (planned : Planned) (context : ExecutionContext) (flag : Bool) (groups 
     by_test = λ counts counted.
         let from : IsBoundFrom (inside context.scope.now) after (Err error) = rw is at h in
         (fault_of error, fails, from counts counted (none_bound context.scope.now));
+    rows = tt;
   }
 
   -- of want of memory only that the record grew is said
   pub bound_memory : Grew old new → Binds planned context flag groups old new (Err (evaluation memory))
-  bound_memory grew = record { grew = grew; by_test = λ counts counted. (memory, refl, record { goes = λ n. absurd (n refl) }) }
+  bound_memory grew = record { grew = grew; by_test = λ counts counted. (memory, refl, record { goes = λ n. absurd (n refl) }); rows = tt }

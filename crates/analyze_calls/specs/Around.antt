@@ -1,5 +1,5 @@
 -- What a call does before its body, in it, and after it.
-use Rattle.std.specs.Prelude.{◌≡◌, Bool, Err, List, Ok, Result, Some, [], map, true, false, ℕ}
+use Rattle.std.specs.Prelude.{◌≡◌, Bool, Err, List, Ok, Result, [], map, true, false}
 use Rattle.std.specs.String.{string_bytes}
 use Rattle.just_text.specs.Tokens.{lexeme}
 use Rattle.tree_attributes.specs.declared.attribute.AttributeKind.TheVariants.{Confirm}
@@ -11,7 +11,9 @@ use Rattle.evaluate_expressions.specs.Situations.{reading_at, stage_at}
 use Rattle.evaluate_expressions.specs.declared.evaluator.Evaluator.{Evaluator}
 use Rattle.evaluate_variables.specs.Given.{stage_with}
 use Rattle.justfile_evaluator.specs.Bodies.{IsBodyOf, NamedBody, task_of}
-use Rattle.justfile_evaluator.specs.Sites.{attribute_in, manner_of}
+use Rattle.justfile_evaluator.specs.Ended.{SaysSo}
+use Rattle.justfile_evaluator.specs.Sites.{attribute_in, is_silent, manner_of}
+use Rattle.justfile_evaluator.specs.declared.fault.RunFault.{RunFault}
 use Rattle.justfile_evaluator.specs.declared.site.Site.{Site}
 use Rattle.meaning_bodies.specs.Performing.{Performs}
 use Rattle.meaning_dialogues.specs.Dialogue.{Dialogue, Ends, Reading}
@@ -54,6 +56,10 @@ module _ (runner : Runner) (planned : Planned) (config : Config) (stage : Stage)
   -- the calls after its body
   abbrev pub subsequent_calls : Dialogue (List CallRow)
   subsequent_calls = calls_unless config.no_dependencies (block runner stage planned.recipe.now.subsequents.items planned.subsequents.now)
+
+-- a command's failure is the recipe's, and nothing is said of it where the recipe's attributes and its module's settings say so
+abbrev pub SaysOwn : Planned → ExecutionContext → RunFault → Type 0
+SaysOwn planned context = SaysSo planned.recipe.now.name (is_silent context.module.now.settings.now planned.recipe.now.attributes)
 
 module _ (planned : Planned) (context : ExecutionContext) (flag : Bool) (entered : EnteredRow) where
   -- by which stage its expressions are evaluated in a frame inside that of its parameters, and what variables give there

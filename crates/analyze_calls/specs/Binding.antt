@@ -1,9 +1,9 @@
 -- What a recipe is bound to as a call enters it.
-use Rattle.std.specs.Prelude.{◌≡◌, ◌&&◌, ◌++◌, Bool, Err, List, Ok, Result, map, ℕ}
+use Rattle.std.specs.Prelude.{◌≡◌, ◌&&◌, ◌++◌, Bool, Err, IfOk, List, Ok, Result, map, ℕ}
 use Rattle.just_host.specs.declared.entry.Entry.{Entry}
 use Rattle.tree_items.specs.declared.recipe.Parameter.{Parameter}
 use Rattle.evaluate_context.specs.declared.context.ExecutionContext.{ExecutionContext}
-use Rattle.evaluate_variables.specs.Given.{AreCounted, bound_at, passes_in}
+use Rattle.evaluate_variables.specs.Given.{AreCounted, HasRowsOf, bound_at, passes_in}
 use Rattle.meaning_dialogues.specs.Dialogue.{Evaluates}
 use Rattle.meaning_dialogues.specs.Evaluation.{Value}
 use Rattle.meaning_dialogues.specs.Faults.{Fault}
@@ -34,7 +34,8 @@ module _ (planned : Planned) (context : ExecutionContext) (flag : Bool) (groups 
       (fault : Fault) × (failure ≡ evaluation fault)
       × Evaluates (run_reading (inside context.scope.now) context.scope.now) (bound_at context flag planned.recipe.now counts groups (inside context.scope.now)) old new (Err fault)
 
-  -- its parameters are bound in a frame inside the module's, by each test that says what `min` and `max` do
+  -- its parameters are bound in a frame inside the module's, by each test that says what `min` and `max` do; what that frame has are bindings of its parameters
   pub record Binds (result : Result EnteredRow Failure) : Type 0 where
     pub grew : Grew old new
     pub by_test : (counts : Formal → ℕ → Bool) → AreCounted may_have counts planned.recipe.now.parameters.items → BindsBy counts result
+    pub rows : IfOk result (λ entered. HasRowsOf planned.recipe.now.parameters.items entered.frames.own)

@@ -1,5 +1,5 @@
 //! Confirmations.
-ghost use Rattle.std.specs.Prelude.{◌≡◌, ℕ, IfOk, List, Some, None};
+ghost use Rattle.std.specs.Prelude.{◌≡◌, ℕ, IfErr, IfOk, List, Some, None};
 ghost use Rattle.std.specs.Option.{option_map};
 ghost use Rattle.std.specs.String.{string_bytes};
 ghost use Rattle.just_text.specs.Tokens.{lexeme};
@@ -10,7 +10,7 @@ ghost use Rattle.meaning_dialogues.specs.Dialogue.{Reading};
 ghost use Rattle.meaning_dialogues.specs.Evaluation.{Stage};
 ghost use Rattle.meaning_runs.specs.Failures.{confirmed};
 ghost use Rattle.meaning_bodies.specs.Performing.{Performs};
-ghost use Rattle.justfile_evaluator.specs.Ended.{ended};
+ghost use Rattle.justfile_evaluator.specs.Ended.{IsTold, ended};
 ghost use Rattle.justfile_evaluator.specs.Sites.{attribute_in};
 ghost use Rattle.analyze_calls.specs.Asked.{AsksUser};
 ghost use Rattle.analyze_calls.specs.Confirming as spec;
@@ -34,6 +34,7 @@ fn prompt_text<'src, H: RunHost + Drop>(
 ) -> Result<String, RunFault<'src>>
     ensures asks { AsksQuestions H.goes host.old host.new }
     ensures performs { (recipe : List ℕ) → Performs (reading_at evaluator.now) (spec.prompt_text (stage_at evaluator.now) recipe (Some prompt.now)) host.old host.new (with_text result) }
+    ensures told { IfErr result IsTold }
 {
     let value = evaluator.evaluate_value(alloc, host, prompt)?;
     Ok(value.join(alloc)?)
@@ -59,7 +60,8 @@ fn prompt_of<'a, 'src>(attributes: &'a AttributeSet<'src>) -> Option<Option<&'a 
 
 /// Whether the recipe runs after the user's answer.
 fn judged<'src>(answer: Confirmation, recipe: Name<'src>) -> Result<(), RunFault<'src>>
-    ensures { ended result ≡ confirmed (lexeme recipe.entry.token) answer }
+    ensures is { ended result ≡ confirmed (lexeme recipe.entry.token) answer }
+    ensures told { IfErr result IsTold }
 {
     match answer {
         Confirmation::Yes => Ok(()),
@@ -75,6 +77,7 @@ fn ask<'src, H: RunHost + Drop>(
 ) -> Result<(), RunFault<'src>>
     ensures asks { AsksUser H.goes host.old host.new }
     ensures performs { (reading : Reading) → Performs reading (asking (lexeme recipe.entry.token) prompt.now) host.old host.new (ended result) }
+    ensures told { IfErr result IsTold }
 {
     let answer = host.confirm(prompt);
     judged(answer, recipe)
@@ -90,6 +93,7 @@ fn ask_written<'src, H: RunHost + Drop>(
 ) -> Result<(), RunFault<'src>>
     ensures asks { AsksUser H.goes host.old host.new }
     ensures performs { Performs (reading_at evaluator.now) (confirming (stage_at evaluator.now) (lexeme recipe.entry.token) (Some (Some prompt.now))) host.old host.new (ended result) }
+    ensures told { IfErr result IsTold }
 {
     let text = prompt_text(alloc, host, evaluator, prompt)?;
     ask(host, text.as_str(), recipe)
@@ -103,6 +107,7 @@ fn ask_usual<'src, H: RunHost + Drop>(
 ) -> Result<(), RunFault<'src>>
     ensures asks { AsksUser H.goes host.old host.new }
     ensures performs { (reading : Reading) (stage : Stage) → Performs reading (confirming stage (lexeme recipe.entry.token) (Some None)) host.old host.new (ended result) }
+    ensures told { IfErr result IsTold }
 {
     let text = plain_prompt(alloc, recipe)?;
     ask(host, text.as_str(), recipe)
@@ -117,6 +122,7 @@ pub(crate) fn confirm<'src, H: RunHost + Drop>(
 ) -> Result<(), RunFault<'src>>
     ensures asks { AsksUser H.goes host.old host.new }
     ensures performs { Performs (reading_at evaluator.now) (confirming (stage_at evaluator.now) (lexeme recipe.now.name.token) (prompt_in (attribute_in Confirm recipe.now.attributes))) host.old host.new (ended result) }
+    ensures told { IfErr result IsTold }
 {
     match prompt_of(&recipe.attributes) {
         Some(Some(prompt)) => ask_written(alloc, host, evaluator, recipe.name, prompt),

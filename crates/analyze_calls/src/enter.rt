@@ -1,17 +1,17 @@
 //! A recipe's parameters, its confirmation, and the calls around its body.
-ghost use Rattle.std.specs.Prelude.{◌≡◌, ℕ, IfOk};
+ghost use Rattle.std.specs.Prelude.{◌≡◌, ℕ, IfErr, IfOk};
 ghost use Rattle.just_host.specs.Kinds.{AsksQuestions, AsksWork};
 ghost use Rattle.just_text.specs.Tokens.{lexeme};
 ghost use Rattle.tree_attributes.specs.declared.attribute.AttributeKind.TheVariants.{Confirm};
 ghost use Rattle.evaluate_context.specs.Refusals.{seen_as};
 ghost use Rattle.evaluate_expressions.specs.Situations.{reading_at, stage_at};
 ghost use Rattle.evaluate_variables.specs.Given.{stage_with};
-ghost use Rattle.justfile_evaluator.specs.Ended.{ended};
-ghost use Rattle.justfile_evaluator.specs.Sites.{attribute_in};
+ghost use Rattle.justfile_evaluator.specs.Ended.{IsTold, ended};
+ghost use Rattle.justfile_evaluator.specs.Sites.{attribute_in, is_silent};
 ghost use Rattle.meaning_bodies.specs.Performing.{Performs};
 ghost use Rattle.meaning_dialogues.specs.Dialogue.{Evaluates};
 ghost use Rattle.meaning_parameters.specs.Bindings.{run_reading};
-ghost use Rattle.analyze_calls.specs.Around.{Heads, IsOwnSite, PerformsBody, Tails, asked_unless, calls_unless, head_task, own_reading, own_stage};
+ghost use Rattle.analyze_calls.specs.Around.{Heads, IsOwnSite, PerformsBody, SaysOwn, Tails, asked_unless, calls_unless, head_task, own_reading, own_stage};
 ghost use Rattle.analyze_calls.specs.Asked.{AsksUser};
 ghost use Rattle.analyze_calls.specs.Binding.{Binds, may_have};
 ghost use Rattle.analyze_calls.specs.Blocks as blocks;
@@ -74,6 +74,7 @@ fn bind<'src, H: RunHost + Drop>(
 ) -> Result<BoundParameters, RunFault<'src>>
     ensures asks { AsksQuestions H.goes host.old host.new }
     ensures binds { scope.old ≡ inside placed.now.context.now.scope.now → Binds placed.now.planned.now placed.now.context.now is_dependency groups.now host.old.entries host.new.entries (ended_as (bound_row scope.new) result) }
+    ensures told { IfErr result IsTold }
 {
     let check = |parameter: &Parameter, count: usize| may_count(parameter, count);
     Ok(evaluate_parameters(
@@ -101,6 +102,7 @@ pub fn enter_recipe<'m, 'src, H: RunHost + Drop>(
     ensures asks { AsksQuestions H.goes host.old host.new }
     ensures flag { IfOk result (λ e. e.is_dependency ≡ is_dependency) }
     ensures binds { Binds placed.now.planned.now placed.now.context.now is_dependency groups.now host.old.entries host.new.entries (ended_as entered_of result) }
+    ensures told { IfErr result IsTold }
 {
     let mut scope = placed.context.scope.child(alloc)?;
     match bind(alloc, host, placed, groups, is_dependency, &mut scope) {
@@ -138,6 +140,8 @@ fn site<'a, 'src>(
     scope: &'a Scope<'a, 'src>,
 ) -> Site<'a, 'src>
     ensures context { result.context.now ≡ placed.entry.now.context.now }
+    ensures name { result.name ≡ placed.entry.now.planned.now.recipe.now.name }
+    ensures silent { result.manner.is_silent ≡ is_silent placed.entry.now.context.now.module.now.settings.now placed.entry.now.planned.now.recipe.now.attributes }
     ensures own { scope.entry.now ≡ inside entered.entry.now.scope → IsOwnSite placed.entry.now.planned.now placed.entry.now.context.now entered.entry.now.is_dependency (entered_of entered.entry.now) result }
 {
     let recipe = placed.planned.recipe;
@@ -165,6 +169,7 @@ fn confirm_unless<'src, H: RunHost + Drop>(
 ) -> Result<(), RunFault<'src>>
     ensures asks { AsksUser H.goes host.old host.new }
     ensures performs { Performs (reading_at evaluator.now) (asked_unless config.now.yes (confirming (stage_at evaluator.now) (lexeme recipe.now.name.token) (prompt_in (attribute_in Confirm recipe.now.attributes)))) host.old host.new (ended result) }
+    ensures told { IfErr result IsTold }
 {
     if config.yes {
         return Ok(());
@@ -203,6 +208,7 @@ fn confirmed<'src, H: RunHost + Drop>(
 ) -> Result<Vec<Call>, RunFault<'src>>
     ensures asks { AsksUser H.goes host.old host.new }
     ensures performs { scope.now ≡ inside entered.now.scope → Performs (own_reading placed.now.planned.now placed.now.context.now entered.now.is_dependency (entered_of entered.now)) (head_task runner.now placed.now.planned.now placed.now.context.now.config.now (own_stage placed.now.planned.now placed.now.context.now entered.now.is_dependency (entered_of entered.now))) host.old host.new (ended_as (λ calls. rows calls.items) result) }
+    ensures told { IfErr result IsTold }
 {
     let planned = placed.planned;
     let recipe = planned.recipe;
@@ -232,6 +238,7 @@ fn run<'src, H: RunHost + Drop>(
 ) -> Result<(), RunFault<'src>>
     ensures asks { AsksWork placed.now.context.now.config.now.dry_run H.goes host.old host.new }
     ensures performs { scope.now ≡ inside entered.now.scope → PerformsBody placed.now.planned.now placed.now.context.now entered.now.is_dependency (entered_of entered.now) evaluator.now host.old host.new (ended result) }
+    ensures said { IfErr result (SaysOwn placed.now.planned.now placed.now.context.now) }
 {
     let site = site(placed, &*entered, &*scope);
     let body = placed.planned.recipe.body.as_slice();
@@ -249,6 +256,7 @@ fn done<'src, H: RunHost + Drop>(
 ) -> Result<Vec<Call>, RunFault<'src>>
     ensures asks { AsksWork placed.now.context.now.config.now.dry_run H.goes host.old host.new }
     ensures tails { scope.now ≡ inside entered.now.scope → IfGiven (λ calls. rows calls.items) host.new.exhausted result (Tails placed.now.planned.now placed.now.context.now entered.now.is_dependency (entered_of entered.now) runner.now host.old.entries host.new.entries) }
+    ensures said { IfErr result (SaysOwn placed.now.planned.now placed.now.context.now) }
 {
     let planned = placed.planned;
     let recipe = planned.recipe;
@@ -279,6 +287,7 @@ pub fn begin<'src, H: RunHost + Drop>(
 ) -> Result<Vec<Call>, RunFault<'src>>
     ensures asks { AsksUser H.goes host.old host.new }
     ensures heads { IfGiven (λ calls. rows calls.items) host.new.exhausted result (Heads placed.now.planned.now placed.now.context.now entered.now.is_dependency (entered_of entered.now) runner.now host.old.entries host.new.entries) }
+    ensures told { IfErr result IsTold }
 {
     let scope = entered.scope.child(alloc)?;
     confirmed(alloc, host, runner, placed, entered, &scope)
@@ -296,6 +305,7 @@ pub fn end<'src, H: RunHost + Drop>(
 ) -> Result<Vec<Call>, RunFault<'src>>
     ensures asks { AsksWork placed.now.context.now.config.now.dry_run H.goes host.old host.new }
     ensures tails { IfGiven (λ calls. rows calls.items) host.new.exhausted result (Tails placed.now.planned.now placed.now.context.now entered.now.is_dependency (entered_of entered.now) runner.now host.old.entries host.new.entries) }
+    ensures said { IfErr result (SaysOwn placed.now.planned.now placed.now.context.now) }
 {
     let scope = entered.scope.child(alloc)?;
     done(alloc, host, runner, placed, entered, &scope)

@@ -1,11 +1,12 @@
 //! The loop over what is still to do.
-ghost use Rattle.std.specs.Prelude.{◌≡◌, ◌<◌, ◌∷◌, [], true, false, cond, OnOk, Some};
+ghost use Rattle.std.specs.Prelude.{◌≡◌, ◌<◌, ◌∷◌, [], true, false, cond, IfErr, OnOk, Some};
+ghost use Rattle.justfile_evaluator.specs.Ended.{IsTold};
 ghost use Rattle.analyze_calls.specs.Calls.{row_of, rows, same_call};
 ghost use Rattle.analyze_calls.specs.Asked.{AsksIn, AsksUser};
 ghost use Rattle.analyze_calls.specs.Entered.{entered_of};
 ghost use Rattle.analyze_runs.specs.Todo.{Calls, Body, After};
 ghost use Rattle.analyze_runs.specs.Tallies.{HasCounted, tally_of};
-ghost use Rattle.analyze_runs.specs.Ran.{IfRan, IfTurned};
+ghost use Rattle.analyze_runs.specs.Ran.{IfRan, IfTurned, SaysIn};
 ghost use Rattle.analyze_runs.specs.Rest.{Rest, Leads, HasRun};
 ghost use Rattle.analyze_runs.specs.Rest as rest;
 ghost use Rattle.analyze_runs.specs.Steps.{parts};
@@ -57,6 +58,7 @@ fn turn_calls<'m, 'src, H: RunHost + Drop>(
     ensures goes { IfTurned host.new.exhausted result
         (Leads (parts runner.now) (Calls are_dependencies (rows pending) ∷ stack.old) done.now host.old.entries (tally_of tally.old) stack.new done.now host.new.entries (tally_of tally.new))
         (λ failure. Rest (parts runner.now) (Calls are_dependencies (rows pending) ∷ stack.old) done.now host.old.entries (tally_of tally.old) host.new.entries (tally_of tally.new) (Some failure)) }
+    ensures told { IfErr result IsTold }
 {
     let Some(call) = pending.next() else {
         return Ok(());
@@ -133,6 +135,7 @@ fn turn_body<'m, 'src, H: RunHost + Drop>(
     ensures goes { (t : runs.Tally) → IfTurned host.new.exhausted result
         (Leads (parts runner.now) (Body (row_of call) entered.now.is_dependency (entered_of entered.now) ∷ stack.old) done.old host.old.entries t stack.new done.new host.new.entries t)
         (λ failure. Rest (parts runner.now) (Body (row_of call) entered.now.is_dependency (entered_of entered.now) ∷ stack.old) done.old host.old.entries t host.new.entries t (Some failure)) }
+    ensures said { IfErr result (SaysIn runner.now) }
 {
     let subsequents = leave(alloc, host, runner, &call, entered)?;
     Ok(push_subsequents(alloc, stack, done, call, subsequents)?)
@@ -157,6 +160,7 @@ fn run_stack<'m, 'src, H: RunHost + Drop>(
     ensures counted { HasCounted tally.old tally.new }
     ensures asks { AsksIn runner.now.contexts.now H.goes host.old host.new }
     ensures goes { IfRan host.new.exhausted result (Rest (parts runner.now) stack.old done.old host.old.entries (tally_of tally.old) host.new.entries (tally_of tally.new)) }
+    ensures said { IfErr result (SaysIn runner.now) }
 {
     while let Some(frame) = stack.pop() {
         match frame {
@@ -202,6 +206,8 @@ pub fn run_calls<'m, 'src, H: RunHost + Drop>(
     ensures asks { AsksIn runner.now.contexts.now H.goes host.old host.new }
     // Where memory suffices, the record and the tally grow by a run of the calls with nothing done at first.
     ensures goes { IfRan host.new.exhausted result (HasRun (parts runner.now) (rows calls.items) host.old.entries (tally_of tally.old) host.new.entries (tally_of tally.new)) }
+    // A command's failure is that of a recipe of the run, and as silent as that.
+    ensures said { IfErr result (SaysIn runner.now) }
 {
     let mut done = Done::new(alloc);
     let mut stack = Stack::new(alloc);

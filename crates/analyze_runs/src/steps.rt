@@ -1,12 +1,14 @@
 //! How a call begins and how it ends.
 ghost use Rattle.std.specs.Prelude.{◌≡◌, ◌<◌, true, false, IfOk, IfErr};
 ghost use Rattle.std.specs.Option.{option_map};
+ghost use Rattle.justfile_evaluator.specs.Ended.{IsTold};
 ghost use Rattle.analyze_calls.specs.Calls.{row_of, rows};
 ghost use Rattle.analyze_calls.specs.Ran.{IfGiven, ended_as};
-ghost use Rattle.analyze_calls.specs.Around.{Heads, Tails};
+ghost use Rattle.analyze_calls.specs.Around.{Heads, SaysOwn, Tails};
 ghost use Rattle.analyze_calls.specs.Asked.{AsksIn, AsksUser};
 ghost use Rattle.analyze_calls.specs.Binding.{Binds};
 ghost use Rattle.analyze_calls.specs.Entered.{entered_of};
+ghost use Rattle.analyze_runs.specs.Ran.{SaysIn};
 ghost use Rattle.analyze_runs.specs.Steps.{Begins, Ends, BeginsAt, HeadsBelow, begun, shares_at};
 ghost use Rattle.analyze_calls.specs.Placed.{placed_in};
 ghost use Rattle.analyze_runs.specs.Steps as spec;
@@ -40,6 +42,7 @@ fn ranked<'src>(alloc: Global, calls: Vec<Call>, place: usize) -> Result<Pending
     ensures below { IfOk result (AreBelow place) }
     ensures same { IfOk result (λ pending. (pending ≡ calls.items) × (spec.any_call_from place calls.items ≡ false)) }
     ensures refused { IfErr result (λ _. spec.any_call_from place calls.items ≡ true) }
+    ensures told { IfErr result IsTold }
 {
     let _count = calls.len();
     if any_from(calls.as_slice(), place) {
@@ -49,7 +52,9 @@ fn ranked<'src>(alloc: Global, calls: Vec<Call>, place: usize) -> Result<Pending
 }
 
 /// A call of no recipe, or of one whose module is none.
-fn lost_recipe<'src>(alloc: Global) -> RunFault<'src> {
+fn lost_recipe<'src>(alloc: Global) -> RunFault<'src>
+    ensures { IsTold result }
+{
     RunFault::internal(alloc, "call without a recipe")
 }
 
@@ -73,6 +78,7 @@ fn boxed<'m, 'src, H: RunHost + Drop>(
     ensures asks { AsksQuestions H.goes host.old host.new }
     ensures flag { IfOk result (λ e. e.value.is_dependency ≡ is_dependency) }
     ensures binds { Binds placed.now.planned.now placed.now.context.now is_dependency groups.now host.old.entries host.new.entries (ended_as (λ e. entered_of e.value) result) }
+    ensures told { IfErr result IsTold }
 {
     let entered = enter_recipe(alloc, host, placed, groups, is_dependency)?;
     Ok(Box::new(alloc, entered)?)
@@ -90,6 +96,7 @@ fn priors<'m, 'src, H: RunHost + Drop>(
     ensures below { IfOk result (AreBelow place) }
     ensures asks { AsksUser H.goes host.old host.new }
     ensures heads { IfGiven (λ p. rows p) host.new.exhausted result (HeadsBelow place (Heads placed.now.planned.now placed.now.context.now entered.now.is_dependency (entered_of entered.now) runner.now host.old.entries host.new.entries)) }
+    ensures told { IfErr result IsTold }
 {
     let calls = begin(alloc, host, runner, placed, entered)?;
     ranked(alloc, calls, place)
@@ -108,6 +115,7 @@ fn enter_placed<'m, 'src, H: RunHost + Drop>(
     ensures asks { AsksUser H.goes host.old host.new }
     ensures flag { IfOk result (λ r. r.0.value.is_dependency ≡ is_dependency) }
     ensures goes { IfGiven (λ r. begun (r.0.value, r.1)) host.new.exhausted result (BeginsAt runner.now placed.now.planned.now placed.now.context.now (row_of call.now) is_dependency host.old.entries host.new.entries) }
+    ensures told { IfErr result IsTold }
 {
     let groups = call.groups.as_slice();
     let entered = boxed(alloc, host, placed, groups, is_dependency)?;
@@ -127,6 +135,7 @@ pub(crate) fn enter<'m, 'src, H: RunHost + Drop>(
     ensures asks { AsksUser H.goes host.old host.new }
     ensures flag { IfOk result (λ r. r.0.value.is_dependency ≡ is_dependency) }
     ensures goes { IfGiven (λ r. begun (r.0.value, r.1)) host.new.exhausted result (Begins runner.now (row_of call.now) is_dependency host.old.entries host.new.entries) }
+    ensures told { IfErr result IsTold }
 {
     let Some(placed) = placed(runner, call.recipe) else {
         return Err(lost_recipe(alloc));
@@ -147,6 +156,7 @@ fn subsequents<'m, 'src, H: RunHost + Drop>(
     ensures asks { AsksWork placed.now.context.now.config.now.dry_run H.goes host.old host.new }
     ensures shared { IfOk result (λ behind. behind.are_shared ≡ placed.now.context.now.module.now.settings.now.share_subsequents) }
     ensures goes { IfGiven (λ behind. rows behind.calls) host.new.exhausted result (HeadsBelow place (Tails placed.now.planned.now placed.now.context.now entered.now.is_dependency (entered_of entered.now) runner.now host.old.entries host.new.entries)) }
+    ensures said { IfErr result (SaysOwn placed.now.planned.now placed.now.context.now) }
 {
     let brought = end(alloc, host, runner, placed, entered)?;
     let calls = ranked(alloc, brought, place)?;
@@ -168,6 +178,7 @@ pub(crate) fn leave<'m, 'src, H: RunHost + Drop>(
     ensures asks { AsksIn runner.now.contexts.now H.goes host.old host.new }
     ensures shared { IfOk result (λ behind. behind.are_shared ≡ shares_at runner.now (row_of call.now)) }
     ensures goes { IfGiven (λ behind. rows behind.calls) host.new.exhausted result (Ends runner.now (row_of call.now) entered.now.is_dependency (entered_of entered.now) host.old.entries host.new.entries) }
+    ensures said { IfErr result (SaysIn runner.now) }
 {
     let Some(placed) = placed(runner, call.recipe) else {
         return Err(lost_recipe(alloc));

@@ -1,6 +1,7 @@
 -- What words may name, and how parameters take words.
-use Rattle.std.specs.Prelude.{ℕ, ◌==◌, ◌||◌, Bool, false, List, Option, Some, None, is_some, slice_get}
+use Rattle.std.specs.Prelude.{ℕ, ◌≡◌, ◌⊎◌, ◌==◌, ◌||◌, Bool, true, false, List, Option, Some, None, is_some, slice_get}
 use Rattle.std.specs.BTreeMap.{get, get_by}
+use Rattle.std.specs.BTreeSet.{BTreeSet, contains}
 use Rattle.std.specs.Cmp.Lexicographic.{slice_cmp}
 use Rattle.std.specs.Option.{option_and_then}
 use Rattle.std.specs.Ordering.{nat_cmp}
@@ -10,6 +11,7 @@ use Rattle.analyze_words.specs.declared.menu.Slot.{Slot}
 use Rattle.analyze_words.specs.declared.menu.Menu.{Menu}
 use Rattle.analyze_words.specs.declared.menu.Menus.{Menus}
 use Rattle.analyze_words.specs.declared.menu.Meaning.{Meaning}
+use Rattle.analyze_words.specs.declared.menu.Meaning.TheVariants.{Recipe, Submodule}
 use Rattle.analyze_words.specs.declared.options.OptionPlaces.{OptionPlaces}
 
 -- an option gives the parameter its value, and no word by its place
@@ -51,3 +53,27 @@ meaning_in menus place name = option_and_then (λ menu. meaning menu name) (slic
 -- the default of the module at a place
 abbrev pub default_in : Menus → ℕ → Option ℕ
 default_in menus place = option_and_then (λ menu. menu.default) (slice_get menus.modules.items place)
+
+-- the recipe for which a name stands that has a meaning
+abbrev pub recipe_of : Meaning → Option ℕ
+recipe_of (Recipe place) = Some place
+recipe_of (Submodule place) = None
+
+-- there is a place, and it is this
+abbrev pub is_place : Option ℕ → ℕ → Bool
+is_place None other = false
+is_place (Some place) other = place == other
+
+-- a name of the menu stands for the recipe, or the recipe is its default
+abbrev pub Names : Menu → ℕ → Type 0
+Names menu recipe = (menu.default ≡ Some recipe) ⊎ ((name : List ℕ) × (meaning menu name ≡ Some (Recipe recipe)))
+
+-- a set of places has the place
+abbrev pub has : BTreeSet ℕ → ℕ → Bool
+has places place = contains nat_cmp places place
+
+-- a set gains the recipes that the menu names
+pub record AddsRecipes (menu : Menu) (before after : BTreeSet ℕ) : Type 0 where
+  pub kept : (recipe : ℕ) → has before recipe ≡ true → has after recipe ≡ true
+  pub added : (recipe : ℕ) → Names menu recipe → has after recipe ≡ true
+  pub sound : (recipe : ℕ) → has after recipe ≡ true → (has before recipe ≡ true) ⊎ Names menu recipe

@@ -1,5 +1,5 @@
 //! What words may name: the recipes of all modules, by name.
-ghost use Rattle.std.specs.Prelude.{◌≡◌, ◌<◌, ◌≤◌, ◌&&◌, ℕ, not, true, false, length, OnErr, OnOk, None, slice_get, slice_index_or};
+ghost use Rattle.std.specs.Prelude.{◌≡◌, ◌<◌, ◌≤◌, ◌&&◌, ◌||◌, ℕ, not, true, false, length, OnErr, OnOk, None, slice_get, slice_index_or};
 ghost use Rattle.std.specs.BTreeMap.{IsEmpty, IsUnchanged, insert_entry};
 ghost use Rattle.std.specs.Cmp.Lexicographic.{slice_cmp};
 ghost use Rattle.std.specs.List.{count_by, list_any, position};
@@ -127,6 +127,28 @@ pub enum Meaning {
     Submodule(usize),
 }
 
+impl Meaning {
+    /// The place of the recipe, if it is one.
+    fn recipe(&self) -> Option<usize>
+        ensures { result ≡ spec.recipe_of self.now }
+    {
+        match self {
+            Meaning::Recipe(place) => Some(*place),
+            Meaning::Submodule(_) => None,
+        }
+    }
+}
+
+/// Adds the place, if there is one.
+fn add_place(places: &mut BTreeSet<usize>, place: Option<usize>) -> Result<(), AllocError>
+    ensures { OnOk result ((other : ℕ) → spec.has places.new other ≡ (spec.has places.old other || spec.is_place place other)) }
+{
+    if let Some(place) = place {
+        places.insert(place)?;
+    }
+    Ok(())
+}
+
 /// The names of a module.
 #[derive(Drop)]
 pub struct Menu<'a> {
@@ -168,14 +190,12 @@ impl<'a> Menu<'a> {
 
     /// Adds the places of the recipes that its names and its default stand for. Refused only where
     /// memory is.
-    pub fn add_recipes(&self, places: &mut BTreeSet<usize>) -> Result<(), AllocError> {
-        if let Some(place) = self.default {
-            places.insert(place)?;
-        }
+    pub fn add_recipes(&self, places: &mut BTreeSet<usize>) -> Result<(), AllocError>
+        ensures { OnOk result (spec.AddsRecipes self.now places.old places.new) }
+    {
+        add_place(places, self.default)?;
         for meaning in self.names.values() {
-            if let Meaning::Recipe(place) = meaning {
-                places.insert(*place)?;
-            }
+            add_place(places, meaning.recipe())?;
         }
         Ok(())
     }

@@ -1,10 +1,10 @@
 -- What a recipe's parameters are given.
-use Rattle.std.specs.Prelude.{ℕ, zero, suc, Bool, false, List, [], ◌++◌, map, ◌≡◌, ◌||◌, ◌∷◌, ⊤, Vec, String, Some, Result, Ok, Err}
+use Rattle.std.specs.Prelude.{ℕ, zero, suc, Bool, false, List, [], ◌++◌, map, ◌≡◌, ◌||◌, ◌∷◌, ⊤, Vec, String, IfSome, Some, Result, Ok, Err}
 use Rattle.std.specs.Global.{Global}
 use Rattle.std.specs.String.{string_bytes}
 use Rattle.just_text.specs.Tokens.{lexeme}
 use Rattle.just_text.specs.declared.name.Name.{Name}
-use Rattle.std.specs.List.{list_any}
+use Rattle.std.specs.List.{Contains, list_any}
 use Rattle.tree_attributes.specs.declared.attribute.AttributeKind.TheVariants.{PositionalArguments}
 use Rattle.tree_attribute_sets.specs.Sets.{is_of, items_of}
 use Rattle.tree_attribute_sets.specs.declared.attribute_set.AttributeSet.{AttributeSet}
@@ -16,7 +16,7 @@ use Rattle.evaluate_context.specs.declared.context.ExecutionContext.{ExecutionCo
 use Rattle.evaluate_context.specs.declared.error.Error.{Error}
 use Rattle.evaluate_context.specs.declared.settings.Settings.{Settings}
 use Rattle.just_host.specs.declared.job.Pair.{Pair}
-use Rattle.just_value.specs.Frames.{Frames}
+use Rattle.just_value.specs.Frames.{BoundRow, Frames, bound_in, value_binding}
 use Rattle.evaluate_expressions.specs.Situations.{running_stage}
 use Rattle.meaning_dialogues.specs.Calls.{empty, reading_in_frames}
 use Rattle.meaning_dialogues.specs.Dialogue.{Dialogue, Evaluates, Reading}
@@ -73,3 +73,11 @@ abbrev pub BoundRecipe : {D : Type 0} → ExecutionContext → Bool → Recipe D
 BoundRecipe context is_dependency recipe counts groups here old new after (Ok given) =
     GivesBound (reading_in_frames (λ number. false) here context.scope.now) (bound_at context is_dependency recipe counts groups here) old new (passes_in context.module.now.settings.now recipe.attributes) context.module.now.settings.now.lists (map formal_of recipe.parameters.items) after.own (map string_bytes given.positional.items) given.env.items
 BoundRecipe context is_dependency recipe counts groups here old new after (Err error) = Evaluates (reading_in_frames (λ number. false) here context.scope.now) (bound_at context is_dependency recipe counts groups here) old new (Err (fault_of error))
+
+-- a binding is that of one of these parameters: it has the parameter's name, number and export
+abbrev pub IsRowOf : List Parameter → BoundRow → Type 0
+IsRowOf parameters row = (p : Parameter) × Contains parameters p × (row ≡ value_binding p.name p.number p.export row.value)
+
+-- what a number is bound to in the frame is a binding of one of these parameters
+abbrev pub HasRowsOf : List Parameter → List BoundRow → Type 0
+HasRowsOf parameters own = (number : ℕ) → IfSome (bound_in own number) (IsRowOf parameters)

@@ -19,7 +19,7 @@ ghost use Rattle.meaning_parameters.specs.Bindings.{attribute_dialogue, env_term
 ghost use Rattle.meaning_stages.specs.Parameters.{Formal, default_dialogue, env_dialogue, formal_of, given_dialogue, is_star, parameter_dialogue, positional_words};
 ghost use Rattle.meaning_stages.specs.Parameters as meaning;
 ghost use Rattle.evaluate_variables.specs.Known.{IsProper, ParametersKnown};
-ghost use Rattle.evaluate_variables.specs.Given.{AreCounted, BoundRecipe, GivenParameters, lists_of, passes_in, reading_for, stage_for, times_over};
+ghost use Rattle.evaluate_variables.specs.Given.{AreCounted, BoundRecipe, GivenParameters, HasRowsOf, lists_of, passes_in, reading_for, stage_for, times_over};
 
 use evaluate_context::{Error, ExecutionContext, Settings};
 use evaluate_expressions::{Evaluator, internal};
@@ -343,6 +343,7 @@ fn bind_parameters<'src, H: Host + Drop, F: Fn(&Parameter, usize) -> bool>(
     ensures asks { AsksQuestions H.goes host.old host.new }
     ensures around { scope.new.outer ≡ scope.old.outer }
     ensures evaluates { (may : declared.Parameter → ℕ → Bool) (counts : Formal → ℕ → Bool) → AlwaysReturns F.Fn (λ a r. r ≡ may a.0.now a.1.0) check.now → AreCounted may counts parameters.now → HasValues scope.old.own empty → GivenParameters site.now env.now counts parameters.now groups.now scope.old host.old.entries host.new.entries scope.new result }
+    ensures rows { IfOk result (λ _. HasValues scope.old.own empty → HasRowsOf parameters.now scope.new.own) }
 {
     let mut positional = Vec::new(alloc);
     for (parameter, group) in parameters.iter().zip(groups) {
@@ -374,6 +375,7 @@ pub fn evaluate_parameters<'src, H: Host + Drop, D, F: Fn(&Parameter, usize) -> 
     ensures asks { AsksQuestions H.goes host.old host.new }
     ensures around { scope.new.outer ≡ scope.old.outer }
     ensures evaluates { (may : declared.Parameter → ℕ → Bool) (counts : Formal → ℕ → Bool) → AlwaysReturns F.Fn (λ a r. r ≡ may a.0.now a.1.0) check.now → AreCounted may counts recipe.now.parameters.items → HasValues scope.old.own empty → BoundRecipe context.now is_dependency recipe.now counts groups.now scope.old host.old.entries host.new.entries scope.new result }
+    ensures rows { IfOk result (λ _. HasValues scope.old.own empty → HasRowsOf recipe.now.parameters.items scope.new.own) }
     ensures known { (may : declared.Parameter → ℕ → Bool) (counts : Formal → ℕ → Bool) → AlwaysReturns F.Fn (λ a r. r ≡ may a.0.now a.1.0) check.now → AreCounted may counts recipe.now.parameters.items → HasValues scope.old.own empty → ParametersKnown context.now recipe.now groups.now scope.old → IfErr result IsProper }
 {
     bind_recipe(
@@ -403,6 +405,7 @@ fn bind_recipe<'src, H: Host + Drop, D, F: Fn(&Parameter, usize) -> bool>(
     ensures asks { AsksQuestions H.goes host.old host.new }
     ensures around { scope.new.outer ≡ scope.old.outer }
     ensures evaluates { (may : declared.Parameter → ℕ → Bool) (counts : Formal → ℕ → Bool) → AlwaysReturns F.Fn (λ a r. r ≡ may a.0.now a.1.0) check.now → AreCounted may counts recipe.now.parameters.items → HasValues scope.old.own empty → BoundRecipe context.now is_dependency recipe.now counts groups.now scope.old host.old.entries host.new.entries scope.new result }
+    ensures rows { IfOk result (λ _. HasValues scope.old.own empty → HasRowsOf recipe.now.parameters.items scope.new.own) }
 {
     let site = Site {
         context,

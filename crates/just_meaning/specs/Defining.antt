@@ -49,6 +49,10 @@ abbrev pub AreSorted : Modules → Type 0
 AreSorted no_module = Unit {0}
 AreSorted (a_module name inner others) = IsStrictlySortedBy text_cmp (name ∷ names_beside others) × AreSorted inner × AreSorted others
 
+-- private by its attribute, or by a name that begins with `_`
+abbrev pub is_private : List AttributeShape → Text → Bool
+is_private attributes name = has Private attributes || begins name (codes "_")
+
 module _ (w : World) (o : Overrides) where
   -- ---- recipes
 
@@ -103,10 +107,6 @@ module _ (w : World) (o : Overrides) where
     pub default : IsDefault own r.recipe
 
   -- ---- variables and functions
-
-  -- private by its attribute, or by a name that begins with `_`
-  abbrev pub is_private : List AttributeShape → Text → Bool
-  is_private attributes name = has Private attributes || begins name (codes "_")
 
   -- the row of a variable that its module keeps
   pub record IsVariableRow (x : VariableName) (row : VariableRow) : Type 0 where

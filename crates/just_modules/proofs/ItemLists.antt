@@ -275,7 +275,7 @@ none_there x c = contains_none [] x refl c
 pub lists_used : (w : World) (item : Item) (feature : ListFeature) → IsOwnItem w.expansion item → FitsAsWritten w.expansion (item_shape item) → Contains (lists_of item) feature → UsesList w (item_shape item) feature
 lists_used w (Assignment a) feature own fits c = by_parts w (item_shape (Assignment a)) feature (uses_first feature (part [] (shape_of a.value)) [] c)
 lists_used w (Function f) feature own fits c = by_parts w (item_shape (Function f)) feature (uses_first feature (part _ (shape_of f.body)) [] c)
-lists_used w (RecipeItem r) feature own fits c = recipe_uses w r feature own fits c
+lists_used w (RecipeItem r) feature own fits c = recipe_uses w r feature own.0 fits c
 lists_used w (Set s) feature own fits c = by_parts w (item_shape (Set s)) feature (uses_value feature (value_of w.expansion) (value_shape s.value) (subst (λ xs. Contains xs feature) (setting_same s.value) c))
 lists_used w (Alias a) feature own fits c = absurd (none_there feature c)
 lists_used w (Comment t) feature own fits c = absurd (none_there feature c)
@@ -302,7 +302,7 @@ used_lists w item feature own u = by_item item own (use_cases w (item_shape item
     by_item : (i : Item) → IsOwnItem w.expansion i → IsUse w (item_shape i) feature → Contains (lists_of i) feature
     by_item (Assignment a) own (inl v) = only_uses feature (part [] (shape_of a.value)) v
     by_item (Function f) own (inl v) = only_uses feature (part _ (shape_of f.body)) v
-    by_item (RecipeItem r) own (inl v) = uses_recipe w r feature own (inl v)
+    by_item (RecipeItem r) own (inl v) = uses_recipe w r feature own.0 (inl v)
     by_item (Set s) own (inl v) = subst (λ xs. Contains xs feature) (sym (setting_same s.value)) (value_uses feature (value_of w.expansion) (value_shape s.value) v)
     by_item (Alias a) own (inl v) = absurd (uses_none feature v)
     by_item (Comment t) own (inl v) = absurd (uses_none feature v)
@@ -310,7 +310,7 @@ used_lists w item feature own u = by_item item own (use_cases w (item_shape item
     by_item (Module m) own (inl v) = absurd (uses_none feature v)
     by_item Newline own (inl v) = absurd (uses_none feature v)
     by_item (Unexport u) own (inl v) = absurd (uses_none feature v)
-    by_item (RecipeItem r) own (inr s) = uses_recipe w r feature own (inr (ap has_star (same_recipe (shapes_in r.attributes) s.0 (recipe_shape r) s.1 s.2) ∙ s.3, s.4))
+    by_item (RecipeItem r) own (inr s) = uses_recipe w r feature own.0 (inr (ap has_star (same_recipe (shapes_in r.attributes) s.0 (recipe_shape r) s.1 s.2) ∙ s.3, s.4))
     by_item (Assignment a) own (inr s) = let no = s.2 in absurd (cc no)
     by_item (Function f) own (inr s) = let no = s.2 in absurd (cc no)
     by_item (Set t) own (inr s) = let no = s.2 in absurd (cc no)

@@ -57,7 +57,7 @@ use Rattle.just_resolve.proofs.Standing.{set_there}
 
 module _ (reading : Reading) (lists : Bool) where
   -- each of settings that are set is set
-  each_set : (sets : List Set) (old new : Settings) → AreSet reading lists sets old new → (s : Set) → Contains sets s → (before : Settings) × (after : Settings) × IsSet reading lists (lexeme s.name.token) s.value before after
+  pub each_set : (sets : List Set) (old new : Settings) → AreSet reading lists sets old new → (s : Set) → Contains sets s → (before : Settings) × (after : Settings) × IsSet reading lists (lexeme s.name.token) s.value before after
   each_set _ _ _ settling.all_set s h = absurd (contains_none [] s refl h)
   each_set _ _ _ (settling.one_set {set} {sets} {old} {between} {new} one rest) s h = elim (contains_cases set sets s h) [
     | inl same ↦ subst (λ (t : Set). (before : Settings) × (after : Settings) × IsSet reading lists (lexeme t.name.token) t.value before after) same (old, between, one)
@@ -108,7 +108,7 @@ lists_there (WorkingDirectory x) value e = absurd (none-some value e)
 
 module _ (compilation : Compilation) (node : ModuleNode) where
   -- the settings at the module's places are those that it lists
-  sets_are : (s : Set) → Contains (sets_at compilation node.sets.items) s ↔ IsListedSet compilation node s
+  pub sets_are : (s : Set) → Contains (sets_at compilation node.sets.items) s ↔ IsListedSet compilation node s
   sets_are s = (
     λ h. let comes = kept_comes (set_at compilation) node.sets.items s h in (comes.x, comes.listed, set_there (item_at compilation comes.x) s comes.is),
     λ listed. given_there (set_at compilation) node.sets.items listed.0 s listed.1 (ap set_of listed.2),
@@ -122,7 +122,7 @@ module _ (compilation : Compilation) (node : ModuleNode) where
       by_set (Some s) is so = (s, (place, listed, set_there (item_at compilation place) s is), lists_there s.value value so)
 
   -- the first setting of lists says whether they are on
-  lists_said : (found : Option Bool) → first_of (lists_at compilation) node.sets.items ≡ found → IsSaidOfLists compilation node found
+  pub lists_said : (found : Option Bool) → first_of (lists_at compilation) node.sets.items ≡ found → IsSaidOfLists compilation node found
   lists_said (Some value) e = let comes = first_answered (lists_at compilation) node.sets.items value e in said_there comes.x comes.listed value comes.is
   lists_said None e = λ s value listed is.
       let says : lists_at compilation listed.0 ≡ Some value = ap (λ (item : Option Item). option_and_then (λ (set : Set). lists_of set.value) (set_of item)) listed.2 ∙ ap lists_of is in

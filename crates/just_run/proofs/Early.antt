@@ -12,7 +12,7 @@ use Rattle.just_run.specs.Plain.{AnswersPlain, answer_of, fault_of}
 use Rattle.just_run.specs.Plans.{IsKeptBy, IsOfRun, IsPlanned, IsWrittenPlan, Plans, breaks_rule}
 use Rattle.just_run.specs.Writes.{IsKept}
 use Rattle.just_run.specs.declared.fault.Fault.{Fault}
-use Rattle.just_run.specs.declared.outcome.Action.TheVariants.{Plan}
+use Rattle.run_requests.specs.declared.action.Action.TheVariants.{Plan}
 use Rattle.just_run.specs.declared.outcome.Outcome.{Outcome}
 use Rattle.just_run.proofs.Planned.{failed_is_of_run, refused_asks_nothing}
 

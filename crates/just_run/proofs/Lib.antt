@@ -6,3 +6,4 @@ mod Failed
 mod Planned
 mod Roots
 mod Sources
+mod Told

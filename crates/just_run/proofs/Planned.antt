@@ -12,7 +12,7 @@ use Rattle.run_plan.specs.Plans.{plan_text}
 use Rattle.just_run.specs.Plain.{fault_of}
 use Rattle.just_run.specs.Plans.{IsEnd, IsKeptBy, IsOfRun, IsOther, IsSent, IsWrittenPlan, Plans, breaks_rule}
 use Rattle.just_run.specs.declared.fault.Fault.{Fault}
-use Rattle.just_run.specs.declared.outcome.Action.TheVariants.{Plan}
+use Rattle.run_requests.specs.declared.action.Action.TheVariants.{Plan}
 use Rattle.just_run.specs.declared.outcome.Outcome.{Outcome}
 
 -- how what was planned ended, once its plan went out

@@ -11,12 +11,12 @@ use Rattle.just_run.specs.Early.{IsEarly}
 use Rattle.just_run.specs.Kinds.{MayAdd}
 use Rattle.just_run.specs.Plain.{AnswersPlain, IsPlain}
 use Rattle.just_run.specs.Plans.{IsKeptBy, Plans}
-use Rattle.just_run.specs.Requests.{IsText}
+use Rattle.run_requests.specs.Requests.{IsText}
 use Rattle.just_run.specs.Sources.{AnswersSources, LooksAtAll}
 use Rattle.just_run.specs.Writes.{WriteFails}
 use Rattle.just_run.specs.declared.fault.Fault.{Fault}
-use Rattle.just_run.specs.declared.outcome.Action.{Action}
-use Rattle.just_run.specs.declared.outcome.Action.TheVariants as actions
+use Rattle.run_requests.specs.declared.action.Action.{Action}
+use Rattle.run_requests.specs.declared.action.Action.TheVariants as actions
 use Rattle.just_run.specs.declared.outcome.Outcome.{Outcome}
 
 -- what a call finds, and what it leaves: the record of the host, what was written, and how often a write failed
@@ -25,14 +25,14 @@ pub record State (H : Type 0) : Type 0 where
   pub written : List ℕ
   pub failed : ℕ
 
--- Whatever is asked for, of whatever files: `given` is what is looked at for the root at a path.
-pub record Drives {H : Type 0} (goes : H → List Entry → H → Type 0) (inputs : Inputs) (given : Text → Given) (setup : Setup) (action : Action) (old : State H) (result : Result Outcome Fault) (new : State H) : Type 0 where
+-- Whatever is asked for, of whatever files: `given` is what is looked at for the root at a path, and keys of files stand in the folder `base`.
+pub record Drives {H : Type 0} (goes : H → List Entry → H → Type 0) (inputs : Inputs) (given : Text → Given) (setup : Setup) (base : Text) (action : Action) (old : State H) (result : Result Outcome Fault) (new : State H) : Type 0 where
   -- where no root file that can be read says more than plain recipes, a run is one of plain recipes
   pub plain : action ≡ actions.Run → IsPlain inputs → AnswersPlain goes inputs setup result old.host new.host
   -- a fault that is none of a run or of the output names a rule that is broken; then nothing was asked, handed over or written
   pub early : IfErr result (λ fault. IsEarly fault old.host old.written new.host new.written)
-  -- where all files are looked at, a rule of files, modules, definitions and names is told exactly where one is broken
-  pub sources : LooksAtAll action inputs → AnswersSources given inputs result
+  -- where all files are looked at, a rule of files, modules, definitions, names and words is told exactly where one is broken
+  pub sources : LooksAtAll action inputs → AnswersSources given inputs (record { action = action; words = inputs.words; base = base; working = setup.folder }) result
   -- where the text of the root file or the list of recipes is asked for, nothing is asked and nothing handed over
   pub silent : IsText action → new.host ≡ old.host
   -- where the call is refused nothing is written, unless the output takes no more, or a run fails whose plan is written

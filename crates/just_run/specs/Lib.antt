@@ -5,7 +5,6 @@ pub mod Kinds
 pub mod Passed
 pub mod Plain
 pub mod Plans
-pub mod Requests
 pub mod Sources
 pub mod Statuses
 pub mod Texts

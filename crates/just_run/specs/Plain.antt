@@ -14,8 +14,8 @@ use Rattle.run_plain.specs.declared.outcome.Outcome as plain_outcome
 use Rattle.justfile_syntax.specs.declared.plain_files.ast.Ast.{Ast}
 use Rattle.just_run.specs.declared.driver.Way.{Way}
 use Rattle.just_run.specs.declared.driver.Way.TheVariants as ways
-use Rattle.just_run.specs.declared.outcome.Action.{Action}
-use Rattle.just_run.specs.declared.outcome.Action.TheVariants as actions
+use Rattle.run_requests.specs.declared.action.Action.{Action}
+use Rattle.run_requests.specs.declared.action.Action.TheVariants as actions
 use Rattle.just_run.specs.declared.fault.Fault.{Fault}
 use Rattle.just_run.specs.declared.fault.Fault.TheVariants.{OutOfMemory, NoRootForWord, Plain}
 use Rattle.just_run.specs.declared.outcome.Outcome.{Outcome}

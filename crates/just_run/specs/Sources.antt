@@ -1,39 +1,76 @@
--- What a call tells of the root file, and of the files, modules, definitions and names that it leads to.
+-- What a call tells of the root file, of the files, modules, definitions and names that it leads to, and of the words.
 use Rattle.std.specs.Prelude.{◌≡◌, ◌⊎◌, ℕ, List, Some, Result, Err}
+use Rattle.std.specs.String.{string_bytes}
+use Rattle.just_host.specs.declared.config.Config.{Config}
+use Rattle.just_value.specs.declared.positional.Positional.{Positional}
+use Rattle.modules_compilation.specs.declared.compilation.Compilation.{Compilation}
+use Rattle.resolve_analysis.specs.declared.analysis.Analysis.{Analysis}
+use Rattle.analyze_words.specs.declared.fault.WordFault.{WordFault}
+use Rattle.meaning_calls.specs.Named.{Definitions}
+use Rattle.just_meaning.specs.Defining.{AreDefined}
+use Rattle.run_requests.specs.Words.{BreaksNamed, BreaksPlaced, MeansNamed, MeansPlaced}
 use Rattle.modules_compilation.specs.declared.error.Error.{Error}
 use Rattle.run_plain.specs.Inputs.{Inputs}
 use Rattle.run_plain.specs.Rules.{Broken, not_yet}
 use Rattle.run_plain.specs.Drives.{verdict}
 use Rattle.run_plain.specs.Stages.{IsTold}
 use Rattle.run_plain.specs.declared.fault.Fault as plain_fault
-use Rattle.meaning_worlds.specs.Given.{Given, Overrides, Text, World}
+use Rattle.meaning_worlds.specs.Given.{Given, Text, World}
 use Rattle.meaning_worlds.specs.Standing.{StandsFor}
 use Rattle.just_modules.specs.Worlds.{BreaksNone, BreaksTold}
 use Rattle.meaning_overriding.specs.Texts.{overrides_of}
 use Rattle.just_resolve.specs.Rules as names
 use Rattle.just_resolve.specs.declared.error.Error.{Error as NameError}
-use Rattle.just_run.specs.Passed.{file_fault, name_fault}
+use Rattle.just_run.specs.Passed.{file_fault, name_fault, word_fault}
 use Rattle.just_run.specs.Plain.{fault_of}
 use Rattle.just_run.specs.declared.fault.Fault.{Fault}
-use Rattle.just_run.specs.declared.outcome.Action.{Action}
-use Rattle.just_run.specs.declared.outcome.Action.TheVariants as actions
+use Rattle.run_requests.specs.declared.action.Action.{Action}
+use Rattle.run_requests.specs.declared.action.Action.TheVariants as actions
 use Rattle.just_run.specs.declared.outcome.Outcome.{Outcome}
 
 -- all files are looked at: whatever is asked for but a run, or a plan, of plain recipes alone
 abbrev pub LooksAtAll : Action → Inputs → Type 0
 LooksAtAll action i = (action ≡ actions.Run) ⊎ (action ≡ actions.Plan) → (path : List ℕ) × Broken i (not_yet path)
 
--- the world breaks a rule of names that the fault names, unless memory ran out, or it breaks none
-pub data TellsNames (o : Overrides) (result : Result Outcome Fault) (w : World) : Type 0 where
-  broken : (error : NameError) → result ≡ Err (name_fault error) → names.IsNamed w o error → TellsNames o result w
-  clear : names.BreaksNone w o → TellsNames o result w
+-- what is asked for, the words, the folder that keys of files stand in, and the one that the root works in
+pub record Asked : Type 0 where
+  pub action : Action
+  pub words : Positional
+  pub base : Text
+  pub working : Text
+
+abbrev pub asked_of : Action → Positional → Config → Asked
+asked_of action words config = record { action = action; words = words; base = string_bytes config.base; working = string_bytes config.working_directory }
+
+-- the words break a rule of what is asked for that the fault names, unless memory ran out; or they break none
+pub data TellsWords (asked : Asked) (defined : Definitions) (result : Result Outcome Fault) : Type 0 where
+  broken : (fault : WordFault) → result ≡ Err (word_fault fault) → BreaksNamed defined asked.words.arguments asked.action fault → TellsWords asked defined result
+  clear : MeansNamed defined asked.words.arguments asked.action → TellsWords asked defined result
+
+-- so it is by what the world defines
+pub record TellsDefined (asked : Asked) (result : Result Outcome Fault) (w : World) : Type 0 where
+  pub defined : Definitions
+  pub are : AreDefined w (overrides_of asked.words.overrides) asked.base asked.working defined
+  pub words : TellsWords asked defined result
+
+-- the world breaks a rule of names that the fault names, unless memory ran out; or it breaks none, and so it is of rules of words
+pub data TellsNames (asked : Asked) (result : Result Outcome Fault) (w : World) : Type 0 where
+  broken : (error : NameError) → result ≡ Err (name_fault error) → names.IsNamed w (overrides_of asked.words.overrides) error → TellsNames asked result w
+  clear : names.BreaksNone w (overrides_of asked.words.overrides) → TellsDefined asked result w → TellsNames asked result w
 
 -- the world breaks a rule of files, modules and definitions that the fault names, unless memory or numbers ran out; or it breaks none, and so it is of rules of names
-pub data TellsSources (o : Overrides) (result : Result Outcome Fault) (w : World) : Type 0 where
-  broken : (error : Error) → result ≡ Err (file_fault error) → BreaksTold error w → TellsSources o result w
-  clear : BreaksNone w → TellsNames o result w → TellsSources o result w
+pub data TellsSources (asked : Asked) (result : Result Outcome Fault) (w : World) : Type 0 where
+  broken : (error : Error) → result ≡ Err (file_fault error) → BreaksTold error w → TellsSources asked result w
+  clear : BreaksNone w → TellsNames asked result w → TellsSources asked result w
 
 -- The root file can't be read, and the fault names why; or it is read, and so it is in each world that the sources stand for.
-pub data AnswersSources (given : Text → Given) (i : Inputs) (result : Result Outcome Fault) : Type 0 where
-  unread : (fault : plain_fault.Fault) → result ≡ Err (fault_of fault) → IsTold i (verdict fault) → AnswersSources given i result
-  read : (path : List ℕ) → i.root ≡ Some path → ((w : World) → StandsFor (given path) w → TellsSources (overrides_of i.words.overrides) result w) → AnswersSources given i result
+pub data AnswersSources (given : Text → Given) (i : Inputs) (asked : Asked) (result : Result Outcome Fault) : Type 0 where
+  unread : (fault : plain_fault.Fault) → result ≡ Err (fault_of fault) → IsTold i (verdict fault) → AnswersSources given i asked result
+  read : (path : List ℕ) → i.root ≡ Some path → ((w : World) → StandsFor (given path) w → TellsSources asked result w) → AnswersSources given i asked result
+
+-- ---- by places
+
+-- the words break a rule of what is asked for that the fault names, unless memory ran out; or they break none
+pub data TellsPlaced (compilation : Compilation) (analysis : Analysis) (words : List (List ℕ)) (action : Action) (result : Result Outcome Fault) : Type 0 where
+  broken : (fault : WordFault) → result ≡ Err (word_fault fault) → BreaksPlaced compilation analysis words action fault → TellsPlaced compilation analysis words action result
+  clear : MeansPlaced compilation analysis words action → TellsPlaced compilation analysis words action result

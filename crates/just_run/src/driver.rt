@@ -1,5 +1,6 @@
 //! The whole: from texts and words to what is done.
 ghost use Rattle.std.specs.Prelude.{◌≡◌, ◌≤◌, ◌⊎◌, Bool, None, IfErr, length, option_map};
+ghost use Rattle.std.specs.String.{string_bytes};
 ghost use Rattle.just_text.specs.Numbers.{Numbers};
 ghost use Rattle.justfile_syntax.specs.PlainShapes.{shape_of};
 ghost use Rattle.modules_sources.specs.Loaded.{IsRootRead};
@@ -8,7 +9,6 @@ ghost use Rattle.just_value.specs.Constants.{constant_rows};
 ghost use Rattle.just_modules.specs.Worlds.{InEachWorld};
 ghost use Rattle.just_resolve.specs.Rules.{IsResolvable};
 ghost use Rattle.meaning_names.specs.Meant.{IsMeantWhole};
-ghost use Rattle.meaning_overriding.specs.Texts.{overrides_of};
 ghost use Rattle.meaning_worlds.specs.Given.{World};
 ghost use Rattle.resolve_recipes.specs.Named.{AllByName};
 ghost use Rattle.run_plain.specs.Inputs.{Inputs, inputs_of, reader_of};
@@ -18,10 +18,10 @@ ghost use Rattle.just_run.specs.Drives.{Drives};
 ghost use Rattle.just_run.specs.Early.{IsEarly, IsLate};
 ghost use Rattle.just_run.specs.Plain.{IsPlain, AnswersPlain, IsWay};
 ghost use Rattle.just_run.specs.Plans.{IsKeptBy, Plans};
-ghost use Rattle.just_run.specs.Requests.{IsText};
-ghost use Rattle.just_run.specs.Sources.{AnswersSources, LooksAtAll, TellsNames, TellsSources};
+ghost use Rattle.run_requests.specs.Requests.{IsText};
+ghost use Rattle.just_run.specs.Sources.{AnswersSources, LooksAtAll, TellsNames, TellsPlaced, TellsSources, asked_of};
 ghost use Rattle.just_run.specs.Writes.{IsKept, IsNoWrite, WriteFails};
-ghost use Rattle.just_run.specs.declared.outcome.Action.TheVariants.{Plan, Run};
+ghost use Rattle.run_requests.specs.declared.action.Action.TheVariants.{Plan, Run};
 ghost use Rattle.just_host.specs.Asking.{IsAsked};
 ghost use Rattle.just_host.specs.Kinds.{Only};
 ghost use Rattle.just_host.specs.declared.entry.Entry.{Entry};
@@ -29,9 +29,8 @@ ghost use Rattle.just_run.specs.Kinds.{AsksFor, MayAdd};
 ghost use Rattle.run_tasks.specs.Kinds as tasks;
 
 use crate::fault::Fault;
-use crate::outcome::{Action, Outcome};
+use crate::outcome::Outcome;
 use crate::plan::{drive_plan, plan_file};
-use crate::request::{Request, request_of};
 use crate::texts::{tell, write_performed};
 use just_host::{Config, Out, Recorded, RunHost};
 use just_modules::{Compilation, Compiler, Parsed};
@@ -41,6 +40,7 @@ use justfile_syntax::Expander;
 use justfile_syntax::plain_files::Ast as PlainAst;
 use run_plain::{Root, read_root, run_file};
 use run_prepared::perform_task;
+use run_requests::{Action, Request, request_of};
 use run_tasks::Task;
 use std::alloc::Global;
 use std::collections::BTreeMap;
@@ -84,9 +84,11 @@ fn drive_analysis<'src, H: RunHost + Drop, O: Out>(
     ensures early { IfErr result (λ fault. IsEarly fault host.old (O.written out.old) host.new (O.written out.new)) }
     ensures silent { IsText action → host.new ≡ host.old }
     ensures asks { AsksFor action config.now.dry_run H.goes host.old host.new }
+    ensures words { analysis.now.modules.now ≡ compilation.now.modules.items → AllByName compilation.now → TellsPlaced compilation.now analysis.now words.now.arguments action result }
 {
     let words = words.arguments.as_slice();
-    match request_of(alloc, compilation, analysis, action, words)? {
+    let request = request_of(alloc, compilation, analysis, action, words)?;
+    match request {
         Request::Task(task) => drive_task(
             alloc,
             compilation,
@@ -128,7 +130,7 @@ fn drive_modules<'src, H: RunHost + Drop, O: Out>(
     ensures early { IfErr result (λ fault. IsEarly fault host.old (O.written out.old) host.new (O.written out.new)) }
     ensures silent { IsText action → host.new ≡ host.old }
     ensures asks { AsksFor action config.now.dry_run H.goes host.old host.new }
-    ensures names { (w : World) → IsResolvable w compilation.now → TellsNames (overrides_of words.now.overrides) result w }
+    ensures names { (w : World) → IsResolvable w compilation.now → TellsNames (asked_of action words.now config.now) result w }
 {
     let overrides = words.overrides.as_slice();
     match Analyzer::analyze(alloc, compilation, config, overrides) {
@@ -180,7 +182,7 @@ fn drive_compilation<'src, H: RunHost + Drop, O: Out>(
     ensures early { IfErr result (λ fault. IsEarly fault host.old (O.written out.old) host.new (O.written out.new)) }
     ensures silent { IsText action → host.new ≡ host.old }
     ensures asks { AsksFor action config.now.dry_run H.goes host.old host.new }
-    ensures names { AllByName compilation.entry → (w : World) → IsMeantWhole w compilation.entry → TellsNames (overrides_of words.now.overrides) result w }
+    ensures names { AllByName compilation.entry → (w : World) → IsMeantWhole w compilation.entry → TellsNames (asked_of action words.now config.now) result w }
 {
     match number_variables(alloc, &mut compilation) {
         Ok(()) => {
@@ -212,7 +214,7 @@ fn drive_files<'src, E: Expander, H: RunHost + Drop, O: Out>(
     ensures early { IfErr result (λ fault. IsEarly fault host.old (O.written out.old) host.new (O.written out.new)) }
     ensures silent { IsText action → host.new ≡ host.old }
     ensures asks { AsksFor action config.now.dry_run H.goes host.old host.new }
-    ensures sources { (start : Numbers) → length constant_rows ≤ start.bindings → IsRootRead sources.now (E.expansion expander.now) config.now.version start path.now parsed.entry → InEachWorld config.now.os config.now.unstable sources.now (E.expansion expander.now) config.now.version path.now (TellsSources (overrides_of words.now.overrides) result) }
+    ensures sources { (start : Numbers) → length constant_rows ≤ start.bindings → IsRootRead sources.now (E.expansion expander.now) config.now.version start path.now parsed.entry → InEachWorld config.now.os config.now.unstable sources.now (E.expansion expander.now) config.now.version path.now (TellsSources (asked_of action words.now config.now) result) }
 {
     match Compiler::compile_parsed(alloc, config, expander, sources, path, parsed) {
         Ok(compilation) => drive_compilation(
@@ -296,7 +298,7 @@ fn drive_root<'src, E: Expander, H: RunHost + Drop, O: Out>(
     ensures early { (i : Inputs) → i.words ≡ words.now → IsRoot i root.entry.path.now (option_map shape_of root.entry.plain) → IfErr result (λ fault. IsEarly fault host.old (O.written out.old) host.new (O.written out.new)) }
     ensures silent { IsText action → host.new ≡ host.old }
     ensures asks { AsksFor action config.now.dry_run H.goes host.old host.new }
-    ensures sources { ((action ≡ Run) ⊎ (action ≡ Plan) → root.entry.plain ≡ None) → (start : Numbers) → length constant_rows ≤ start.bindings → IsRootRead sources.now (E.expansion expander.now) config.now.version start root.entry.path.now (record { ast = root.entry.file; numerator = root.entry.numerator }) → InEachWorld config.now.os config.now.unstable sources.now (E.expansion expander.now) config.now.version root.entry.path.now (TellsSources (overrides_of words.now.overrides) result) }
+    ensures sources { ((action ≡ Run) ⊎ (action ≡ Plan) → root.entry.plain ≡ None) → (start : Numbers) → length constant_rows ≤ start.bindings → IsRootRead sources.now (E.expansion expander.now) config.now.version start root.entry.path.now (record { ast = root.entry.file; numerator = root.entry.numerator }) → InEachWorld config.now.os config.now.unstable sources.now (E.expansion expander.now) config.now.version root.entry.path.now (TellsSources (asked_of action words.now config.now) result) }
 {
     let Root {
         path,
@@ -342,8 +344,8 @@ fn drive_words<'src, E: Expander, H: RunHost + Drop, O: Out>(
     ensures plain { action ≡ Run → IsPlain (inputs_of (reader_of (E.expansion expander.now) config.now.version) sources.now roots.now words.now) → AnswersPlain H.goes (inputs_of (reader_of (E.expansion expander.now) config.now.version) sources.now roots.now words.now) (setup_of config.now) result host.old host.new }
     // Whatever is asked for: a fault that is none of a run or of the output names a rule that is broken; then nothing was asked, handed over or written.
     ensures early { IfErr result (λ fault. IsEarly fault host.old (O.written out.old) host.new (O.written out.new)) }
-    // Where all files are looked at, a rule of files, modules and definitions is told exactly where one is broken.
-    ensures sources { LooksAtAll action (inputs_of (reader_of (E.expansion expander.now) config.now.version) sources.now roots.now words.now) → AnswersSources (given_of sources.now config.now.os config.now.unstable (E.expansion expander.now) config.now.version) (inputs_of (reader_of (E.expansion expander.now) config.now.version) sources.now roots.now words.now) result }
+    // Where all files are looked at, a rule of files, modules, definitions and names, and of the words, is told exactly where one is broken.
+    ensures sources { LooksAtAll action (inputs_of (reader_of (E.expansion expander.now) config.now.version) sources.now roots.now words.now) → AnswersSources (given_of sources.now config.now.os config.now.unstable (E.expansion expander.now) config.now.version) (inputs_of (reader_of (E.expansion expander.now) config.now.version) sources.now roots.now words.now) (record { action = action; words = (inputs_of (reader_of (E.expansion expander.now) config.now.version) sources.now roots.now words.now).words; base = string_bytes config.now.base; working = string_bytes config.now.working_directory }) result }
     // Where the text of the root file or the list of recipes is asked for, nothing is asked and nothing handed over.
     ensures silent { IsText action → host.new ≡ host.old }
     // Where the call is refused nothing is written, unless the output takes no more, or a run fails whose plan is written.
@@ -392,7 +394,7 @@ pub fn drive<'src, E: Expander, H: RunHost + Drop, O: Out>(
     host: &mut Recorded<H>,
     out: &mut O,
 ) -> Result<Outcome, Fault<'src>>
-    ensures { Drives H.goes (inputs_of (reader_of (E.expansion expander.now) config.now.version) sources.now roots.now words.now) (given_of sources.now config.now.os config.now.unstable (E.expansion expander.now) config.now.version) (setup_of config.now) action (record { host = host.old; written = O.written out.old; failed = O.failed out.old }) result (record { host = host.new; written = O.written out.new; failed = O.failed out.new }) }
+    ensures { Drives H.goes (inputs_of (reader_of (E.expansion expander.now) config.now.version) sources.now roots.now words.now) (given_of sources.now config.now.os config.now.unstable (E.expansion expander.now) config.now.version) (setup_of config.now) (string_bytes config.now.base) action (record { host = host.old; written = O.written out.old; failed = O.failed out.old }) result (record { host = host.new; written = O.written out.new; failed = O.failed out.new }) }
 {
     drive_words(
         alloc,
@@ -425,7 +427,7 @@ pub fn drive_and_leak<'src, E: Expander, H: RunHost + Drop, O: Out>(
     host: &mut Recorded<H>,
     out: &mut O,
 ) -> Result<Outcome, Fault<'src>>
-    ensures { Drives H.goes (inputs_of (reader_of (E.expansion expander.now) config.now.version) sources.now roots.now words.now) (given_of sources.now config.now.os config.now.unstable (E.expansion expander.now) config.now.version) (setup_of config.now) action (record { host = host.old; written = O.written out.old; failed = O.failed out.old }) result (record { host = host.new; written = O.written out.new; failed = O.failed out.new }) }
+    ensures { Drives H.goes (inputs_of (reader_of (E.expansion expander.now) config.now.version) sources.now roots.now words.now) (given_of sources.now config.now.os config.now.unstable (E.expansion expander.now) config.now.version) (setup_of config.now) (string_bytes config.now.base) action (record { host = host.old; written = O.written out.old; failed = O.failed out.old }) result (record { host = host.new; written = O.written out.new; failed = O.failed out.new }) }
 {
     drive_words(
         alloc,

@@ -5,7 +5,6 @@ pub mod driver;
 pub mod fault;
 pub mod outcome;
 mod plan;
-mod request;
 mod texts;
 
 pub use driver::{drive, drive_and_leak};
@@ -16,5 +15,6 @@ pub use just_host::{
     WriteFailed, write_all,
 };
 pub use just_value::{Override, Positional};
-pub use outcome::{Action, Outcome};
+pub use outcome::Outcome;
+pub use run_requests::Action;
 pub use run_tasks::CommandFault;

@@ -12,7 +12,7 @@ ghost use Rattle.just_run.specs.Plain.{fault_of};
 ghost use Rattle.just_run.specs.Plans as spec;
 ghost use Rattle.just_run.specs.Plans.{IsEnd, IsKeptBy, IsPlanned, IsSent, IsWrittenPlan, Plans};
 ghost use Rattle.just_run.specs.Writes.{WriteFails};
-ghost use Rattle.just_run.specs.declared.outcome.Action.TheVariants.{Plan};
+ghost use Rattle.run_requests.specs.declared.action.Action.TheVariants.{Plan};
 
 use crate::fault::Fault;
 use crate::outcome::Outcome;

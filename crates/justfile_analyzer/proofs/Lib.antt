@@ -1,1 +1,3 @@
 mod Kept
+mod MenuRows
+mod MenusMade

@@ -1,6 +1,7 @@
 -- How a body ends: its faults as failures of its recipe.
-use Rattle.std.specs.Prelude.{Bool, true, false, Result, Ok, Err}
+use Rattle.std.specs.Prelude.{◌≡◌, Bool, true, false, Result, Ok, Err}
 use Rattle.just_text.specs.Tokens.{lexeme}
+use Rattle.just_text.specs.declared.name.Name.{Name}
 use Rattle.evaluate_context.specs.Refusals.{fault_of}
 use Rattle.meaning_dialogues.specs.Faults.{memory}
 use Rattle.meaning_runs.specs.Failures.{Failure, by_code, by_signal, not_started, not_confirmed, evaluation, Next, goes_on, stops}
@@ -15,6 +16,23 @@ failure_of (Code recipe code is_silent) = by_code (lexeme recipe.token) code
 failure_of (Signal recipe signal is_silent) = by_signal (lexeme recipe.token) signal
 failure_of (CouldNotStart recipe) = not_started (lexeme recipe.token)
 failure_of (NotConfirmed recipe) = not_confirmed (lexeme recipe.token)
+
+-- P holds of the recipe of a command's failure and of whether nothing is said of it; other faults are always told
+abbrev pub IfOfCommand : (Name → Bool → Type 0) → RunFault → Type 0
+IfOfCommand P OutOfMemory = Unit {0}
+IfOfCommand P (Evaluation error) = Unit {0}
+IfOfCommand P (Code recipe code is_silent) = P recipe is_silent
+IfOfCommand P (Signal recipe signal is_silent) = P recipe is_silent
+IfOfCommand P (CouldNotStart recipe) = Unit {0}
+IfOfCommand P (NotConfirmed recipe) = Unit {0}
+
+-- a command's failure is that of the recipe with this name, and whether nothing is said of it is this
+abbrev pub SaysSo : Name → Bool → RunFault → Type 0
+SaysSo name silent = IfOfCommand (λ recipe is_silent. (recipe ≡ name) × (is_silent ≡ silent))
+
+-- a fault that is no command's failure
+abbrev pub IsTold : RunFault → Type 0
+IsTold = IfOfCommand (λ recipe is_silent. ⊥)
 
 -- how a body ends
 abbrev pub ended : Result (Unit {0}) RunFault → Result (Unit {0}) Failure

@@ -1,5 +1,5 @@
 //! Bodies whose lines are commands.
-ghost use Rattle.std.specs.Prelude.{◌≡◌, ◌++◌, ◌∷◌, ◌-◌, length, slice_get, [], true, false, Err, IfOk, IfSome, None, OnOk, map, option_map};
+ghost use Rattle.std.specs.Prelude.{◌≡◌, ◌++◌, ◌∷◌, ◌-◌, length, slice_get, [], true, false, Err, IfErr, IfOk, IfSome, None, OnOk, map, option_map};
 ghost use Rattle.std.specs.String.{string_bytes};
 ghost use Rattle.just_text.specs.Tokens.{lexeme};
 ghost use Rattle.tree_items.specs.Lines.{is_byte, pieces_of, sigils_of};
@@ -11,7 +11,7 @@ ghost use Rattle.meaning_bodies.specs.Marked.{EndsSlashed};
 ghost use Rattle.meaning_bodies.specs.Performing.{Performs};
 ghost use Rattle.meaning_calls.specs.Bodies.{first_of, goes_on_below};
 ghost use Rattle.justfile_evaluator.specs.Bodies.{IsBodyOf, IsSiteOf, MeansLine, NamedBody, lines_of, task_of};
-ghost use Rattle.justfile_evaluator.specs.Ended.{ended, next_of};
+ghost use Rattle.justfile_evaluator.specs.Ended.{SaysSo, ended, next_of};
 ghost use Rattle.justfile_evaluator.specs.Sites.{folder_in, job_by, shows_in, template_in, words_in};
 ghost use Rattle.justfile_evaluator.specs.Turns as spec;
 ghost use Rattle.justfile_evaluator.specs.Turns.{EndsInText, IsHeld, IsMarked, IsPut, IsSound, Reads, Turns, unmarked_text};
@@ -249,6 +249,7 @@ fn hand_over<'src, H: RunHost + Drop>(
     ensures command { progress.new.command ≡ progress.old.command }
     ensures held { IsHeld site.now progress.old → IsHeld site.now progress.new }
     ensures performs { (b : NamedBody) → IsSiteOf b site.now → IsHeld site.now progress.old → IsMarked progress.old.command → Performs b.reading (spec.handed b progress.old.command) host.old host.new (next_of result) }
+    ensures said { IfErr result (SaysSo site.now.name site.now.manner.is_silent) }
 {
     let job = progress.job(alloc, site)?;
     let status = host.line(&job);
@@ -280,6 +281,7 @@ fn run_line<'src, H: RunHost + Drop>(
     ensures command { progress.new.command ≡ progress.old.command }
     ensures held { IsHeld site.now progress.old → IsHeld site.now progress.new }
     ensures performs { (b : NamedBody) → IsSiteOf b site.now → IsHeld site.now progress.old → IsMarked progress.old.command → Performs b.reading (spec.run b progress.old.command) host.old host.new (next_of result) }
+    ensures said { IfErr result (SaysSo site.now.name site.now.manner.is_silent) }
 {
     let text = progress.command.behind_sigils();
     if text.is_empty() {
@@ -332,6 +334,7 @@ fn turn_line<'src, H: RunHost + Drop>(
     ensures asks { AsksWork site.now.context.now.config.now.dry_run H.goes host.old host.new }
     ensures held { IsHeld site.now progress.old → IsHeld site.now progress.new }
     ensures turns { (b : NamedBody) → IsSiteOf b site.now → MeansLine b evaluator.now line.now → IsHeld site.now progress.old → Turns b progress.old.command (pieces_of line.now) progress.new.command host.old host.new result }
+    ensures said { IfErr result (SaysSo site.now.name site.now.manner.is_silent) }
 {
     if is_left_out(site, &progress.command, line) {
         return Ok(true);
@@ -354,6 +357,7 @@ fn run_lines<'src, H: RunHost + Drop>(
 ) -> Result<(), RunFault<'src>>
     ensures asks { AsksWork site.now.context.now.config.now.dry_run H.goes host.old host.new }
     ensures performs { (b : NamedBody) → IsBodyOf b site.now evaluator.now body.now → Performs b.reading (lines_of b) host.old host.new (ended result) }
+    ensures said { IfErr result (SaysSo site.now.name site.now.manner.is_silent) }
 {
     let mut progress = Progress::new(alloc);
     for line in body {
@@ -378,6 +382,7 @@ pub fn run_body<'src, H: RunHost + Drop>(
 ) -> Result<(), RunFault<'src>>
     ensures asks { AsksWork site.now.context.now.config.now.dry_run H.goes host.old host.new }
     ensures performs { (b : NamedBody) → IsBodyOf b site.now evaluator.now body.now → Performs b.reading (task_of b) host.old host.new (ended result) }
+    ensures said { IfErr result (SaysSo site.now.name site.now.manner.is_silent) }
 {
     if site.manner.is_script {
         return run_script(alloc, host, evaluator, site, body);

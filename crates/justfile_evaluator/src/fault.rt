@@ -1,5 +1,6 @@
 //! Why a run ended early.
 ghost use Rattle.std.specs.Prelude.{◌≡◌, Some};
+ghost use Rattle.justfile_evaluator.specs.Ended.{IsTold};
 ghost use Rattle.justfile_evaluator.specs.declared.fault.RunFault.TheVariants.{OutOfMemory};
 
 use evaluate_context::Error;
@@ -68,7 +69,9 @@ impl<'src> From<Error<'src>> for RunFault<'src> {
 
 impl<'src> RunFault<'src> {
     /// A fault that a resolved justfile doesn't meet.
-    pub fn internal(alloc: Global, text: &str) -> RunFault<'src> {
+    pub fn internal(alloc: Global, text: &str) -> RunFault<'src>
+        ensures { IsTold result }
+    {
         match Text::from_text(alloc, text) {
             Ok(text) => RunFault::Evaluation(Error::Internal(text)),
             Err(_) => RunFault::OutOfMemory,

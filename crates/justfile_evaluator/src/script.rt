@@ -1,5 +1,5 @@
 //! Bodies that are one script.
-ghost use Rattle.std.specs.Prelude.{◌≡◌, ◌∷◌, IfOk, [], drop, false, map, option_map, true};
+ghost use Rattle.std.specs.Prelude.{◌≡◌, ◌∷◌, IfErr, IfOk, [], drop, false, map, option_map, true};
 ghost use Rattle.std.specs.Str.{chars, encode_utf8_all, trim};
 ghost use Rattle.std.specs.String.{string_bytes};
 ghost use Rattle.just_text.specs.Tokens.{lexeme};
@@ -20,7 +20,7 @@ ghost use Rattle.meaning_calls.specs.Calling.{without_next};
 ghost use Rattle.meaning_bodies.specs.Marked.{BeginsAs, BeginsShebang};
 ghost use Rattle.meaning_bodies.specs.Performing.{Performs};
 ghost use Rattle.justfile_evaluator.specs.Bodies.{IsBodyOf, NamedBody, script_of};
-ghost use Rattle.justfile_evaluator.specs.Ended.{ended};
+ghost use Rattle.justfile_evaluator.specs.Ended.{SaysSo, ended};
 ghost use Rattle.justfile_evaluator.specs.Scripts as scripts;
 ghost use Rattle.justfile_evaluator.specs.Scripts.{GivesWords, IsScriptOf, handed_of, plain_words, positional_in, script_job_in, set_interpreter, shows_script_in, texts_of, words_of};
 ghost use Rattle.justfile_evaluator.specs.Sites as sites;
@@ -332,7 +332,8 @@ fn show<H: RunHost + Drop>(
 
 /// How a script that ended so ends its recipe's body.
 fn end<'src>(site: &Site<'_, 'src>, status: Status) -> Result<(), RunFault<'src>>
-    ensures { ended result ≡ without_next (next_by (lexeme site.now.name.token) no_sigils status) }
+    ensures ended { ended result ≡ without_next (next_by (lexeme site.now.name.token) no_sigils status) }
+    ensures said { IfErr result (SaysSo site.now.name site.now.manner.is_silent) }
 {
     match judge(site.name, status, NO_SIGILS, site.manner.is_silent) {
         Ok(_goes_on) => Ok(()),
@@ -350,6 +351,7 @@ pub(crate) fn run_script<'src, H: RunHost + Drop>(
 ) -> Result<(), RunFault<'src>>
     ensures asks { AsksWork site.now.context.now.config.now.dry_run H.goes host.old host.new }
     ensures performs { (b : NamedBody) → IsBodyOf b site.now evaluator.now body.now → Performs b.reading (script_of b) host.old host.new (ended result) }
+    ensures said { IfErr result (SaysSo site.now.name site.now.manner.is_silent) }
 {
     let lines = script_lines(alloc, host, evaluator, body)?;
     show(alloc, host, site, lines.as_slice())?;
@@ -369,6 +371,7 @@ fn hand_over<'src, H: RunHost + Drop>(
 ) -> Result<(), RunFault<'src>>
     ensures asks { AsksWork false H.goes host.old host.new }
     ensures performs { (b : NamedBody) → IsScriptOf b site.now evaluator.now lines.items → Performs b.reading (handed_of b false lines.items) host.old host.new (ended result) }
+    ensures said { IfErr result (SaysSo site.now.name site.now.manner.is_silent) }
 {
     let words = interpreter(alloc, host, evaluator, site, lines.as_slice())?;
     let job = job(alloc, site, words, lines)?;

@@ -1,10 +1,10 @@
 //! Where a recipe's body runs, and how.
-ghost use Rattle.std.specs.Prelude.{◌≡◌, IfOk, option_map};
+ghost use Rattle.std.specs.Prelude.{◌≡◌, IfErr, IfOk, option_map};
 ghost use Rattle.std.specs.String.{string_bytes};
 ghost use Rattle.just_text.specs.Tokens.{lexeme};
 ghost use Rattle.evaluate_context.specs.Folders as folders;
 ghost use Rattle.meaning_runs.specs.Failures.{next_by};
-ghost use Rattle.justfile_evaluator.specs.Ended.{failure_of, next_of};
+ghost use Rattle.justfile_evaluator.specs.Ended.{SaysSo, failure_of, next_of};
 ghost use Rattle.justfile_evaluator.specs.Sites as spec;
 ghost use Rattle.justfile_evaluator.specs.Sites.{extension_in, folder_in, manner_of, shows_in};
 ghost use Rattle.meaning_bodies.specs.Left.{failed_with};
@@ -168,7 +168,8 @@ pub(crate) fn judge<'src>(
     sigils: Sigils,
     is_silent: bool,
 ) -> Result<bool, RunFault<'src>>
-    ensures { next_of result ≡ next_by (lexeme recipe.entry.token) sigils status }
+    ensures next { next_of result ≡ next_by (lexeme recipe.entry.token) sigils status }
+    ensures said { IfErr result (SaysSo recipe.entry is_silent) }
 {
     match status {
         Status::Code(0) => Ok(true),
@@ -181,7 +182,8 @@ pub(crate) fn judge<'src>(
 
 /// The failure of a command of the recipe that ended so.
 fn failure<'src>(recipe: Name<'src>, status: Status, is_silent: bool) -> RunFault<'src>
-    ensures { failure_of result ≡ failed_with (lexeme recipe.entry.token) status }
+    ensures is { failure_of result ≡ failed_with (lexeme recipe.entry.token) status }
+    ensures said { SaysSo recipe.entry is_silent result }
 {
     match status {
         Status::Code(code) => RunFault::Code {

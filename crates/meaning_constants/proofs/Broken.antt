@@ -59,40 +59,40 @@ same_truth false false f g = refl
 
 module _ {A : Type 0} (overrides : BTreeMap ℕ (String A)) (w : World) (compilation : Compilation) (k : ℕ) (node : ModuleNode) (path : List Text) (words : List Override) (variables : List AssignmentRef) (order : List ℕ) (sets : List Set)
     (is_read : ℕ → Bool) (constants : Frames) (lists : Bool) (f : AreFoundIn w compilation k node path words overrides variables order sets is_read constants lists) where
-  abbrev own : Text
+  abbrev pub own : Text
   own = node.source.now
 
-  abbrev outer : List (List BoundRow)
+  abbrev pub outer : List (List BoundRow)
   outer = constants.own ∷ constants.outer
 
   module _ (c : ConstEvaluator) (finds : Finds w compilation k node path words overrides variables order sets is_read constants lists c) where
-    abbrev reading : Reading
+    abbrev pub reading : Reading
     reading = const_reading outer (values_in c) (excluded_in c)
 
-    same : reading_in c ≡ reading
+    pub same : reading_in c ≡ reading
     same = same_reading c ∙ ap (λ o. const_reading o (values_in c) (excluded_in c)) finds.1
 
-    abbrev so_far : Text → Meaning Value
+    abbrev pub so_far : Text → Meaning Value
     so_far = known reading (bindings_of compilation node)
 
     module _ (s : Set) (listed : IsListedSet compilation node s) where
-      own_name : setting_name s.value ≡ lexeme s.name.token
+      pub own_name : setting_name s.value ≡ lexeme s.name.token
       own_name = own_item w compilation f.module'.numbered listed.0 (set_item s) listed.2
 
-      abbrev file : Text
+      abbrev pub file : Text
       file = (cooked_at w compilation f.module'.numbered listed.0 (set_item s) listed.2).0
 
       -- an expression of the setting is seen without parameters
       plain : (x : Seen) → Contains (seen_in_setting s.value) x → Contains (seen_in (set_item s)) (seeing [] x.expression)
       plain x d = subst (Contains (seen_in (set_item s))) (sym (setting_plain s.value x d)) d
 
-      written : (x : Seen) → Contains (seen_in_setting s.value) x → IsWrittenIn (from_file file w.expansion) (bindings_of compilation node) x.expression
+      pub written : (x : Seen) → Contains (seen_in_setting s.value) x → IsWrittenIn (from_file file w.expansion) (bindings_of compilation node) x.expression
       written x d =
           let i = setting_item w compilation k node path f.module' s listed in
           is_written w compilation k node path f.module' (set_item s) i x.expression (plain x d) file ((cooked_at w compilation f.module'.numbered listed.0 (set_item s) listed.2).1 x d)
 
       -- what a name in the setting means
-      name_means : (x : Seen) → Contains (seen_in_setting s.value) x → (name : Text) → Contains (occurrences (shape_of x.expression)) (naming.a_variable name) → Means w (overrides_of words) path own name (so_far name)
+      pub name_means : (x : Seen) → Contains (seen_in_setting s.value) x → (name : Text) → Contains (occurrences (shape_of x.expression)) (naming.a_variable name) → Means w (overrides_of words) path own name (so_far name)
       name_means x d name occurs =
           let i = setting_item w compilation k node path f.module' s listed in
           let here = plain x d in
@@ -115,7 +115,7 @@ module _ {A : Type 0} (overrides : BTreeMap ℕ (String A)) (w : World) (compila
           ]
 
       -- a part of the setting is one of its expressions
-      part_found : (p : Part) → IsPartOf w (overrides_of words) path own (set_shape s) p → (x : Seen) × Contains (seen_in_setting s.value) x × (part_of x ≡ p)
+      pub part_found : (p : Part) → IsPartOf w (overrides_of words) path own (set_shape s) p → (x : Seen) × Contains (seen_in_setting s.value) x × (part_of x ≡ p)
       part_found p d = part_seen w compilation f.module'.numbered listed.0 (set_item s) listed.2 p d
 
       lacks : RefusesOne w compilation k node path words overrides variables order sets is_read constants lists c s → LacksAnswer w (overrides_of words) path own (set_shape s)

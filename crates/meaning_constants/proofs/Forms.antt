@@ -7,7 +7,7 @@ use Rattle.meaning_dialogues.specs.Evaluation.{Value, interpreter_dialogue, inte
 use Rattle.meaning_dialogues.specs.Constants.{settled, settled_read}
 
 -- what is settled, and what goes on from there
-abbrev going_on : {A B : Type 0} → Option (Result A Fault) → (A → Option (Result B Fault)) → Option (Result B Fault)
+abbrev pub going_on : {A B : Type 0} → Option (Result A Fault) → (A → Option (Result B Fault)) → Option (Result B Fault)
 going_on None k = None
 going_on (Some (Err fault)) k = Some (Err fault)
 going_on (Some (Ok a)) k = k a
@@ -17,7 +17,7 @@ read_on : {A B : Type 0} (r : Result Value Fault) (n : Value → Option (Result 
 read_on (Ok v) n m k h = h v
 read_on (Err fault) n m k h = refl
 
-then_settled : {A B : Type 0} (reading : Reading) (d : Dialogue A) (k : A → Dialogue B) → settled reading (d >>= k) ≡ going_on (settled reading d) (λ a. settled reading (k a))
+pub then_settled : {A B : Type 0} (reading : Reading) (d : Dialogue A) (k : A → Dialogue B) → settled reading (d >>= k) ≡ going_on (settled reading d) (λ a. settled reading (k a))
 then_settled reading (Ends (Ok a)) k = refl
 then_settled reading (Ends (Err fault)) k = refl
 then_settled reading (Asks question next) k = refl

@@ -101,13 +101,17 @@ module _ (w : World) (compilation : Compilation) where
           | inr p ↦ absurd (apart k' k node' node here' here p.1 from' to' from to)
         ]
 
-    -- a recipe of the compilation has the options that its attributes say
-    pub has_options : (place : Place) (recipe : RecipeOf UnresolvedDependency) → recipe_at compilation place ≡ Some recipe → HasOptions w.expansion recipe
-    has_options place recipe e = by_file (slice_get compilation.files.items place.file) refl (item_back (item_at compilation place) recipe e)
+    -- a recipe of the compilation is what its attributes make of it
+    own_recipe : (place : Place) (recipe : RecipeOf UnresolvedDependency) → recipe_at compilation place ≡ Some recipe → IsOwnItem w.expansion (Recipe recipe)
+    own_recipe place recipe e = by_file (slice_get compilation.files.items place.file) refl (item_back (item_at compilation place) recipe e)
       where
-        by_file : (o : Option File) → slice_get compilation.files.items place.file ≡ o → slice_get (items_of o) place.item ≡ Some (Recipe recipe) → HasOptions w.expansion recipe
+        by_file : (o : Option File) → slice_get compilation.files.items place.file ≡ o → slice_get (items_of o) place.item ≡ Some (Recipe recipe) → IsOwnItem w.expansion (Recipe recipe)
         by_file None is at = absurd (none-some (Recipe recipe) at)
         by_file (Some file) is at = all_at (IsOwnItem w.expansion) file.ast.items.items place.item (Recipe recipe) (meant.options place.file file is) at
+
+    -- it has the options that its attributes say
+    pub has_options : (place : Place) (recipe : RecipeOf UnresolvedDependency) → recipe_at compilation place ≡ Some recipe → HasOptions w.expansion recipe
+    has_options place recipe e = (own_recipe place recipe e).0
 
     -- a recipe in a module's list is kept there by its name
     pub keeps_listed : (k : ℕ) (node : ModuleNode) → HasNode w compilation k node → (item : Place) → Contains node.recipes.items item → (name : Text) × KeepsRecipe w compilation node name item

@@ -24,7 +24,7 @@ use Rattle.parse_recipes.specs.Numbering.{numbers_of}
 use Rattle.parse_items.specs.Names.{setting_name}
 use Rattle.parse_items.specs.Numbered.{binding_numbers}
 use Rattle.parse_attributed_items.specs.Fitting.{options_among}
-use Rattle.parse_attributed_items.specs.Held.{HasOptions, IsItemCooked, IsOwnItem}
+use Rattle.parse_attributed_items.specs.Held.{AreAscii, HasOptions, IsAscii, IsItemCooked, IsOwnItem}
 use Rattle.parse_attributed_items.specs.Options.{HaveOptions, ParameterOptions, meant_for}
 use Rattle.justfile_syntax.specs.Numbered.{bindings_in, recipe_numbers, recipes_in}
 use Rattle.modules_compilation.specs.declared.compilation.Compilation.{Compilation}
@@ -103,6 +103,15 @@ options_kept : (expansion : Expansion) (os : List OptionsShape) (old new : List 
 options_kept expansion os old new same have =
     let bare : All (HasBareOptions expansion os) (bare_parameters old) = All-map (HasBareOptions expansion os) bare_parameter old have in
     all_unmapped (HasBareOptions expansion os) bare_parameter new (subst (All (HasBareOptions expansion os)) (sym same) bare)
+
+abbrev HasAsciiName : Parameter × Option Shape → Type 0
+HasAsciiName b = IsAscii b.0
+
+-- and the same short names
+letters_kept : (old new : List Parameter) → bare_parameters new ≡ bare_parameters old → AreAscii old → AreAscii new
+letters_kept old new same ascii =
+    let bare : All HasAsciiName (bare_parameters old) = All-map HasAsciiName bare_parameter old ascii in
+    all_unmapped HasAsciiName bare_parameter new (subst (All HasAsciiName) (sym same) bare)
 
 -- and the same numbers
 numbers_kept : (old new : List Parameter) → bare_parameters new ≡ bare_parameters old → numbers_of new ≡ numbers_of old
@@ -191,8 +200,8 @@ own_kept expansion Newline after is shape own = subst (IsOwnItem expansion) (sym
 own_kept expansion (Recipe r) after is shape own =
     let attributes : shapes_in is.0.attributes ≡ shapes_in r.attributes = same_attributes r is.0 (ap item_shape (sym is.1) ∙ shape) in
     let options : HasOptions expansion is.0 = subst (λ as'. HaveOptions expansion (options_among as') is.0.parameters.items) (sym attributes)
-    (options_kept expansion (options_among (shapes_in r.attributes)) r.parameters.items is.0.parameters.items is.2.parameters own) in
-    subst (IsOwnItem expansion) (sym is.1) options
+    (options_kept expansion (options_among (shapes_in r.attributes)) r.parameters.items is.0.parameters.items is.2.parameters own.0) in
+    subst (IsOwnItem expansion) (sym is.1) (options, letters_kept r.parameters.items is.0.parameters.items is.2.parameters own.1)
 own_kept expansion (Set s) after is shape own =
     subst (IsOwnItem expansion) (sym is.1) (name_kept s.value is.0.value is.3 ∙ own ∙ ap (λ n. lexeme n.token) (sym is.2))
 own_kept expansion (Unexport u) after is shape own = subst (IsOwnItem expansion) (sym is) own

@@ -220,6 +220,6 @@ parts_are_seen expansion (Function f) h = ap (Î» ns. part ns (shape_of f.body) â
 parts_are_seen expansion (Import i) h = refl
 parts_are_seen expansion (Module m) h = refl
 parts_are_seen expansion Newline h = refl
-parts_are_seen expansion (Recipe r) h = of_recipe expansion r h
+parts_are_seen expansion (Recipe r) h = of_recipe expansion r h.0
 parts_are_seen expansion (Set s) h = of_setting expansion s.value
 parts_are_seen expansion (Unexport u) h = refl

@@ -87,7 +87,7 @@ stands_before needs order ranks rank place needed row need ordered are at here l
     omega (arith, same, earlier)
 
 -- each recipe of the order is there, with its row and what its module reads
-all_give : (compilation : Compilation) (reads : List ModuleReads) (recipes : List Kept) (needs : List (List ℕ)) (ranks order : List ℕ) → length compilation.modules.items ≤ length reads → length needs ≡ length recipes → recipes ≡ all_kept compilation
+pub all_give : (compilation : Compilation) (reads : List ModuleReads) (recipes : List Kept) (needs : List (List ℕ)) (ranks order : List ℕ) → length compilation.modules.items ≤ length reads → length needs ≡ length recipes → recipes ≡ all_kept compilation
     → ((i place : ℕ) → slice_get order i ≡ Some place → place < length needs) → (i place : ℕ) → slice_get order i ≡ Some place → resolved_at recipes reads needs ranks place ≡ None → ⊥
 all_give compilation reads recipes needs ranks order many rows kept_are within i place at none =
     let less = within i place at in
@@ -122,7 +122,7 @@ pub record IsOf (recipes : List Kept) (place : ℕ) (a : Resolved) : Type 0 wher
   pub home : a.home ≡ kept.0
   pub standing : a.place ≡ kept.1
 
-is_of : (reads : List ModuleReads) (ranks : List ℕ) (kept : Option Kept) (row : Option (List ℕ)) (recipes : List Kept) (place : ℕ) (a : Resolved) → slice_get recipes place ≡ kept → resolved_with reads ranks kept row ≡ Some (Ok a) → IsOf recipes place a
+pub is_of : (reads : List ModuleReads) (ranks : List ℕ) (kept : Option Kept) (row : Option (List ℕ)) (recipes : List Kept) (place : ℕ) (a : Resolved) → slice_get recipes place ≡ kept → resolved_with reads ranks kept row ≡ Some (Ok a) → IsOf recipes place a
 is_of reads ranks None row recipes place a is e = absurd (none-some (Ok a) e)
 is_of reads ranks (Some kept) None recipes place a is e = absurd (none-some (Ok a) e)
 is_of reads ranks (Some kept) (Some row) recipes place a is e =
@@ -130,7 +130,7 @@ is_of reads ranks (Some kept) (Some row) recipes place a is e =
     record { kept = kept; here = is; named = ap (λ (r : Resolved). r.name) (sym whole.1); home = ap (λ (r : Resolved). r.home) (sym whole.1); standing = ap (λ (r : Resolved). r.place) (sym whole.1) }
 
 -- the recipe that is seen so
-seen_case : (found : Option ResolvedRecipe) (a : Resolved) → option_map seen found ≡ Some a → (recipe : ResolvedRecipe) × (found ≡ Some recipe) × (seen recipe ≡ a)
+pub seen_case : (found : Option ResolvedRecipe) (a : Resolved) → option_map seen found ≡ Some a → (recipe : ResolvedRecipe) × (found ≡ Some recipe) × (seen recipe ≡ a)
 seen_case None a e = absurd (none-some a e)
 seen_case (Some recipe) a e = (recipe, refl, same_Some (seen recipe) a e)
 

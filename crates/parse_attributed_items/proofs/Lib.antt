@@ -7,6 +7,7 @@ pub mod Numbers
 pub mod OptionNames
 pub mod Placed
 pub mod WholeOptions
+pub mod Letters
 pub mod Differ
 pub mod Frugal
 pub mod Faults

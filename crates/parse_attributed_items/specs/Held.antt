@@ -1,5 +1,5 @@
 -- What items hold when their attributes are read.
-use Rattle.std.specs.Prelude.{◌≡◌, ◌||◌, Bool, false, List, []}
+use Rattle.std.specs.Prelude.{◌≡◌, ◌<◌, ◌||◌, Bool, false, List, [], IfSome}
 use Rattle.std.specs.List.{All}
 use Rattle.just_text.specs.Numbers.{Numbers}
 use Rattle.just_text.specs.Tokens.{lexeme}
@@ -8,6 +8,7 @@ use Rattle.tree_items.specs.declared.ast.Item.TheVariants.{Alias, Assignment, Mo
 use Rattle.tree_attribute_sets.specs.declared.attribute_item.AttributeItem.{AttributeItem}
 use Rattle.tree_expressions.specs.declared.expression.Expression.{Expression}
 use Rattle.tree_items.specs.declared.item.Binding.{Binding}
+use Rattle.tree_items.specs.declared.recipe.Parameter.{Parameter}
 use Rattle.tree_items.specs.declared.recipe.Recipe.{Recipe as RecipeTree}
 use Rattle.tree_items.specs.declared.recipe.UnresolvedDependency.{UnresolvedDependency}
 use Rattle.tree_attribute_sets.specs.Sets.{items_of, shapes_in, is_private as are_private}
@@ -38,10 +39,17 @@ pub record IsOwnAssignment (a : Binding Expression) : Type 0 where
 abbrev pub HasOptions : Expansion → RecipeTree UnresolvedDependency → Type 0
 HasOptions expansion r = HaveOptions expansion (options_among (shapes_in r.attributes)) r.parameters.items
 
+-- the short names of their options are ASCII
+abbrev pub IsAscii : Parameter → Type 0
+IsAscii p = IfSome p.short (λ letter. letter < 128)
+
+abbrev pub AreAscii : List Parameter → Type 0
+AreAscii ps = All IsAscii ps
+
 -- what the attributes, the name and the place of an item make of it: a setting is the one that its name tells
 abbrev pub IsOwnItem : Expansion → Item → Type 0
 IsOwnItem expansion (Assignment a) = IsOwnAssignment a
-IsOwnItem expansion (Recipe r) = HasOptions expansion r
+IsOwnItem expansion (Recipe r) = HasOptions expansion r × AreAscii r.parameters.items
 IsOwnItem expansion (Set s) = setting_name s.value ≡ lexeme s.name.token
 IsOwnItem expansion other = Unit {0}
 

@@ -11,7 +11,7 @@ ghost use Rattle.parse_recipes.specs.Cooked.{IsRecipeCooked};
 ghost use Rattle.parse_recipes.specs.Numbering.{IsRecipeNumbered};
 ghost use Rattle.parse_attributed_items.specs.Options.{AreValuesCooked, GivesOrRefuses};
 ghost use Rattle.parse_attributed_items.specs.Fitting.{argument_fault, with_attributes};
-ghost use Rattle.parse_attributed_items.specs.Held.{HasOptions, IsItemCooked, IsItemNumbered, IsOwnItem};
+ghost use Rattle.parse_attributed_items.specs.Held.{AreAscii, HasOptions, IsItemCooked, IsItemNumbered, IsOwnItem};
 ghost use Rattle.parse_attributed_items.specs.Plain.{IsBareCooked, IsBareRecipe, IsBareTree};
 ghost use Rattle.parse_attributed_items.specs.Seen.{AreWholeArguments, AreWholeOrdered};
 
@@ -92,6 +92,7 @@ fn recipe_with<'src>(
     ensures shape { IfOk result (λ r. recipe_shape r ≡ recipe_shape recipe.entry) }
     ensures numbers { (old new : Numbers) → IsRecipeNumbered old new recipe.entry → IfOk result (IsRecipeNumbered old new) }
     ensures options { (origin : Origin) (written : List AttributeShape) → AreWholeOrdered origin written known.entry → AreWholeArguments origin.expansion written → IsBareRecipe recipe.entry → IfOk result (HasOptions origin.expansion) }
+    ensures letters { (origin : Origin) (written : List AttributeShape) → AreWholeOrdered origin written known.entry → AreWholeArguments origin.expansion written → IsBareRecipe recipe.entry → IfOk result (λ r. AreAscii r.parameters.items) }
     ensures cooked { (origin : Origin) → IsRecipeCooked origin recipe.entry → IfOk result (IsRecipeCooked origin) }
     ensures values { (origin : Origin) (written : List AttributeShape) → AreWholeOrdered origin written known.entry → IsBareRecipe recipe.entry → IfOk result (λ r. AreValuesCooked origin r.parameters.items) }
 {

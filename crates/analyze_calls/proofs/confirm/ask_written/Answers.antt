@@ -17,3 +17,8 @@ returns-clause-performs g c =
     let is : c.as_str.result.now ≡ string_bytes c.in_ok-text.text = search rules in
     asked_then (reading_at c.args.evaluator.now) (stage_at c.args.evaluator.now) (lexeme c.args.recipe.token) (Some c.args.prompt.now) c.args.host.now c.prompt_text.new.host c.ask.new.host _ _ (c.in_ok-text.ensures.performs (lexeme c.args.recipe.token))
     (open_worked g.H.Host.goes g.met.H.Host.nothing true c.prompt_text.new.host c.ask.new.host (λ kinds questions user work. c.ask.ensures.asks kinds questions user)) (rw is at (c.ask.ensures.performs (reading_at c.args.evaluator.now)))
+
+pub returns-in_err-text-clause-told : goal.returns-in_err-text-clause-told
+returns-in_err-text-clause-told g c =
+    let p = err_from_is_err_and c.from_residual.result c.from_residual.ensures.1 in
+    rw (p.1, p.2) c.in_err-text.ensures.told

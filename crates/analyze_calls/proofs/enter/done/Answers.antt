@@ -1,10 +1,9 @@
-use Rattle.std.proofs.Common.{rules, ◌≡◌, ◌∙◌, ap, false}
+use Rattle.std.proofs.Common.{rules, ◌≡◌, ◌∙◌, ap}
 use Rattle.std.proofs.lemmas.Result.{err_from_is_err_and}
-use Rattle.evaluate_context.specs.Refusals.{seen_as}
 use Rattle.evaluate_variables.specs.Given.{stage_with}
 use Rattle.meaning_bodies.proofs.Performing.{open_asked}
 use Rattle.meaning_parameters.specs.Bindings.{run_reading}
-use Rattle.analyze_calls.specs.Calls.{rows}
+use Rattle.justfile_evaluator.proofs.Silence.{evaluation_told}
 use Rattle.analyze_calls.specs.Entered.{entered_of}
 use Rattle.analyze_calls.proofs.Around.{body_brings, body_refuses, body_stops}
 use Rattle.analyze_calls.proofs.Entering.{grown_worked}
@@ -48,3 +47,13 @@ returns-clause-tails g c = λ is open_still.
 
 pub returns-in_err-block_unless-clause-asks : goal.returns-in_err-block_unless-clause-asks
 returns-in_err-block_unless-clause-asks g c = λ kinds questions user work start asked. c.in_err-block_unless.ensures.asks kinds questions start (c.in_ok-run.ensures.asks kinds questions user work start asked)
+
+pub returns-in_err-run-clause-said : goal.returns-in_err-run-clause-said
+returns-in_err-run-clause-said g c =
+    let p = err_from_is_err_and c.from_residual.result c.from_residual.ensures.1 in
+    rw (p.1, p.2) c.in_err-run.ensures.said
+
+pub returns-in_err-block_unless-clause-said : goal.returns-in_err-block_unless-clause-said
+returns-in_err-block_unless-clause-said g c =
+    let p = err_from_is_err_and c.from_residual-in_err-block_unless.result c.from_residual-in_err-block_unless.ensures.1 in
+    rw p.1 (evaluation_told _ _ _ p.2)

@@ -8,3 +8,6 @@ pub returns-clause-performs : goal.returns-clause-performs
 returns-clause-performs g c = λ is.
     let same : c.as_slice-body.result.now ≡ c.args.placed.now.planned.now.recipe.now.body.items = search rules in
     record { site = c.site-site.result; is_own = c.site-site.ensures.own is; performs = rw same at c.run_body.ensures.performs }
+
+pub returns-clause-said : goal.returns-clause-said
+returns-clause-said g c = rw (c.site-site.ensures.name, c.site-site.ensures.silent) at c.run_body.ensures.said

@@ -1,5 +1,6 @@
 use Rattle.std.proofs.Common.{◌∷◌, ◌∙◌, ap, sym}
 use Rattle.std.proofs.lemmas.Result.{err_from_is_err_and}
+use Rattle.justfile_evaluator.proofs.Silence.{told_as}
 use Rattle.analyze_calls.specs.Calls.{row_of, rows}
 use Rattle.analyze_runs.specs.Frames.{todo}
 use Rattle.analyze_runs.specs.Steps.{parts}
@@ -55,3 +56,13 @@ loop-frame-preserved g c = record {
   leads = λ k. on (parts c.args.runner.now) (c.in-Some.ensures ∙ ap (λ f. todo f ∷ c.pop.new.self) c.in-After.is) (c.loop-frame.invariant.leads k)
       (returned (parts c.args.runner.now) (row_of c.in-After.call) c.in-After.outer c.loop-frame.done c.turn_after.new.done c.pop.new.self c.loop-frame.host.entries (tally_of c.loop-frame.tally) c.in_ok-turn_after-in-After.ensures);
 }
+
+pub returns-in_err-turn_calls-in-Calls-clause-said : goal.returns-in_err-turn_calls-in-Calls-clause-said
+returns-in_err-turn_calls-in-Calls-clause-said g c =
+    let p = err_from_is_err_and c.from_residual.result c.from_residual.ensures.1 in
+    rw (p.1, p.2) (told_as _ _ c.in_err-turn_calls-in-Calls.ensures.told)
+
+pub returns-in_err-turn_body-in-Body-clause-said : goal.returns-in_err-turn_body-in-Body-clause-said
+returns-in_err-turn_body-in-Body-clause-said g c =
+    let p = err_from_is_err_and c.from_residual-in_err-turn_body-in-Body.result c.from_residual-in_err-turn_body-in-Body.ensures.1 in
+    rw (p.1, p.2) c.in_err-turn_body-in-Body.ensures.said

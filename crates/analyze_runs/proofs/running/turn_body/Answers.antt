@@ -21,3 +21,8 @@ pub returns-clause-goes : goal.returns-clause-goes
 returns-clause-goes g c = λ t k. blocked (parts c.args.runner.now) (row_of c.args.call) c.args.entered.now.is_dependency (entered_of c.args.entered.now) c.in_ok-subsequents.subsequents.are_shared
     (rows c.in_ok-subsequents.subsequents.calls) c.args.stack.now c.push_subsequents.new.stack c.args.done.now c.push_subsequents.new.done c.args.host.now.entries c.leave.new.host.entries t
     c.in_ok-subsequents.ensures.shared c.in_ok-push_subsequents.ensures.stack c.in_ok-push_subsequents.ensures.done (c.in_ok-subsequents.ensures.goes k)
+
+pub returns-in_err-subsequents-clause-said : goal.returns-in_err-subsequents-clause-said
+returns-in_err-subsequents-clause-said g c =
+    let p = err_from_is_err_and c.from_residual.result c.from_residual.ensures.1 in
+    rw (p.1, p.2) c.in_err-subsequents.ensures.said

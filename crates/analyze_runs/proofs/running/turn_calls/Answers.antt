@@ -40,3 +40,8 @@ returns-clause-goes g c = λ k. opened (parts c.args.runner.now) c.args.are_depe
     c.args.stack.now c.push_entered.new.stack c.args.done.now c.args.host.now.entries c.enter-2.new.host.entries c.args.tally.now c.enter.new.self c.in-Some.ensures
     (c.in_ok-push_entered.ensures ∙ (λ i. Calls true (rows c.in_ok-entered.priors) ∷ Body (row_of c.in-Some.call) (c.in_ok-entered.ensures.flag i) (entered_of c.in_ok-entered.entered.value) ∷ c.in_ok-push.ensures i))
     (c.enter.ensures.entered ∙ ap entered_one c.meet.ensures.met) (sym c.if-has.ensures) (c.in_ok-entered.ensures.goes k)
+
+pub returns-in_err-entered-clause-told : goal.returns-in_err-entered-clause-told
+returns-in_err-entered-clause-told g c =
+    let p = err_from_is_err_and c.from_residual-in_err-entered.result c.from_residual-in_err-entered.ensures.1 in
+    rw (p.1, p.2) c.in_err-entered.ensures.told

@@ -33,3 +33,13 @@ returns-clause-goes g c =
     c.deref.result.now.is_dependency (entered_of c.in_ok-entered.entered.value) (entered_of c.deref.result.now) c.args.host.now.entries c.boxed.new.host.entries c.priors.new.host.entries
     (ap (λ e. e.is_dependency) c.deref.ensures ∙ c.in_ok-entered.ensures.flag) (ap entered_of c.deref.ensures) (rows c.in_ok-priors.priors)
     c.in_ok-entered.ensures.binds (c.in_ok-priors.ensures.heads k)
+
+pub returns-in_err-entered-clause-told : goal.returns-in_err-entered-clause-told
+returns-in_err-entered-clause-told g c =
+    let p = err_from_is_err_and c.from_residual.result c.from_residual.ensures.1 in
+    rw (p.1, p.2) c.in_err-entered.ensures.told
+
+pub returns-in_err-priors-clause-told : goal.returns-in_err-priors-clause-told
+returns-in_err-priors-clause-told g c =
+    let p = err_from_is_err_and c.from_residual-in_err-priors.result c.from_residual-in_err-priors.ensures.1 in
+    rw (p.1, p.2) c.in_err-priors.ensures.told

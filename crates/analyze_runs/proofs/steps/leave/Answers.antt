@@ -1,6 +1,8 @@
 use Rattle.std.proofs.Common.{sym, refl}
+use Rattle.justfile_evaluator.proofs.Silence.{told_as}
 use Rattle.analyze_calls.specs.Calls.{row_of, rows}
 use Rattle.analyze_calls.specs.Around.{Tails}
+use Rattle.analyze_runs.proofs.Silence.{says_in}
 use Rattle.analyze_runs.specs.Steps.{Ends, HeadsBelow, here_ends, nowhere_ends}
 use Rattle.analyze_calls.specs.Entered.{entered_of}
 use Rattle.analyze_runs.proofs.Beginnings.{context_among, given_as}
@@ -19,3 +21,9 @@ returns-clause-goes g c =
 pub returns-clause-asks : goal.returns-clause-asks
 returns-clause-asks g c = λ kinds questions user work. c.subsequents.ensures.asks kinds questions user
     (λ dry. work c.in-Some.placed.context.now (context_among c.args.runner.now c.args.call.now.recipe c.in-Some.placed.planned.now c.in-Some.placed.context.now (sym c.in-Some.ensures)) dry)
+
+pub returns-in_default-clause-said : goal.returns-in_default-clause-said
+returns-in_default-clause-said g c = told_as _ _ c.lost_recipe.ensures
+
+pub returns-clause-said : goal.returns-clause-said
+returns-clause-said g c = says_in c.args.runner.now c.args.call.now.recipe c.in-Some.placed.planned.now c.in-Some.placed.context.now (sym c.in-Some.ensures) c.subsequents.result c.subsequents.ensures.said

@@ -15,3 +15,8 @@ pub returns-clause-heads : goal.returns-clause-heads
 returns-clause-heads g c =
     ranked_calls c.args.place (Heads c.args.placed.now.planned.now c.args.placed.now.context.now c.args.entered.now.is_dependency (entered_of c.args.entered.now) c.args.runner.now c.args.host.now.entries c.begin.new.host.entries)
     c.in_ok-calls.calls.items c.begin.new.host.exhausted c.ranked.result c.in_ok-calls.ensures.heads c.ranked.ensures.same c.ranked.ensures.refused
+
+pub returns-in_err-calls-clause-told : goal.returns-in_err-calls-clause-told
+returns-in_err-calls-clause-told g c =
+    let p = err_from_is_err_and c.from_residual.result c.from_residual.ensures.1 in
+    rw (p.1, p.2) c.in_err-calls.ensures.told

@@ -1,4 +1,5 @@
 use Rattle.std.proofs.lemmas.Result.{err_from_is_err_and}
+use Rattle.justfile_evaluator.proofs.Silence.{told_as}
 use Rattle.analyze_calls.specs.Calls.{rows}
 use Rattle.analyze_calls.specs.Around.{Tails}
 use Rattle.analyze_calls.specs.Entered.{entered_of}
@@ -22,3 +23,13 @@ pub returns-clause-goes : goal.returns-clause-goes
 returns-clause-goes g c = λ k.
     brought_calls c.args.place (Tails c.args.placed.now.planned.now c.args.placed.now.context.now c.args.entered.now.is_dependency (entered_of c.args.entered.now) c.args.runner.now c.args.host.now.entries c.end.new.host.entries)
     c.in_ok-brought.brought.items c.in_ok-calls.calls (c.in_ok-brought.ensures.tails k) c.in_ok-calls.ensures.same
+
+pub returns-in_err-brought-clause-said : goal.returns-in_err-brought-clause-said
+returns-in_err-brought-clause-said g c =
+    let p = err_from_is_err_and c.from_residual.result c.from_residual.ensures.1 in
+    rw (p.1, p.2) c.in_err-brought.ensures.said
+
+pub returns-in_err-calls-clause-said : goal.returns-in_err-calls-clause-said
+returns-in_err-calls-clause-said g c =
+    let p = err_from_is_err_and c.from_residual-in_err-calls.result c.from_residual-in_err-calls.ensures.1 in
+    rw (p.1, p.2) (told_as _ _ c.in_err-calls.ensures.told)

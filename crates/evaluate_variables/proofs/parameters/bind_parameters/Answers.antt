@@ -1,12 +1,15 @@
-use Rattle.std.proofs.Common.{rules, ◌≡◌, ◌∷◌, ◌∙◌, ap, length, map, refl, subst, sym}
+use Rattle.std.proofs.Common.{rules, ◌≡◌, ◌∷◌, ◌∙◌, ap, arith, length, map, refl, subst, suc, sym}
+use Rattle.std.proofs.lemmas.List.Elements.{All-contains_itself}
 use Rattle.std.proofs.lemmas.Result.{err_from_is_err_and}
 use Rattle.std.proofs.lemmas.Slice.Zip.{either_empty_from_Zip}
+use Rattle.std.specs.List.{All, Contains}
 use Rattle.std.specs.Slice.Iter.{iter_rest}
 use Rattle.just_text.specs.Tokens.{lexeme}
 use Rattle.just_value.specs.Frames.{value_binding}
 use Rattle.meaning_stages.specs.Parameters.{bound_value, formal_of}
 use Rattle.meaning_parameters.proofs.Parameters.{binds_first, binds_more, binds_stop, binds_refused, binds_end, none_left}
 use Rattle.evaluate_variables.specs.Given.{AreCounted, lists_of, stage_for}
+use Rattle.evaluate_variables.proofs.Rows.{more_rows, no_rows}
 use Rattle.evaluate_variables.proofs.SameStage.{same_stage}
 use Rattle.evaluate_variables.proofs.parameters.bind_parameters.Goals as goal
 
@@ -18,6 +21,8 @@ loop-parameter-init g c =
       asks = λ kinds has start asked. asked;
       lies = refl;
       binds = λ may counts always counted none. rw (ps, qs) (counted, binds_first _ _ _ _ _ _ _ _ _ _ _ _ _ none (search rules));
+      left = rw ps (All-contains_itself c.args.parameters.now);
+      rows = λ none. no_rows c.args.parameters.now c.args.scope.now.own none;
     }
 
 pub returns-in_err-value-clause-evaluates : goal.returns-in_err-value-clause-evaluates
@@ -77,6 +82,7 @@ loop-parameter-preserved g c =
     let v = c.in_ok-value.value in
     let long : c.len.result ≡ length v = search rules in
     let given = rw (same_stage site c.args.env.now l.scope here l.invariant.lies) at c.in_ok-value.ensures.evaluates in
+    let all = subst (All (Contains c.args.parameters.now)) ps l.invariant.left in
     record {
       asks = λ kinds has start asked. c.in_ok-value.ensures.asks kinds has start (l.invariant.asks kinds has start asked);
       lies = search rules;
@@ -85,6 +91,8 @@ loop-parameter-preserved g c =
           let now = subst (AreCounted may counts) ps h.0 in
           let passed = sym (now.0 (length v)) ∙ (ap (may p) (sym long) ∙ c.in_ok-check_count.ensures.passed may always) in
           (now.1, binds_more here there stage site.is_dependency (lexeme site.recipe.token) counts site.passes_words (lists_of site) formals groups none l.scope l.invariant.lies _ _ _ _ _ _ h.1 (formal_of p) _ q _ (ap (map formal_of) ps) qs _ _ (value_binding p.name p.number p.export (bound_value (lists_of site) v)) v given passed (search rules) refl refl (search rules));
+      left = λ k d lt. all (suc k) d (omega arith);
+      rows = λ none. more_rows c.args.parameters.now l.scope.own p (bound_value (lists_of site) v) _ (l.invariant.rows none) (all 0 p (omega arith)) (search rules);
     }
 
 pub returns-clause-evaluates : goal.returns-clause-evaluates

@@ -75,3 +75,8 @@ returns-clause-evaluates g c = λ may counts always counted none.
     let all = subst (AreCounted may counts) (sym ps) counted in
     let passes : c.passes_words.result ≡ passes_in context.module.now.settings.now recipe.attributes = c.passes_words.ensures in
     bound_gives reading stages c.args.is_dependency (lexeme recipe.name.token) counts lists attributes formals groups _ _ _ _ _ _ c.in_ok-env.env.items c.in_ok-env.ensures.evaluates same (rw (env, ps, passes) at (c.in_ok-positional.ensures.evaluates may counts always all none))
+
+pub returns-clause-rows : goal.returns-clause-rows
+returns-clause-rows g c = λ none.
+    let ps : c.deref.result.now ≡ c.args.recipe.now.parameters.items = search rules in
+    rw ps at (c.in_ok-positional.ensures.rows none)

@@ -1,14 +1,32 @@
-use Rattle.just_run.specs.Requests.{IsFor}
-use Rattle.just_run.specs.declared.request.Request.TheVariants as requests
+use Rattle.std.proofs.Common.{◌∙◌, Err, ap, subst}
+use Rattle.std.proofs.lemmas.Result.{err_from_is_err_and}
+use Rattle.just_run.specs.Sources.{broken, clear}
+use Rattle.run_requests.specs.Requests.{IsFor}
+use Rattle.run_requests.specs.Words.{BreaksPlaced, MeansPlaced}
+use Rattle.run_requests.specs.declared.request.Request.TheVariants as requests
 use Rattle.just_run.proofs.Added.{for_task, questions_asked}
 use Rattle.just_run.proofs.driver.drive_analysis.Goals as goal
 
 pub returns-in-Task-clause-asks : goal.returns-in-Task-clause-asks
 returns-in-Task-clause-asks g c =
-    let is : IsFor c.args.action (requests.Task c.in-Task.task) = rw c.in-Task.is at c.in_ok-task.ensures in
+    let is : IsFor c.args.action (requests.Task c.in-Task.task) = rw c.in-Task.is at c.in_ok-request.ensures.is_for in
     for_task g.H.Host.goes c.args.host.now c.drive_task.new.host c.args.config.now.dry_run c.args.action c.in-Task.task is.2 c.drive_task.ensures.asks
 
 pub returns-in-Plan-clause-asks : goal.returns-in-Plan-clause-asks
 returns-in-Plan-clause-asks g c =
-    let is : IsFor c.args.action (requests.Plan c.in-Plan.calls) = rw c.in-Plan.is at c.in_ok-task.ensures in
+    let is : IsFor c.args.action (requests.Plan c.in-Plan.calls) = rw c.in-Plan.is at c.in_ok-request.ensures.is_for in
     rw is (questions_asked g.H.Host.goes g.met.H.Host.joins c.args.host.now c.drive_plan.new.host c.args.config.now.dry_run c.drive_plan.ensures.planned.entries c.drive_plan.ensures.planned.asked)
+
+pub returns-in_err-request-clause-words : goal.returns-in_err-request-clause-words
+returns-in_err-request-clause-words g c = λ same all.
+    let p = err_from_is_err_and c.from_residual.result c.from_residual.ensures.1 in
+    broken c.in_err-request.field-0.0 (p.1 ∙ ap Err p.2) (subst (λ words. BreaksPlaced c.args.compilation.now c.args.analysis.now words c.args.action c.in_err-request.field-0.0) c.as_slice-words.ensures (c.in_err-request.ensures.refused same all))
+
+pub returns-in-Task-clause-words : goal.returns-in-Task-clause-words
+returns-in-Task-clause-words g c = λ same all. clear (subst (λ words. MeansPlaced c.args.compilation.now c.args.analysis.now words c.args.action) c.as_slice-words.ensures (c.in_ok-request.ensures.meant same all))
+
+pub returns-in-Plan-clause-words : goal.returns-in-Plan-clause-words
+returns-in-Plan-clause-words g c = λ same all. clear (subst (λ words. MeansPlaced c.args.compilation.now c.args.analysis.now words c.args.action) c.as_slice-words.ensures (c.in_ok-request.ensures.meant same all))
+
+pub returns-in-Text-clause-words : goal.returns-in-Text-clause-words
+returns-in-Text-clause-words g c = λ same all. clear (subst (λ words. MeansPlaced c.args.compilation.now c.args.analysis.now words c.args.action) c.as_slice-words.ensures (c.in_ok-request.ensures.meant same all))

@@ -15,4 +15,4 @@ returns-clause-asks g c = λ kinds questions user work. line_asked kinds g.H.Hos
 
 pub returns-clause-performs : goal.returns-clause-performs
 returns-clause-performs g c = λ b h held marked.
-    hands_over g.H.Host.goes b c.args.site.now h c.args.progress.now.command _ c.in_ok-job.job c.line-status.result c.args.host.now c.line-status.new.self c.judge.result (ap (λ (command : Command). command.sigils) c.in_ok-job.ensures.command) (c.in_ok-job.ensures.is held marked) c.line-status.ensures.followed c.judge.ensures
+    hands_over g.H.Host.goes b c.args.site.now h c.args.progress.now.command _ c.in_ok-job.job c.line-status.result c.args.host.now c.line-status.new.self c.judge.result (ap (λ (command : Command). command.sigils) c.in_ok-job.ensures.command) (c.in_ok-job.ensures.is held marked) c.line-status.ensures.followed c.judge.ensures.next

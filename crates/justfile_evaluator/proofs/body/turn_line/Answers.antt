@@ -4,6 +4,7 @@ use Rattle.tree_items.specs.Lines.{pieces_of}
 use Rattle.meaning_bodies.proofs.Performing.{open_asked, open_worked}
 use Rattle.justfile_evaluator.specs.Turns.{is_left_out}
 use Rattle.justfile_evaluator.proofs.Lines.{passes, stops_at, opens, runs_to}
+use Rattle.justfile_evaluator.proofs.Silence.{evaluation_told}
 use Rattle.justfile_evaluator.proofs.body.turn_line.Goals as goal
 
 pub returns-then-is_left_out-clause-turns : goal.returns-then-is_left_out-clause-turns
@@ -28,3 +29,8 @@ returns-clause-turns g c = λ b h means held start lines goes_on.
     let read = c.in_ok-read_line.ensures.reads b h.settings.guards means goes_on.sound in
     runs_to b c.args.site.now h start c.args.host.now c.read_line.new.host c.run_line.new.host c.args.progress.now.command c.read_line.new.command c.run_line.new.progress.command (pieces_of c.args.line.now) lines c.run_line.result kept
     (open_asked g.H.Host.goes g.met.H.Host.nothing _ _ c.in_ok-read_line.ensures.asks) goes_on read (search rules) (open_worked g.H.Host.goes g.met.H.Host.nothing _ _ _ c.run_line.ensures.asks) c.run_line.ensures.command (c.run_line.ensures.performs b h held read.sound)
+
+pub returns-in_err-read_line-clause-said : goal.returns-in_err-read_line-clause-said
+returns-in_err-read_line-clause-said g c =
+    let p = err_from_is_err_and c.from_residual.result c.from_residual.ensures.1 in
+    rw p.1 (evaluation_told _ _ _ p.2)

@@ -1,11 +1,11 @@
 use Rattle.std.proofs.Common.{rules, ◌≡◌, false, refl, sym, ◌∙◌}
 use Rattle.std.proofs.lemmas.Result.{err_from_is_err_and}
 use Rattle.just_host.specs.KindsLaws.{script_asked}
-use Rattle.evaluate_context.specs.Refusals.{fault_of}
 use Rattle.meaning_bodies.proofs.Performing.{performs_memory}
 use Rattle.meaning_bodies.proofs.Scripts.{script_unnamed, script_given}
 use Rattle.justfile_evaluator.specs.Scripts.{handed_of}
 use Rattle.justfile_evaluator.proofs.Scripts.{job_by_name}
+use Rattle.justfile_evaluator.proofs.Silence.{evaluation_told}
 use Rattle.justfile_evaluator.proofs.script.hand_over.Goals as goal
 
 pub returns-in_err-words-clause-performs : goal.returns-in_err-words-clause-performs
@@ -29,4 +29,9 @@ returns-clause-performs g c = λ b is.
     let lines = c.args.lines.items in
     let same : c.as_slice.result.now ≡ lines = search rules in
     script_given b.configuration b.scene b.name b.recipe b.flag b.bound b.reading g.H.Host.goes false lines c.in_ok-words.words c.in_ok-job.job c.script-status.result c.args.host.now c.interpreter.new.host c.script-status.new.self _ refl
-    (rw same at (c.in_ok-words.ensures.evaluates b (rw same is))) (c.in_ok-job.ensures ∙ job_by_name b c.args.site.now c.in_ok-words.words lines is.site) c.script-status.ensures.followed (rw (← is.site.recipe.name) (sym c.end.ensures))
+    (rw same at (c.in_ok-words.ensures.evaluates b (rw same is))) (c.in_ok-job.ensures ∙ job_by_name b c.args.site.now c.in_ok-words.words lines is.site) c.script-status.ensures.followed (rw (← is.site.recipe.name) (sym c.end.ensures.ended))
+
+pub returns-in_err-words-clause-said : goal.returns-in_err-words-clause-said
+returns-in_err-words-clause-said g c =
+    let p = err_from_is_err_and c.from_residual.result c.from_residual.ensures.1 in
+    rw p.1 (evaluation_told _ _ _ p.2)

@@ -8,6 +8,7 @@ use Rattle.justfile_evaluator.specs.Bodies.{script_of}
 use Rattle.justfile_evaluator.specs.Ended.{ended}
 use Rattle.justfile_evaluator.specs.Scripts.{handed_of}
 use Rattle.justfile_evaluator.proofs.Scripts.{script_then}
+use Rattle.justfile_evaluator.proofs.Silence.{evaluation_told}
 use Rattle.justfile_evaluator.proofs.script.run_script.Goals as goal
 
 pub returns-in_err-lines-clause-performs : goal.returns-in_err-lines-clause-performs
@@ -49,3 +50,8 @@ returns-then-site-clause-asks g c = λ kinds questions user work start asked. c.
 pub returns-clause-asks : goal.returns-clause-asks
 returns-clause-asks g c = λ kinds questions user work start asked.
     c.hand_over.ensures.asks kinds questions user (λ e. work c.if-site.false) start (c.in_ok-show.ensures.asks kinds questions user work start (c.in_ok-lines.ensures.asks kinds questions start asked))
+
+pub returns-in_err-lines-clause-said : goal.returns-in_err-lines-clause-said
+returns-in_err-lines-clause-said g c =
+    let p = err_from_is_err_and c.from_residual.result c.from_residual.ensures.1 in
+    rw p.1 (evaluation_told _ _ _ p.2)

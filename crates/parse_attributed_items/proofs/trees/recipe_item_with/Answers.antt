@@ -8,7 +8,7 @@ pub returns-clause-numbers : goal.returns-clause-numbers
 returns-clause-numbers c = λ old new h. c.in_ok-recipe.ensures.numbers old new h
 
 pub returns-clause-own : goal.returns-clause-own
-returns-clause-own c = λ origin written whole arguments bare. c.in_ok-recipe.ensures.options origin written whole arguments bare
+returns-clause-own c = λ origin written whole arguments bare. (c.in_ok-recipe.ensures.options origin written whole arguments bare, c.in_ok-recipe.ensures.letters origin written whole arguments bare)
 
 pub returns-clause-cooked : goal.returns-clause-cooked
 returns-clause-cooked c = λ origin written whole bare cooked.

@@ -1,10 +1,10 @@
 -- What an action asks for.
 use Rattle.std.specs.Prelude.{◌≡◌, ◌≢◌}
-use Rattle.just_run.specs.declared.outcome.Action.{Action}
-use Rattle.just_run.specs.declared.outcome.Action.TheVariants as actions
-use Rattle.just_run.specs.declared.request.Request.{Request}
-use Rattle.just_run.specs.declared.request.Request.TheVariants as requests
-use Rattle.just_run.specs.declared.request.RootText.TheVariants as texts
+use Rattle.run_requests.specs.declared.action.Action.{Action}
+use Rattle.run_requests.specs.declared.action.Action.TheVariants as actions
+use Rattle.run_requests.specs.declared.request.Request.{Request}
+use Rattle.run_requests.specs.declared.request.Request.TheVariants as requests
+use Rattle.run_requests.specs.declared.request.RootText.TheVariants as texts
 use Rattle.run_tasks.specs.declared.task.Task.{Task}
 use Rattle.run_tasks.specs.declared.task.Task.TheVariants as tasks
 

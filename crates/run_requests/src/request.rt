@@ -1,24 +1,32 @@
 //! What the action and the words ask of a resolved justfile.
-ghost use Rattle.std.specs.Prelude.{◌≡◌, IfOk};
-ghost use Rattle.just_run.specs.Requests.{IsFor};
-ghost use Rattle.just_run.specs.declared.outcome.Action.TheVariants.{Command, Evaluate, Plan, Run};
-ghost use Rattle.just_run.specs.declared.request.Request.TheVariants as requests;
+ghost use Rattle.std.specs.Prelude.{◌≡◌, IfErr, IfOk, OnOk, map};
+ghost use Rattle.analyze_calls.specs.Calls.{row_of, rows};
+ghost use Rattle.analyze_words.specs.Broken.{IsRefusedBy};
+ghost use Rattle.justfile_analyzer.specs.Targets.{AreInOrder};
+ghost use Rattle.meaning_runs.specs.Invokes.{Invoke};
+ghost use Rattle.analyze_words.specs.Worded as worded;
+ghost use Rattle.just_meaning.specs.Actions.{ActionRule, BreaksCommand, BreaksText};
+ghost use Rattle.resolve_recipes.specs.Named.{AllByName};
+ghost use Rattle.run_requests.specs.Requests.{IsFor};
+ghost use Rattle.run_requests.specs.Words as spec;
+ghost use Rattle.run_requests.specs.declared.action.Action.TheVariants.{Command, Evaluate, Plan, Run};
+ghost use Rattle.run_requests.specs.declared.request.Request.TheVariants as requests;
 
-use crate::outcome::Action;
-use analyze_runs::Call;
+use crate::action::Action;
+use analyze_calls::Call;
 use analyze_words::{Invocation, InvocationParser, WordFault};
-use just_modules::{Compilation, ModuleNode};
-use just_resolve::{Analysis, ModuleLists, RecipeTable};
+use evaluate_context::Settings;
+use just_text::{Sequence, Text};
 use just_value::Value;
 use justfile_analyzer::{EvaluationTarget, evaluation_target, menus};
-use justfile_evaluator::Settings;
-use justfile_syntax::{Sequence, Text};
+use modules_compilation::{Compilation, ModuleNode};
+use resolve_analysis::{Analysis, ModuleLists, RecipeTable};
 use run_tasks::Task;
 use std::alloc::{AllocError, Global};
 
 /// A text of the root module.
 #[derive(Clone, Copy)]
-pub(crate) enum RootText {
+pub enum RootText {
     /// The list of recipes.
     List,
     /// The root file as it is formatted, to be written.
@@ -29,7 +37,7 @@ pub(crate) enum RootText {
 
 /// What is asked for.
 #[derive(Drop)]
-pub(crate) enum Request<'w> {
+pub enum Request<'w> {
     Task(Task<'w>),
     /// What a run of these calls would hand over.
     Plan(Vec<Call>),
@@ -37,7 +45,9 @@ pub(crate) enum Request<'w> {
 }
 
 /// The words of a group as a value.
-fn value(alloc: Global, words: Sequence<Text>) -> Result<Value, AllocError> {
+fn value(alloc: Global, words: Sequence<Text>) -> Result<Value, AllocError>
+    ensures { IfOk result (λ value. value ≡ words) }
+{
     let mut value = Value::new(alloc);
     for word in words.into_vec() {
         value.push(word.into_string())?;
@@ -45,7 +55,9 @@ fn value(alloc: Global, words: Sequence<Text>) -> Result<Value, AllocError> {
     Ok(value)
 }
 
-fn call(alloc: Global, invocation: Invocation) -> Result<Call, AllocError> {
+fn call(alloc: Global, invocation: Invocation) -> Result<Call, AllocError>
+    ensures { IfOk result (λ call. row_of call ≡ spec.called invocation) }
+{
     let Invocation { recipe, groups } = invocation;
     let mut values = Vec::new(alloc);
     for words in groups {
@@ -57,7 +69,9 @@ fn call(alloc: Global, invocation: Invocation) -> Result<Call, AllocError> {
     })
 }
 
-fn calls_of(alloc: Global, invocations: Vec<Invocation>) -> Result<Vec<Call>, AllocError> {
+fn calls_of(alloc: Global, invocations: Vec<Invocation>) -> Result<Vec<Call>, AllocError>
+    ensures { IfOk result (λ calls. rows calls.items ≡ map spec.called invocations.items) }
+{
     let mut calls = Vec::new(alloc);
     for invocation in invocations {
         calls.push(call(alloc, invocation)?)?;
@@ -72,7 +86,10 @@ fn invocations<'src>(
     table: &RecipeTable<'src>,
     settings: &[Settings],
     words: &[Text],
-) -> Result<Vec<Invocation>, WordFault> {
+) -> Result<Vec<Invocation>, WordFault>
+    ensures found { IfOk result (λ list. AllByName compilation.now → spec.ByMenus compilation.now table.now settings.now words.now (λ menu. Invoke menu words.now (map worded.row_of list.items))) }
+    ensures refused { IfErr result (λ fault. AllByName compilation.now → IsRefusedBy (spec.BreaksAt compilation.now table.now settings.now words.now) fault) }
+{
     let menus = menus(alloc, compilation, table, settings, words)?;
     InvocationParser::parse_invocations(alloc, &menus, words)
 }
@@ -83,7 +100,10 @@ fn called<'src>(
     compilation: &Compilation<'src>,
     analysis: &Analysis<'src, '_>,
     words: &[Text],
-) -> Result<Vec<Call>, WordFault> {
+) -> Result<Vec<Call>, WordFault>
+    ensures invoked { IfOk result (λ calls. AllByName compilation.now → spec.InvokesAt compilation.now analysis.now.table.value analysis.now.values.value.settings.items words.now (rows calls.items)) }
+    ensures refused { IfErr result (λ fault. AllByName compilation.now → IsRefusedBy (spec.BreaksAt compilation.now analysis.now.table.value analysis.now.values.value.settings.items words.now) fault) }
+{
     let settings = analysis.values.settings.as_slice();
     let invocations = invocations(alloc, compilation, &analysis.table, settings, words)?;
     Ok(calls_of(alloc, invocations)?)
@@ -115,7 +135,10 @@ fn target<'src>(
     modules: &[ModuleNode<'src>],
     lists: &[ModuleLists<'src, '_>],
     words: &[Text],
-) -> Result<EvaluationTarget, WordFault> {
+) -> Result<EvaluationTarget, WordFault>
+    ensures named { IfOk result (λ target. AreInOrder modules.now → spec.values_of modules.now lists.now words.now ≡ Some target) }
+    ensures refused { IfErr result (λ fault. AreInOrder modules.now → spec.IsRefusedFor (spec.BreaksValuesAt modules.now lists.now words.now) fault) }
+{
     let Some((word, others)) = words.split_first() else {
         return Ok(EvaluationTarget::Module(0));
     };
@@ -134,7 +157,9 @@ fn values_request<'w, 'src>(
     lists: &[ModuleLists<'src, '_>],
     words: &'w [Text],
 ) -> Result<Request<'w>, WordFault>
-    ensures { IfOk result (IsFor Evaluate) }
+    ensures is_for { IfOk result (IsFor Evaluate) }
+    ensures named { OnOk result (AreInOrder modules.now → spec.NamesValuesAt modules.now lists.now words.now) }
+    ensures refused { IfErr result (λ fault. AreInOrder modules.now → spec.IsRefusedFor (spec.BreaksValuesAt modules.now lists.now words.now) fault) }
 {
     let target = target(alloc, modules, lists, words)?;
     Ok(Request::Task(Task::Evaluate(target)))
@@ -142,7 +167,9 @@ fn values_request<'w, 'src>(
 
 /// The command that the words are.
 fn command_request<'w>(words: &'w [Text]) -> Result<Request<'w>, WordFault>
-    ensures { IfOk result (IsFor Command) }
+    ensures is_for { IfOk result (IsFor Command) }
+    ensures there { OnOk result ((rule : ActionRule) → BreaksCommand words.now rule → ⊥) }
+    ensures refused { IfErr result (spec.IsRefusedFor (BreaksCommand words.now)) }
 {
     if words.is_empty() {
         return Err(WordFault::MissingCommand);
@@ -156,7 +183,9 @@ fn text_request<'w>(
     text: RootText,
     words: &'w [Text],
 ) -> Result<Request<'w>, WordFault>
-    ensures { IfOk result (λ request. request ≡ requests.Text text) }
+    ensures is { IfOk result (λ request. request ≡ requests.Text text) }
+    ensures bare { OnOk result ((rule : ActionRule) → BreaksText words.now rule → ⊥) }
+    ensures refused { IfErr result (spec.IsRefusedFor (BreaksText words.now)) }
 {
     match words.first() {
         Some(word) => Err(WordFault::extra_word(alloc, word.as_str())),
@@ -166,14 +195,16 @@ fn text_request<'w>(
 
 /// What the action and the words ask of the justfile. Refused where the words are no words for it,
 /// and where memory runs out.
-pub(crate) fn request_of<'w, 'src>(
+pub fn request_of<'w, 'src>(
     alloc: Global,
     compilation: &Compilation<'src>,
     analysis: &Analysis<'src, '_>,
     action: Action,
     words: &'w [Text],
 ) -> Result<Request<'w>, WordFault>
-    ensures { IfOk result (IsFor action) }
+    ensures is_for { IfOk result (IsFor action) }
+    ensures meant { analysis.now.modules.now ≡ compilation.now.modules.items → AllByName compilation.now → OnOk result (spec.MeansPlaced compilation.now analysis.now words.now action) }
+    ensures refused { analysis.now.modules.now ≡ compilation.now.modules.items → AllByName compilation.now → IfErr result (spec.BreaksPlaced compilation.now analysis.now words.now action) }
 {
     match action {
         Action::Run => Ok(run_request(called(alloc, compilation, analysis, words)?)),

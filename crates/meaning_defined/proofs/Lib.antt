@@ -1,0 +1,2 @@
+mod Worded
+pub mod Defined

@@ -1,0 +1,85 @@
+-- Words by places, and by what is defined.
+use Rattle.std.proofs.Common.{◌≡◌, subst, refl, ℕ, List, [], ◌∷◌, Option, Some, None}
+use Rattle.analyze_calls.specs.Calls.{CallRow}
+use Rattle.analyze_words.specs.Broken.{IsRefusedBy}
+use Rattle.analyze_words.specs.Worded.{words_of}
+use Rattle.analyze_words.specs.declared.fault.WordFault.{WordFault}
+use Rattle.analyze_words.specs.declared.menu.Menus.{Menus}
+use Rattle.justfile_analyzer.specs.MenusOf.{AreMenusOf}
+use Rattle.justfile_analyzer.specs.Targets.{target_of}
+use Rattle.justfile_analyzer.specs.declared.target.EvaluationTarget.{EvaluationTarget}
+use Rattle.modules_compilation.specs.Modulepaths.{path_in}
+use Rattle.modules_compilation.specs.declared.compilation.Compilation.{Compilation}
+use Rattle.resolve_analysis.specs.declared.analysis.Analysis.{Analysis}
+use Rattle.meaning_runs.specs.Invokes.{BreaksWords}
+use Rattle.meaning_words.specs.Renamed.{InvokeAlike, IsRenamed}
+use Rattle.meaning_words.proofs.Renaming.{renamed_alike}
+use Rattle.meaning_calls.specs.Named.{Definitions}
+use Rattle.just_meaning.specs.Actions.{ActionRule, BreaksEvaluate, Target, of_module}
+use Rattle.just_meaning.specs.Actions.{target_of as target_named}
+use Rattle.just_meaning.specs.Actions as asked
+use Rattle.just_meaning.specs.Menus.{menu_of}
+use Rattle.meaning_menus.specs.Named.{name_at}
+use Rattle.meaning_menus.specs.Targets.{IsNamedTarget}
+use Rattle.run_requests.specs.Words.{BreaksAt, BreaksNamed, BreaksPlaced, BreaksValuesAt, InvokesAt, IsRefusedFor, MeansNamed, MeansPlaced, NamesValuesAt, extra, unknown}
+use Rattle.run_requests.specs.declared.action.Action.{Action}
+use Rattle.run_requests.specs.declared.action.Action.TheVariants.{Command, Dump, Evaluate, Format, List as ListAction, Plan, Run}
+
+module _ (compilation : Compilation) (analysis : Analysis) (defined : Definitions) (words : List (List ℕ))
+    (menus_named : (menus : Menus) → AreMenusOf compilation analysis.table.value analysis.values.value.settings.items words menus → IsRenamed (words_of menus) (menu_of defined) (path_in compilation.modules.items) (name_at compilation analysis.table.value) words)
+    (target_is : (word : List ℕ) → IsNamedTarget compilation analysis.variables.lists.items (target_of compilation.modules.items analysis.variables.lists.items word) (target_named defined (word ∷ []))) where
+  alike : (menus : Menus) → AreMenusOf compilation analysis.table.value analysis.values.value.settings.items words menus → InvokeAlike (words_of menus) (menu_of defined) (path_in compilation.modules.items) (name_at compilation analysis.table.value) words
+  alike menus are = renamed_alike (words_of menus) (menu_of defined) (path_in compilation.modules.items) (name_at compilation analysis.table.value) words (menus_named menus are)
+
+  -- rules of a run's words
+  breaks_run : (fault : WordFault) → IsRefusedBy (BreaksAt compilation analysis.table.value analysis.values.value.settings.items words) fault → IsRefusedBy (BreaksWords (menu_of defined) words) fault
+  breaks_run fault refused = λ rest.
+      let r = refused rest in
+      let by = r.1.1 in (r.0, (r.1.0, ((alike by.menus by.are).rules r.0).0 by.is))
+
+  -- a run's words
+  invoked : (calls : List CallRow) → InvokesAt compilation analysis.table.value analysis.values.value.settings.items words calls → MeansNamed defined words Run
+  invoked calls i = (_, (alike i.by_menus.menus i.by_menus.are).there i.rows i.by_menus.is)
+
+  -- of what names nothing
+  none_named : (target : Option Target) → IsNamedTarget compilation analysis.variables.lists.items None target → target ≡ None
+  none_named None is = refl
+  none_named (Some target) is = absurd is
+
+  some_named : (target : EvaluationTarget) (named : Option Target) → IsNamedTarget compilation analysis.variables.lists.items (Some target) named → (other : Target) × (named ≡ Some other)
+  some_named target None is = absurd (no_target target is)
+    where
+      no_target : (target : EvaluationTarget) → IsNamedTarget compilation analysis.variables.lists.items (Some target) None → ⊥
+      no_target target is = is
+  some_named target (Some other) is = (other, refl)
+
+  breaks_values : (texts : List (List ℕ)) (rule : ActionRule) → texts ≡ words → BreaksValuesAt compilation.modules.items analysis.variables.lists.items texts rule → BreaksEvaluate defined texts rule
+  breaks_values _ _ same (unknown {word} none) = asked.unknown (none_named (target_named defined (word ∷ [])) (subst (λ target. IsNamedTarget compilation analysis.variables.lists.items target (target_named defined (word ∷ []))) none (target_is word)))
+  breaks_values _ _ same extra = asked.extra
+
+  refused_values : (fault : WordFault) → IsRefusedFor (BreaksValuesAt compilation.modules.items analysis.variables.lists.items words) fault → IsRefusedFor (BreaksEvaluate defined words) fault
+  refused_values fault refused = λ rest.
+      let r = refused rest in (r.0, (r.1.0, breaks_values words r.0 refl r.1.1))
+
+  names_values : (texts : List (List ℕ)) → NamesValuesAt compilation.modules.items analysis.variables.lists.items texts → (target : Target) × (target_named defined texts ≡ Some target)
+  names_values [] named = (of_module [], refl)
+  names_values (word ∷ []) named = some_named named.0 (target_named defined (word ∷ [])) (subst (λ target. IsNamedTarget compilation analysis.variables.lists.items target (target_named defined (word ∷ []))) named.1 (target_is word))
+  names_values (word ∷ other ∷ texts) named = absurd (cc (named.1))
+
+  pub breaks_named : (action : Action) (fault : WordFault) → BreaksPlaced compilation analysis words action fault → BreaksNamed defined words action fault
+  breaks_named Run fault breaks = breaks_run fault breaks
+  breaks_named Plan fault breaks = breaks_run fault breaks
+  breaks_named Evaluate fault breaks = refused_values fault breaks
+  breaks_named Command fault breaks = breaks
+  breaks_named Dump fault breaks = breaks
+  breaks_named Format fault breaks = breaks
+  breaks_named ListAction fault breaks = breaks
+
+  pub means_named : (action : Action) → MeansPlaced compilation analysis words action → MeansNamed defined words action
+  means_named Run means = invoked means.0 means.1
+  means_named Plan means = invoked means.0 means.1
+  means_named Evaluate means = names_values words means
+  means_named Command means = means
+  means_named Dump means = means
+  means_named Format means = means
+  means_named ListAction means = means

@@ -1,0 +1,7 @@
+//! Analyses of justfiles, and what worlds define.
+ghost use Rattle.meaning_defined.specs.Defined.{AnalysesAreDefined};
+
+/// What is known of a resolved justfile by places is what its world defines by paths and names.
+pub fn analyses_are_defined()
+    ensures { AnalysesAreDefined }
+{}

@@ -1,0 +1,13 @@
+pub mod Lists
+pub mod Table
+pub mod Homes
+pub mod Apart
+pub mod Aliased
+pub mod Slots
+pub mod Paths
+pub mod Defaults
+pub mod Meanings
+pub mod Renaming
+pub mod Variables
+pub mod Trees
+pub mod Targets

@@ -1,0 +1,15 @@
+pub mod Submodules
+pub mod Leading
+pub mod Own
+pub mod Trees
+pub mod Settings
+pub mod Recipes
+pub mod Aliases
+pub mod Earliest
+pub mod Defaults
+pub mod Lists
+pub mod Items
+pub mod Listed
+pub mod Variables
+pub mod Overrides
+pub mod Functions

@@ -1,0 +1,4 @@
+pub mod Definitions
+pub mod Modules
+pub mod Kept
+pub mod Assigned

@@ -1,0 +1,9 @@
+pub mod Sets
+pub mod Ended
+pub mod Told
+pub mod Stand
+pub mod Rows
+pub mod Said
+pub mod OneSet
+pub mod Sorted
+pub mod Values
