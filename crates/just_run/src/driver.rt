@@ -344,7 +344,7 @@ fn drive_words<'src, E: Expander, H: RunHost + Drop, O: Out>(
     ensures plain { action ≡ Run → IsPlain (inputs_of (reader_of (E.expansion expander.now) config.now.version) sources.now roots.now words.now) → AnswersPlain H.goes (inputs_of (reader_of (E.expansion expander.now) config.now.version) sources.now roots.now words.now) (setup_of config.now) result host.old host.new }
     // Whatever is asked for: a fault that is none of a run or of the output names a rule that is broken; then nothing was asked, handed over or written.
     ensures early { IfErr result (λ fault. IsEarly fault host.old (O.written out.old) host.new (O.written out.new)) }
-    // Where all files are looked at, a rule of files, modules, definitions and names, and of the words, is told exactly where one is broken.
+    // Where all files are looked at, and a rule of files, modules, definitions, names or words is broken, one that is broken is told.
     ensures sources { LooksAtAll action (inputs_of (reader_of (E.expansion expander.now) config.now.version) sources.now roots.now words.now) → AnswersSources (given_of sources.now config.now.os config.now.unstable (E.expansion expander.now) config.now.version) (inputs_of (reader_of (E.expansion expander.now) config.now.version) sources.now roots.now words.now) (record { action = action; words = (inputs_of (reader_of (E.expansion expander.now) config.now.version) sources.now roots.now words.now).words; base = string_bytes config.now.base; working = string_bytes config.now.working_directory }) result }
     // Where the text of the root file or the list of recipes is asked for, nothing is asked and nothing handed over.
     ensures silent { IsText action → host.new ≡ host.old }
