@@ -4,7 +4,7 @@ use Rattle.std.specs.Prelude.{slice_get, is_some}
 use Rattle.std.specs.Option.{option_map}
 use Rattle.std.proofs.lemmas.List.{drop_all}
 use Rattle.just_host.specs.declared.entry.Entry.{Entry}
-use Rattle.just_value.specs.Frames.{BoundRow, Frames, Rebinds, look_up}
+use Rattle.just_value.specs.Frames.{BoundRow, ByNumber, Frames, Rebinds, look_up}
 use Rattle.evaluate_context.specs.declared.context.AssignmentRef.{AssignmentRef}
 use Rattle.evaluate_context.specs.declared.context.ExecutionContext.{ExecutionContext}
 use Rattle.meaning_dialogues.specs.Dialogue.{Evaluates}
@@ -18,14 +18,14 @@ module _ (context : ExecutionContext) (outer : List (List BoundRow)) (is_read : 
       → f ≡ None → Opens context outer is_read xs own old mid now f → Opens context outer is_read ys mid now last new g → Opens context outer is_read (xs ++ ys) own old last new g
   then_opens e all k = k
   then_opens e (skipped p m) k = skipped p (then_opens e m k)
-  then_opens e (opened v r f d b m) k = opened v r f d b (then_opens e m k)
+  then_opens e (opened v r f d b s m) k = opened v r f d b s (then_opens e m k)
   then_opens e (refused r f d) k = absurd (cc)
 
   pub then_refused : {xs : List Assigned} (ys : List Assigned) {own last : List BoundRow} {old new : List Entry} {f : Option Fault} {fault : Fault}
       → f ≡ Some fault → Opens context outer is_read xs own old last new f → Opens context outer is_read (xs ++ ys) own old last new f
   then_refused ys e all = absurd (cc)
   then_refused ys e (skipped p m) = skipped p (then_refused ys e m)
-  then_refused ys e (opened v r f d b m) = opened v r f d b (then_refused ys e m)
+  then_refused ys e (opened v r f d b s m) = opened v r f d b s (then_refused ys e m)
   then_refused ys e (refused r f d) = refused r f d
 
   -- whatever the rest leads to from here on, all leads to
@@ -55,8 +55,8 @@ module _ (context : ExecutionContext) (is_read : ℕ → Bool) (a : Assigned) (s
 
   pub opens_value : {old new : List Entry} {value : Value} {next : List BoundRow} → is_read a.number ≡ true → look_up s a.number ≡ None
       → Evaluates (opening_reading s) (assigned_dialogue (overridden context.overrides.now a.number) (opening_stage context s) a.value) old new (Ok value)
-      → Rebinds s.own (row_of context.module.now.settings.now.export a value) next → Opens context s.outer is_read (a ∷ []) s.own old next new None
-  opens_value {value = value} r f e b = opened value r f (e.goes (λ q. cc)) b all
+      → Rebinds s.own (row_of context.module.now.settings.now.export a value) next → ByNumber next → Opens context s.outer is_read (a ∷ []) s.own old next new None
+  opens_value {value = value} r f e b sorted = opened value r f (e.goes (λ q. cc)) b sorted all
 
   pub opens_fault : {old new : List Entry} {fault : Fault} → is_read a.number ≡ true → look_up s a.number ≡ None → fault ≢ memory
       → Evaluates (opening_reading s) (assigned_dialogue (overridden context.overrides.now a.number) (opening_stage context s) a.value) old new (Err fault)

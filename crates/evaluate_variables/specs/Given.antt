@@ -16,7 +16,7 @@ use Rattle.evaluate_context.specs.declared.context.ExecutionContext.{ExecutionCo
 use Rattle.evaluate_context.specs.declared.error.Error.{Error}
 use Rattle.evaluate_context.specs.declared.settings.Settings.{Settings}
 use Rattle.just_host.specs.declared.job.Pair.{Pair}
-use Rattle.just_value.specs.Frames.{BoundRow, Frames, bound_in, value_binding}
+use Rattle.just_value.specs.Frames.{BoundRow, ByNumber, Frames, bound_in, value_binding}
 use Rattle.evaluate_expressions.specs.Situations.{running_stage}
 use Rattle.meaning_dialogues.specs.Calls.{empty, reading_in_frames}
 use Rattle.meaning_dialogues.specs.Dialogue.{Dialogue, Evaluates, Reading}
@@ -78,6 +78,7 @@ BoundRecipe context is_dependency recipe counts groups here old new after (Err e
 abbrev pub IsRowOf : List Parameter → BoundRow → Type 0
 IsRowOf parameters row = (p : Parameter) × Contains parameters p × (row ≡ value_binding p.name p.number p.export row.value)
 
--- what a number is bound to in the frame is a binding of one of these parameters
-abbrev pub HasRowsOf : List Parameter → List BoundRow → Type 0
-HasRowsOf parameters own = (number : ℕ) → IfSome (bound_in own number) (IsRowOf parameters)
+-- what a number is bound to in the frame is a binding of one of these parameters, and the bindings lie by their numbers
+pub record HasRowsOf (parameters : List Parameter) (own : List BoundRow) : Type 0 where
+  pub at : (number : ℕ) → IfSome (bound_in own number) (IsRowOf parameters)
+  pub sorted : ByNumber own

@@ -7,7 +7,7 @@ ghost use Rattle.just_text.specs.Tokens.{lexeme};
 ghost use Rattle.tree_attribute_sets.specs.Sets.{items_of};
 ghost use Rattle.tree_items.specs.declared.recipe.Parameter as declared;
 ghost use Rattle.just_host.specs.Kinds.{AsksQuestions};
-ghost use Rattle.just_value.specs.Frames.{Rebinds, value_binding};
+ghost use Rattle.just_value.specs.Frames.{ByNumber, Rebinds, value_binding};
 ghost use Rattle.just_value.specs.Values.{joined};
 ghost use Rattle.evaluate_context.specs.Refusals.{fault_of, seen, seen_as};
 ghost use Rattle.evaluate_expressions.specs.Situations.{reading_at, stage_at};
@@ -321,6 +321,7 @@ fn bind_parameter<'src>(
     ensures around { scope.new.outer ≡ scope.old.outer }
     ensures words { OnOk result (map string_bytes positional.new.items ≡ map string_bytes positional.old.items ++ (if site.now.passes_words then positional_words (formal_of parameter.now) value else [])) }
     ensures bound { OnOk result (Rebinds scope.old.own (value_binding parameter.now.name parameter.now.number parameter.now.export (meaning.bound_value (lists_of site.now) value)) scope.new.own) }
+    ensures sorted { OnOk result (ByNumber scope.new.own) }
 {
     push_words(alloc, positional, site.passes_words, parameter, &value)?;
     let lists = site.context.module.settings.lists;

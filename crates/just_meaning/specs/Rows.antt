@@ -105,6 +105,11 @@ is_true (Some (truth value)) = value
 is_true (Some other) = false
 is_true None = false
 
+-- a path without a parent has the empty text in its place
+abbrev pub text_or_empty : Option (List ℕ) → List ℕ
+text_or_empty (Some text) = text
+text_or_empty None = []
+
 module _ (settle : Shape → Value) where
   abbrev pub settled_value : Option ValueShape → Value
   settled_value (Some (expression e)) = settle e
@@ -132,12 +137,8 @@ module _ (settle : Shape → Value) where
   value_set sets name = settled_value (setting_named name sets)
 
   -- the folder of a module, as it is asked for and run in: the root's is where the program works, another's that of its file
-  abbrev pub or_base : List ℕ → Option (List ℕ) → List ℕ
-  or_base base None = base
-  or_base base (Some folder) = folder
-
   abbrev pub folder_in : List ℕ → List ℕ → Bool → List ℕ → List SetShape → List ℕ
-  folder_in base working is_root source sets = folder_below (cond is_root working (or_base base (parent (join base source)))) (settled_text (setting_named (codes "working-directory") sets))
+  folder_in base working is_root source sets = folder_below (cond is_root working (text_or_empty (parent (join base source)))) (settled_text (setting_named (codes "working-directory") sets))
 
   -- files of variables are asked for by `dotenv-load`, `-override` or `-required`, or by a filename, a path or a command
   abbrev pub is_any : Value → Bool

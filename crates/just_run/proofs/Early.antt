@@ -7,14 +7,40 @@ use Rattle.run_plain.specs.Setup.{Setup}
 use Rattle.run_plain.specs.Drives.{verdict, NamesBroken}
 use Rattle.run_plain.specs.declared.fault.Fault as plain_fault
 use Rattle.run_plain.specs.declared.outcome.Outcome as plain_outcome
-use Rattle.just_run.specs.Early.{IsEarly, IsLate}
+use Rattle.just_run.specs.Early.{IsEarly, IsLate, IsOfNoRule}
 use Rattle.just_run.specs.Plain.{AnswersPlain, answer_of, fault_of}
 use Rattle.just_run.specs.Plans.{IsKeptBy, IsOfRun, IsPlanned, IsWrittenPlan, Plans, breaks_rule}
 use Rattle.just_run.specs.Writes.{IsKept}
 use Rattle.just_run.specs.declared.fault.Fault.{Fault}
+use Rattle.just_run.specs.declared.fault.Fault.TheVariants as faults
 use Rattle.run_requests.specs.declared.action.Action.TheVariants.{Plan}
 use Rattle.just_run.specs.declared.outcome.Outcome.{Outcome}
 use Rattle.just_run.proofs.Planned.{failed_is_of_run, refused_asks_nothing}
+
+-- a fault that comes once no rule is broken is of none
+of_run : (fault : Fault) → IsOfRun fault → IsOfNoRule fault
+of_run (faults.NoRootForWord word) h = absurd h
+of_run (faults.Plain fault) h = h
+of_run (faults.Justfile error) h = absurd h
+of_run (faults.Words fault) h = absurd h
+of_run (faults.NotPrintable path) h = absurd h
+of_run faults.Write h = absurd h
+of_run faults.OutOfMemory h = tt
+of_run (faults.Dotenv fault) h = tt
+of_run (faults.Opening error) h = tt
+of_run (faults.Evaluation error) h = tt
+of_run (faults.Code recipe code silent) h = tt
+of_run (faults.Signal recipe signal silent) h = tt
+of_run (faults.CouldNotStart recipe) h = tt
+of_run (faults.NotConfirmed recipe) h = tt
+of_run (faults.Command fault) h = tt
+
+late_unruled : (fault : Fault) → IsLate fault → IsOfNoRule fault
+late_unruled fault late = elim late [ inl e ↦ subst IsOfNoRule (sym e) tt | inr run ↦ of_run fault run ]
+
+pub late_are_unruled : (result : Result Outcome Fault) → IfErr result IsLate → IfErr result IsOfNoRule
+late_are_unruled (Ok outcome) h = tt
+late_are_unruled (Err fault) h = late_unruled fault h
 
 -- what asked nothing and kept what was written
 pub kept_is_early : {H : Type 0} (old : Record H) (before : List ℕ) (result : Result Outcome Fault) (behind : List ℕ)
@@ -33,6 +59,11 @@ pub planned_is_early : {H : Type 0} (goes : H → List Entry → H → Type 0) (
     → IsPlanned goes old before result new behind → IfErr result (λ fault. IsEarly fault old before new behind)
 planned_is_early goes old before (Ok outcome) new behind h = tt
 planned_is_early goes old before (Err fault) new behind h = inl (written_is_late before _ fault behind h.written)
+
+pub planned_is_unruled : {H : Type 0} (goes : H → List Entry → H → Type 0) (old : Record H) (before : List ℕ) (result : Result Outcome Fault) (new : Record H) (behind : List ℕ)
+    → IsPlanned goes old before result new behind → IfErr result IsOfNoRule
+planned_is_unruled goes old before (Ok outcome) new behind h = tt
+planned_is_unruled goes old before (Err fault) new behind h = late_unruled fault (written_is_late before _ fault behind h.written)
 
 -- a plan that is refused before it began
 pub plans_is_early : {H : Type 0} (goes : H → List Entry → H → Type 0) (old : Record H) (before : List ℕ) (result : Result Outcome Fault) (new : Record H) (behind : List ℕ)

@@ -4,6 +4,7 @@ mod Driven
 mod Early
 mod Failed
 mod Planned
+mod Ran
 mod Roots
 mod Sources
 mod Told

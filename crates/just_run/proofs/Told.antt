@@ -15,7 +15,7 @@ module _ (compilation : Compilation) (analysis : Analysis) (asked : Asked) (resu
 
   told_words : (d : Defined) → TellsPlaced compilation analysis asked.words.arguments asked.action result → TellsWords asked d.defined result
   told_words d (broken fault is breaks) = broken fault is (d.breaks asked.action fault breaks)
-  told_words d (clear means) = clear (d.means asked.action means)
+  told_words d (clear means other) = clear (d.means asked.action means) other
 
   -- where the justfile's analysis has what is defined in the world
   pub told_defined : Defined → TellsPlaced compilation analysis asked.words.arguments asked.action result → TellsDefined asked result w

@@ -31,7 +31,7 @@ pub record Drives {H : Type 0} (goes : H → List Entry → H → Type 0) (input
   pub plain : action ≡ actions.Run → IsPlain inputs → AnswersPlain goes inputs setup result old.host new.host
   -- a fault that is none of a run or of the output names a rule that is broken; then nothing was asked, handed over or written
   pub early : IfErr result (λ fault. IsEarly fault old.host old.written new.host new.written)
-  -- where all files are looked at, and a rule of files, modules, definitions, names or words is broken, one that is broken is told
+  -- where all files are looked at, the call is refused by a rule of files, modules, definitions, names or words exactly where one is broken
   pub sources : LooksAtAll action inputs → AnswersSources given inputs (record { action = action; words = inputs.words; base = base; working = setup.folder }) result
   -- where the text of the root file or the list of recipes is asked for, nothing is asked and nothing handed over
   pub silent : IsText action → new.host ≡ old.host

@@ -5,6 +5,7 @@ pub mod Kinds
 pub mod Passed
 pub mod Plain
 pub mod Plans
+pub mod Ran
 pub mod Sources
 pub mod Statuses
 pub mod Texts

@@ -1,5 +1,5 @@
 -- What a call tells of the root file, of the files, modules, definitions and names that it leads to, and of the words.
-use Rattle.std.specs.Prelude.{◌≡◌, ◌⊎◌, ℕ, List, Some, Result, Err}
+use Rattle.std.specs.Prelude.{◌≡◌, ◌⊎◌, ℕ, IfErr, List, Some, Result, Err}
 use Rattle.std.specs.String.{string_bytes}
 use Rattle.just_host.specs.declared.config.Config.{Config}
 use Rattle.just_value.specs.declared.positional.Positional.{Positional}
@@ -21,6 +21,7 @@ use Rattle.just_modules.specs.Worlds.{BreaksNone, BreaksTold}
 use Rattle.meaning_overriding.specs.Texts.{overrides_of}
 use Rattle.just_resolve.specs.Rules as names
 use Rattle.just_resolve.specs.declared.error.Error.{Error as NameError}
+use Rattle.just_run.specs.Early.{IsOfNoRule}
 use Rattle.just_run.specs.Passed.{file_fault, name_fault, word_fault}
 use Rattle.just_run.specs.Plain.{fault_of}
 use Rattle.just_run.specs.declared.fault.Fault.{Fault}
@@ -42,10 +43,10 @@ pub record Asked : Type 0 where
 abbrev pub asked_of : Action → Positional → Config → Asked
 asked_of action words config = record { action = action; words = words; base = string_bytes config.base; working = string_bytes config.working_directory }
 
--- the words break a rule of what is asked for that the fault names, unless memory ran out; or they break none
+-- the words break a rule of what is asked for that the fault names, unless memory ran out; or they break none, and a fault is of no rule
 pub data TellsWords (asked : Asked) (defined : Definitions) (result : Result Outcome Fault) : Type 0 where
   broken : (fault : WordFault) → result ≡ Err (word_fault fault) → BreaksNamed defined asked.words.arguments asked.action fault → TellsWords asked defined result
-  clear : MeansNamed defined asked.words.arguments asked.action → TellsWords asked defined result
+  clear : MeansNamed defined asked.words.arguments asked.action → IfErr result IsOfNoRule → TellsWords asked defined result
 
 -- so it is by what the world defines
 pub record TellsDefined (asked : Asked) (result : Result Outcome Fault) (w : World) : Type 0 where
@@ -70,7 +71,7 @@ pub data AnswersSources (given : Text → Given) (i : Inputs) (asked : Asked) (r
 
 -- ---- by places
 
--- the words break a rule of what is asked for that the fault names, unless memory ran out; or they break none
+-- the words break a rule of what is asked for that the fault names, unless memory ran out; or they break none, and a fault is of no rule
 pub data TellsPlaced (compilation : Compilation) (analysis : Analysis) (words : List (List ℕ)) (action : Action) (result : Result Outcome Fault) : Type 0 where
   broken : (fault : WordFault) → result ≡ Err (word_fault fault) → BreaksPlaced compilation analysis words action fault → TellsPlaced compilation analysis words action result
-  clear : MeansPlaced compilation analysis words action → TellsPlaced compilation analysis words action result
+  clear : MeansPlaced compilation analysis words action → IfErr result IsOfNoRule → TellsPlaced compilation analysis words action result

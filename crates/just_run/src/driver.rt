@@ -27,6 +27,11 @@ ghost use Rattle.just_host.specs.Kinds.{Only};
 ghost use Rattle.just_host.specs.declared.entry.Entry.{Entry};
 ghost use Rattle.just_run.specs.Kinds.{AsksFor, MayAdd};
 ghost use Rattle.run_tasks.specs.Kinds as tasks;
+ghost use Rattle.run_tasks.specs.declared.task.Task.TheVariants as tasks_of;
+ghost use Rattle.run_prepared.specs.Runs.{RunsCalls};
+ghost use Rattle.just_run.specs.Ran.{EndsRun, RunsInvoked};
+ghost use Rattle.analyze_calls.specs.declared.call.Call.{Call};
+ghost use Rattle.std.specs.Global.{Vec};
 
 use crate::fault::Fault;
 use crate::outcome::Outcome;
@@ -61,6 +66,8 @@ fn drive_task<'src, H: RunHost + Drop, O: Out>(
     ensures unfailed { WriteFails (O.failed out.old) result (O.failed out.new) }
     ensures late { IfErr result IsLate }
     ensures asks { tasks.AsksFor task.entry config.now.dry_run H.goes host.old host.new }
+    // Where calls run, it is answered how their run over what is known of the justfile ended.
+    ensures runs { (calls : Vec Call) → task.entry ≡ tasks_of.Run calls → EndsRun host.new.exhausted result (RunsCalls compilation.now analysis.now config.now root.now calls host.old.entries host.new.entries) }
 {
     let performed = perform_task(alloc, compilation, analysis, config, root, host, task)?;
     write_performed(performed, out)
@@ -85,6 +92,8 @@ fn drive_analysis<'src, H: RunHost + Drop, O: Out>(
     ensures silent { IsText action → host.new ≡ host.old }
     ensures asks { AsksFor action config.now.dry_run H.goes host.old host.new }
     ensures words { analysis.now.modules.now ≡ compilation.now.modules.items → AllByName compilation.now → TellsPlaced compilation.now analysis.now words.now.arguments action result }
+    // A run is one of the calls that the words invoke.
+    ensures runs { action ≡ Run → analysis.now.modules.now ≡ compilation.now.modules.items → AllByName compilation.now → RunsInvoked compilation.now analysis.now config.now root.now words.now.arguments host.old.entries host.new.entries host.new.exhausted result }
 {
     let words = words.arguments.as_slice();
     let request = request_of(alloc, compilation, analysis, action, words)?;
@@ -344,7 +353,7 @@ fn drive_words<'src, E: Expander, H: RunHost + Drop, O: Out>(
     ensures plain { action ≡ Run → IsPlain (inputs_of (reader_of (E.expansion expander.now) config.now.version) sources.now roots.now words.now) → AnswersPlain H.goes (inputs_of (reader_of (E.expansion expander.now) config.now.version) sources.now roots.now words.now) (setup_of config.now) result host.old host.new }
     // Whatever is asked for: a fault that is none of a run or of the output names a rule that is broken; then nothing was asked, handed over or written.
     ensures early { IfErr result (λ fault. IsEarly fault host.old (O.written out.old) host.new (O.written out.new)) }
-    // Where all files are looked at, and a rule of files, modules, definitions, names or words is broken, one that is broken is told.
+    // Where all files are looked at, the call is refused by a rule of files, modules, definitions, names or words exactly where one is broken.
     ensures sources { LooksAtAll action (inputs_of (reader_of (E.expansion expander.now) config.now.version) sources.now roots.now words.now) → AnswersSources (given_of sources.now config.now.os config.now.unstable (E.expansion expander.now) config.now.version) (inputs_of (reader_of (E.expansion expander.now) config.now.version) sources.now roots.now words.now) (record { action = action; words = (inputs_of (reader_of (E.expansion expander.now) config.now.version) sources.now roots.now words.now).words; base = string_bytes config.now.base; working = string_bytes config.now.working_directory }) result }
     // Where the text of the root file or the list of recipes is asked for, nothing is asked and nothing handed over.
     ensures silent { IsText action → host.new ≡ host.old }

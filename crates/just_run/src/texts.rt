@@ -1,14 +1,15 @@
 //! Texts that are written or answered.
-ghost use Rattle.std.specs.Prelude.{◌≡◌, ◌++◌, ◌+◌, ◌<◌, ◌^◌, IfErr, IfOk, OnErr, OnOk, slice_get};
+ghost use Rattle.std.specs.Prelude.{◌≡◌, ◌++◌, ◌+◌, ◌<◌, ◌^◌, IfErr, IfOk, Ok, OnErr, OnOk, slice_get};
 ghost use Rattle.std.specs.String.{string_bytes};
 ghost use Rattle.just_host.specs.Out.{IsPartOf};
 ghost use Rattle.justfile_analyzer.specs.Justfiles.{place_of};
 ghost use Rattle.justfile_analyzer.specs.Listings.{listing};
-ghost use Rattle.just_run.specs.Early.{IsLate};
+ghost use Rattle.just_run.specs.Early.{IsLate, IsOfNoRule};
 ghost use Rattle.just_run.specs.Texts.{IsFormatted, IsReadAgain, answered_text, dumped_text, file_place, formatted_text, performed_outcome, performed_text, printed_text, root_file};
 ghost use Rattle.just_run.specs.Writes.{IsKept, IsNoWrite, WriteFails, Writes};
 ghost use Rattle.just_run.specs.declared.outcome.Outcome.TheVariants as outcomes;
 ghost use Rattle.run_requests.specs.declared.request.RootText.TheVariants as texts;
+ghost use Rattle.run_tasks.specs.declared.task.Performed.TheVariants as tasks;
 
 use crate::fault::Fault;
 use crate::outcome::Outcome;
@@ -62,6 +63,7 @@ fn printed(alloc: Global, ast: &Ast, os: Os) -> Result<Option<Text>, AllocError>
 fn format<'src>(alloc: Global, path: &str, text: Option<Text>) -> Result<Outcome, Fault<'src>>
     ensures formatted { IsFormatted path.now text result }
     ensures no_write { IfErr result IsNoWrite }
+    ensures unruled { IfErr result IsOfNoRule }
 {
     let path = Text::from_text(alloc, path)?;
     match text {
@@ -77,6 +79,7 @@ pub(crate) fn write_performed<'src, O: Out>(
 ) -> Result<Outcome, Fault<'src>>
     ensures kept { IfErr result (λ fault. IsKept (O.written out.old) fault (O.written out.new)) }
     ensures late { IfErr result IsLate }
+    ensures ran { performed ≡ tasks.Ran → result ≡ Ok outcomes.Ran }
     ensures wrote { Writes (record { written = O.written out.old; failed = O.failed out.old }) (performed_text performed) (performed_outcome performed) result (record { written = O.written out.new; failed = O.failed out.new }) }
     ensures unfailed { WriteFails (O.failed out.old) result (O.failed out.new) }
 {
@@ -158,6 +161,7 @@ fn write_told<'src, O: Out>(
     ensures kept { IfErr result (λ fault. IsKept (O.written out.old) fault (O.written out.new)) }
     ensures wrote { Writes (record { written = O.written out.old; failed = O.failed out.old }) (string_bytes text) outcome result (record { written = O.written out.new; failed = O.failed out.new }) }
     ensures unfailed { WriteFails (O.failed out.old) result (O.failed out.new) }
+    ensures unruled { IfErr result IsOfNoRule }
 {
     write_text(out, text.as_str())?;
     Ok(outcome)
@@ -172,6 +176,7 @@ fn list<'src, O: Out>(
     ensures kept { IfErr result (λ fault. IsKept (O.written out.old) fault (O.written out.new)) }
     ensures wrote { Writes (record { written = O.written out.old; failed = O.failed out.old }) (listing compilation.now 0) outcomes.Listed result (record { written = O.written out.new; failed = O.failed out.new }) }
     ensures unfailed { WriteFails (O.failed out.old) result (O.failed out.new) }
+    ensures unruled { IfErr result IsOfNoRule }
 {
     let text = root_listing(alloc, compilation)?;
     write_told(out, text, Outcome::Listed)
@@ -187,6 +192,7 @@ fn dump<'src, O: Out>(
     ensures kept { IfErr result (λ fault. IsKept (O.written out.old) fault (O.written out.new)) }
     ensures wrote { Writes (record { written = O.written out.old; failed = O.failed out.old }) (dumped_text os (root_file compilation.now)) outcomes.Dumped result (record { written = O.written out.new; failed = O.failed out.new }) }
     ensures unfailed { WriteFails (O.failed out.old) result (O.failed out.new) }
+    ensures unruled { IfErr result IsOfNoRule }
 {
     let text = root_text(alloc, compilation, os)?;
     write_told(out, text, Outcome::Dumped)
@@ -202,6 +208,7 @@ fn answer<'src>(
     ensures formatted { IsFormatted path.now (answered_text os (root_file compilation.now)) result }
     ensures again { IsReadAgain (root_file compilation.now) result }
     ensures no_write { IfErr result IsNoWrite }
+    ensures unruled { IfErr result IsOfNoRule }
 {
     formatted_texts_say_the_same();
     let text = root_printed(alloc, compilation, os)?;
@@ -224,6 +231,7 @@ pub(crate) fn tell<'src, O: Out>(
     ensures unwritten { text ≡ texts.Format → O.written out.new ≡ O.written out.old }
     ensures again { text ≡ texts.Format → IsReadAgain (root_file compilation.now) result }
     ensures unfailed { WriteFails (O.failed out.old) result (O.failed out.new) }
+    ensures unruled { IfErr result IsOfNoRule }
 {
     match text {
         RootText::List => list(alloc, compilation, out),

@@ -45,6 +45,7 @@ impl<'src> Frame<'src> {
     /// nothing and gives the binding back.
     pub(crate) fn bind(&mut self, binding: Bound<'src>) -> Result<(), AllocFailed<Bound<'src>>>
         ensures bound { OnOk result (Rebinds self.old (bound_of binding.entry) self.new) }
+        ensures sorted { ByNumber self.new }
         ensures refused { IfErr result (λ e. (self.new ≡ self.old) × (bound_of e.value ≡ bound_of binding.entry)) }
     {
         let mut steps = Steps { taken: 0 };

@@ -34,7 +34,8 @@ impl<'outer, 'src> Model for Scope<'outer, 'src> {
 impl<'outer, 'src> Scope<'outer, 'src> {
     /// The constants, numbered in their order.
     pub fn root(alloc: Global) -> Result<Scope<'outer, 'src>, AllocError>
-        ensures { IfOk result (λ s. BindsRows constant_rows s.own × (s.outer ≡ [])) }
+        ensures bound { IfOk result (λ s. BindsRows constant_rows s.own × (s.outer ≡ [])) }
+        ensures sorted { IfOk result (λ s. ByNumber s.own) }
     {
         let numerator = Numerator::new(CONSTANT_COUNT);
         let mut own = Frame::new(alloc);
@@ -69,6 +70,7 @@ impl<'outer, 'src> Scope<'outer, 'src> {
     /// refused growth changes nothing and gives the binding back.
     pub fn bind(&mut self, binding: Bound<'src>) -> Result<(), AllocFailed<Bound<'src>>>
         ensures bound { OnOk result (Rebinds self.old.own (bound_of binding.entry) self.new.own × (self.new.outer ≡ self.old.outer)) }
+        ensures sorted { ByNumber self.new.own }
         ensures refused { IfErr result (λ e. (self.new ≡ self.old) × (bound_of e.value ≡ bound_of binding.entry)) }
     {
         self.own.bind(binding)
@@ -85,6 +87,7 @@ impl<'outer, 'src> Scope<'outer, 'src> {
         value: Value,
     ) -> Result<(), AllocError>
         ensures bound { OnOk result (Rebinds self.old.own (value_binding name.entry number export value) self.new.own × (self.new.outer ≡ self.old.outer)) }
+        ensures sorted { ByNumber self.new.own }
         ensures refused { IfErr result (λ _. self.new ≡ self.old) }
     {
         let binding = Bound {

@@ -47,7 +47,7 @@ use Rattle.modules_compilation.specs.Modulepaths.{path_in}
 use Rattle.modules_compilation.specs.declared.module_node.ModuleNode.{ModuleNode}
 use Rattle.resolve_analysis.specs.Lists.{kept_by, kept_in}
 use Rattle.meaning_defined.specs.Defined.{AnalysesAreDefined}
-use Rattle.meaning_defined.proofs.Worded.{breaks_named, means_named}
+use Rattle.meaning_defined.proofs.Worded.{breaks_named, invokes_named, means_named}
 
 -- an element of as many others stands at a place where one stands
 there_too : {X Y : Type 0} (xs : List X) (ys : List Y) (k : ℕ) (x : X) → length ys ≡ length xs → slice_get xs k ≡ Some x → (y : Y) × (slice_get ys k ≡ Some y)
@@ -134,4 +134,5 @@ analyses_are_defined w compilation is given base analysis known working words = 
   are = are_defined w compilation is given base analysis known working;
   breaks = breaks_named compilation analysis (defined w compilation is given base analysis known working) words (menus_are w compilation is given base analysis known working words) (target_is w compilation is given base analysis known working);
   means = means_named compilation analysis (defined w compilation is given base analysis known working) words (menus_are w compilation is given base analysis known working words) (target_is w compilation is given base analysis known working);
+  invokes = invokes_named compilation analysis (defined w compilation is given base analysis known working) words (menus_are w compilation is given base analysis known working words) (target_is w compilation is given base analysis known working);
 }

@@ -1,5 +1,5 @@
 -- Words by places, and by what is defined.
-use Rattle.std.proofs.Common.{◌≡◌, subst, refl, ℕ, List, [], ◌∷◌, Option, Some, None}
+use Rattle.std.proofs.Common.{◌≡◌, ◌∙◌, ap, map, subst, sym, refl, ℕ, List, [], ◌∷◌, Option, Some, None}
 use Rattle.analyze_calls.specs.Calls.{CallRow}
 use Rattle.analyze_words.specs.Broken.{IsRefusedBy}
 use Rattle.analyze_words.specs.Worded.{words_of}
@@ -11,7 +11,7 @@ use Rattle.justfile_analyzer.specs.declared.target.EvaluationTarget.{EvaluationT
 use Rattle.modules_compilation.specs.Modulepaths.{path_in}
 use Rattle.modules_compilation.specs.declared.compilation.Compilation.{Compilation}
 use Rattle.resolve_analysis.specs.declared.analysis.Analysis.{Analysis}
-use Rattle.meaning_runs.specs.Invokes.{BreaksWords}
+use Rattle.meaning_runs.specs.Invokes.{BreaksWords, Invoke}
 use Rattle.meaning_words.specs.Renamed.{InvokeAlike, IsRenamed}
 use Rattle.meaning_words.proofs.Renaming.{renamed_alike}
 use Rattle.meaning_calls.specs.Named.{Definitions}
@@ -21,7 +21,8 @@ use Rattle.just_meaning.specs.Actions as asked
 use Rattle.just_meaning.specs.Menus.{menu_of}
 use Rattle.meaning_menus.specs.Named.{name_at}
 use Rattle.meaning_menus.specs.Targets.{IsNamedTarget}
-use Rattle.run_requests.specs.Words.{BreaksAt, BreaksNamed, BreaksPlaced, BreaksValuesAt, InvokesAt, IsRefusedFor, MeansNamed, MeansPlaced, NamesValuesAt, extra, unknown}
+use Rattle.run_requests.specs.Words.{BreaksAt, BreaksNamed, BreaksPlaced, BreaksValuesAt, InvokesAt, IsRefusedFor, MeansNamed, MeansPlaced, NamesValuesAt, call_of, extra, unknown}
+use Rattle.meaning_defined.specs.Defined.{named_call}
 use Rattle.run_requests.specs.declared.action.Action.{Action}
 use Rattle.run_requests.specs.declared.action.Action.TheVariants.{Command, Dump, Evaluate, Format, List as ListAction, Plan, Run}
 
@@ -37,9 +38,19 @@ module _ (compilation : Compilation) (analysis : Analysis) (defined : Definition
       let r = refused rest in
       let by = r.1.1 in (r.0, (r.1.0, ((alike by.menus by.are).rules r.0).0 by.is))
 
+  -- calls by their names are rows by theirs
+  named_rows : (rows : List (ℕ × List (List (List ℕ)))) → map (λ (i : ℕ × List (List (List ℕ))). (name_at compilation analysis.table.value i.0, i.1)) rows ≡ map (named_call compilation analysis) (map call_of rows)
+  named_rows [] = refl
+  named_rows (row ∷ rows) = ap (λ more. named_call compilation analysis (call_of row) ∷ more) (named_rows rows)
+
+  -- the calls of a run's words
+  pub invokes_named : (calls : List CallRow) → InvokesAt compilation analysis.table.value analysis.values.value.settings.items words calls → Invoke (menu_of defined) words (map (named_call compilation analysis) calls)
+  invokes_named calls i =
+      subst (Invoke (menu_of defined) words) (named_rows i.rows ∙ ap (map (named_call compilation analysis)) (sym i.are)) ((alike i.by_menus.menus i.by_menus.are).there i.rows i.by_menus.is)
+
   -- a run's words
   invoked : (calls : List CallRow) → InvokesAt compilation analysis.table.value analysis.values.value.settings.items words calls → MeansNamed defined words Run
-  invoked calls i = (_, (alike i.by_menus.menus i.by_menus.are).there i.rows i.by_menus.is)
+  invoked calls i = (_, invokes_named calls i)
 
   -- of what names nothing
   none_named : (target : Option Target) → IsNamedTarget compilation analysis.variables.lists.items None target → target ≡ None

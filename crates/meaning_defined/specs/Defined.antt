@@ -1,5 +1,6 @@
 -- What is known of a resolved justfile by places is what its world defines by paths and names.
-use Rattle.std.specs.Prelude.{List}
+use Rattle.std.specs.Prelude.{ℕ, List, map}
+use Rattle.analyze_calls.specs.Calls.{CallRow}
 use Rattle.analyze_words.specs.declared.fault.WordFault.{WordFault}
 use Rattle.just_value.specs.declared.positional.Override.{Override}
 use Rattle.modules_compilation.specs.declared.compilation.Compilation.{Compilation}
@@ -8,17 +9,25 @@ use Rattle.just_resolve.specs.Analysis.{IsAnalysis}
 use Rattle.just_resolve.specs.Rules.{IsResolvable}
 use Rattle.meaning_worlds.specs.Given.{Overrides, Text, World}
 use Rattle.meaning_overriding.specs.Texts.{overrides_of}
-use Rattle.meaning_calls.specs.Named.{Definitions}
+use Rattle.meaning_runs.specs.Invokes.{Invoke}
+use Rattle.meaning_calls.specs.Named.{Definitions, RecipeName}
 use Rattle.just_meaning.specs.Defining.{AreDefined}
-use Rattle.run_requests.specs.Words.{BreaksNamed, BreaksPlaced, MeansNamed, MeansPlaced}
+use Rattle.just_meaning.specs.Menus.{menu_of}
+use Rattle.meaning_menus.specs.Named.{name_at}
+use Rattle.run_requests.specs.Words.{BreaksNamed, BreaksPlaced, InvokesAt, MeansNamed, MeansPlaced}
 use Rattle.run_requests.specs.declared.action.Action.{Action}
 
--- there is what the world defines, by which words mean what they mean by places
+-- a call by the path and the name of its recipe
+abbrev pub named_call : Compilation → Analysis → CallRow → RecipeName × List (List (List ℕ))
+named_call compilation analysis call = (name_at compilation analysis.table.value call.recipe, call.groups)
+
+-- there is what the world defines, by which words mean what they mean by places, and invoke the same calls
 pub record IsDefinedBy (w : World) (compilation : Compilation) (o : Overrides) (base working : Text) (analysis : Analysis) (words : List Text) : Type 0 where
   pub defined : Definitions
   pub are : AreDefined w o base working defined
   pub breaks : (action : Action) (fault : WordFault) → BreaksPlaced compilation analysis words action fault → BreaksNamed defined words action fault
   pub means : (action : Action) → MeansPlaced compilation analysis words action → MeansNamed defined words action
+  pub invokes : (calls : List CallRow) → InvokesAt compilation analysis.table.value analysis.values.value.settings.items words calls → Invoke (menu_of defined) words (map (named_call compilation analysis) calls)
 
 -- so it is of each analysis of a justfile, in each world that the justfile stands for
 abbrev pub AnalysesAreDefined : Type 0

@@ -2,6 +2,7 @@
 use Rattle.std.proofs.Common.{arith, Bool, Ok, if◌then◌else◌, Result, Err, ◌≡◌, ◌⊎◌, inl, inr, ⊎_elim, ◌==◌, ℕ, true, false, cond, List, [], ◌∷◌, ◌++◌, Option, Some, None, refl, sym, subst}
 use Rattle.std.proofs.lemmas.Bool.{cases_eq}
 use Rattle.std.proofs.lemmas.Bool.Decides.{nat_tests}
+use Rattle.std.specs.List.Sorted.{IsStrictlySortedBy}
 use Rattle.just_text.specs.declared.token_kind.TokenKind.TheVariants.{Identifier}
 use Rattle.just_value.specs.Frames.{BoundRow}
 use Rattle.meaning_dialogues.specs.Faults.{Fault, not_constant, a_variable, internal}
@@ -81,13 +82,16 @@ module _ (answers : QuestionAnswers) where
   abbrev value : Value
   value = (120 ∷ []) ∷ []
 
-  opening : Leads (first ∷ second ∷ []) [] (row_of false second value ∷ row_of false first value ∷ [])
-  opening = opened {next = row_of false first value ∷ []} {mid = []} value refl refl (refl, refl) (λ n. refl) (opened {next = row_of false second value ∷ row_of false first value ∷ []} {mid = []} value refl refl (refl, refl) (λ n. refl) all)
+  opening : Leads (first ∷ second ∷ []) [] (row_of false first value ∷ row_of false second value ∷ [])
+  unfolding IsStrictlySortedBy
+  opening =
+      opened {next = row_of false first value ∷ []} {mid = []} value refl refl (refl, refl) (λ n. refl) (tt, tt)
+      (opened {next = row_of false first value ∷ row_of false second value ∷ []} {mid = []} value refl refl (refl, refl) (λ n. grind (arith, nat_tests)) ((refl, tt), (tt, tt)) all)
 
   -- `b` holds what it means
-  pub second_means : HoldsMeant [] right_side answers names (row_of false second value ∷ row_of false first value ∷ []) 6
+  pub second_means : HoldsMeant [] right_side answers names (row_of false first value ∷ row_of false second value ∷ []) 6
   second_means =
-      opened_means [] (λ own. const_stage false) reading false (λ number. None) (λ number. true) right_side answers names (frames_read [] names) (first ∷ second ∷ []) [] (row_of false second value ∷ row_of false first value ∷ []) [] [] ordered
+      opened_means [] (λ own. const_stage false) reading false (λ number. None) (λ number. true) right_side answers names (frames_read [] names) (first ∷ second ∷ []) [] (row_of false first value ∷ row_of false second value ∷ []) [] [] ordered
       (record { piece = []; entries = refl; agrees = tt }) opening 6 (inr (inl refl)) (record { read = refl; unbound = refl })
 
 -- what is read of a variable by the constants so far

@@ -47,10 +47,10 @@ module _ (outer : List (List BoundRow)) (stage_with : List BoundRow → Stage) (
   pub left_out : (xs ys : List Assigned) (a : Assigned) {own last : List BoundRow} {old new : List Entry} {fault : Option Fault} → is_read a.number ≡ false
       → Assigns outer stage_with reading_with export overrides is_read (xs ++ a ∷ ys) own old last new fault → Assigns outer stage_with reading_with export overrides is_read (xs ++ ys) own old last new fault
   left_out [] ys a unread (skipped why more) = more
-  left_out [] ys a unread (opened value read unbound goes binds more) = absurd (cc)
+  left_out [] ys a unread (opened value read unbound goes binds sorted more) = absurd (cc)
   left_out [] ys a unread (refused read unbound goes) = absurd (cc)
   left_out (x ∷ xs) ys a unread (skipped why more) = skipped why (left_out xs ys a unread more)
-  left_out (x ∷ xs) ys a unread (opened value read unbound goes binds more) = opened value read unbound goes binds (left_out xs ys a unread more)
+  left_out (x ∷ xs) ys a unread (opened value read unbound goes binds sorted more) = opened value read unbound goes binds sorted (left_out xs ys a unread more)
   left_out (x ∷ xs) ys a unread (refused read unbound goes) = refused read unbound goes
 
   -- where the order has it, too
@@ -58,7 +58,7 @@ module _ (outer : List (List BoundRow)) (stage_with : List BoundRow → Stage) (
       → Assigns outer stage_with reading_with export overrides is_read (xs ++ ys) own old last new fault → Assigns outer stage_with reading_with export overrides is_read (xs ++ a ∷ ys) own old last new fault
   put_in [] ys a unread more = skipped (inl unread) more
   put_in (x ∷ xs) ys a unread (skipped why more) = skipped why (put_in xs ys a unread more)
-  put_in (x ∷ xs) ys a unread (opened value read unbound goes binds more) = opened value read unbound goes binds (put_in xs ys a unread more)
+  put_in (x ∷ xs) ys a unread (opened value read unbound goes binds sorted more) = opened value read unbound goes binds sorted (put_in xs ys a unread more)
   put_in (x ∷ xs) ys a unread (refused read unbound goes) = refused read unbound goes
 
   module _ (right_side : Variable → Option (Dialogue Value)) (answers : QuestionAnswers) (names : ℕ → List ℕ) where

@@ -53,29 +53,29 @@ module _ (outer : List (List BoundRow)) (stage_with : List BoundRow → Stage) (
   pub record_grows : {variables : List Assigned} {own last : List BoundRow} {old new : List Entry} {fault : Option Fault} → Leads variables own old last new fault → Grows old new
   record_grows all = same_record _
   record_grows (skipped h more) = record_grows more
-  record_grows (opened {a = a} {own = own} value read unbound goes binds more) = grows_on _ _ _ (goes_grows own a _ _ _ goes) (record_grows more)
+  record_grows (opened {a = a} {own = own} value read unbound goes binds sorted more) = grows_on _ _ _ (goes_grows own a _ _ _ goes) (record_grows more)
   record_grows (refused {a = a} {own = own} read unbound goes) = goes_grows own a _ _ _ goes
 
   -- what is bound stays bound, to the same row
   pub frame_keeps : {variables : List Assigned} {own last : List BoundRow} {old new : List Entry} {fault : Option Fault} → Leads variables own old last new fault → Keeps outer own last
   frame_keeps all n row f = f
   frame_keeps (skipped h more) n row f = frame_keeps more n row f
-  frame_keeps (opened {a = a} {own = own} {next = next} value read unbound goes binds more) n row f = frame_keeps more n row (keeps_bound outer own next (row_of export a value) unbound binds n row f)
+  frame_keeps (opened {a = a} {own = own} {next = next} value read unbound goes binds sorted more) n row f = frame_keeps more n row (keeps_bound outer own next (row_of export a value) unbound binds n row f)
   frame_keeps (refused read unbound goes) n row f = f
 
   -- one row after another
   pub one_after_another : {xs ys : List Assigned} {own mine last : List BoundRow} {old mid new : List Entry} {fault : Option Fault} → Leads xs own old mine mid None → Leads ys mine mid last new fault → Leads (xs ++ ys) own old last new fault
   one_after_another all g = g
   one_after_another (skipped why more) g = skipped why (one_after_another more g)
-  one_after_another (opened value read unbound goes binds more) g = opened value read unbound goes binds (one_after_another more g)
+  one_after_another (opened value read unbound goes binds sorted more) g = opened value read unbound goes binds sorted (one_after_another more g)
 
   -- where a row is opened without a fault, its parts are
   pub in_two : (xs ys : List Assigned) (own last : List BoundRow) (old new : List Entry) → Leads (xs ++ ys) own old last new None → (mine : List BoundRow) × (mid : List Entry) × Leads xs own old mine mid None × Leads ys mine mid last new None
   in_two [] ys own last old new h = (own, old, all, h)
   in_two (x ∷ xs) ys own last old new (skipped why more) =
       let r = in_two xs ys own last old new more in (r.0, r.1, skipped why r.2, r.3)
-  in_two (x ∷ xs) ys own last old new (opened {next = next} {mid = mid} value read unbound goes binds more) =
-      let r = in_two xs ys next last mid new more in (r.0, r.1, opened value read unbound goes binds r.2, r.3)
+  in_two (x ∷ xs) ys own last old new (opened {next = next} {mid = mid} value read unbound goes binds sorted more) =
+      let r = in_two xs ys next last mid new more in (r.0, r.1, opened value read unbound goes binds sorted r.2, r.3)
 
   some_kept : (own last : List BoundRow) (n : ℕ) → Keeps outer own last → IsSome (found_in (own ∷ outer) n) → IsSome (found_in (last ∷ outer) n)
   some_kept own last n keeps s = at (found_in (own ∷ outer) n) refl s
@@ -90,16 +90,16 @@ module _ (outer : List (List BoundRow)) (stage_with : List BoundRow → Stage) (
   bound_after n (skipped (inl unread) more) (inl e) r = let f = subst (λ m. is_read m ≡ true) e r in absurd (cc)
   bound_after n (skipped {own = own} {last = last} (inr bound) more) (inl e) r = some_kept own last n (frame_keeps more) (rw e bound)
   bound_after n (skipped why more) (inr i) r = bound_after n more i r
-  bound_after n (opened {a = a} {own = own} {next = next} {last = last} value read unbound goes binds more) (inl e) r =
+  bound_after n (opened {a = a} {own = own} {next = next} {last = last} value read unbound goes binds sorted more) (inl e) r =
       let there : found_in (next ∷ outer) n ≡ Some (row_of export a value) = rw e (found_bound outer own next (row_of export a value) binds) in
       some_kept next last n (frame_keeps more) (rw there refl)
-  bound_after n (opened value read unbound goes binds more) (inr i) r = bound_after n more i r
+  bound_after n (opened value read unbound goes binds sorted more) (inr i) r = bound_after n more i r
 
   -- a number that is none of theirs is bound as before
   pub others_stay : {xs : List Assigned} {own last : List BoundRow} {old new : List Entry} {fault : Option Fault} (n : ℕ) → Leads xs own old last new fault → (HasNumber xs n → ⊥) → found_in (last ∷ outer) n ≡ found_in (own ∷ outer) n
   others_stay n all i = refl
   others_stay n (skipped why more) i = others_stay n more (λ h. i (inr h))
-  others_stay n (opened {a = a} {own = own} {next = next} value read unbound goes binds more) i =
+  others_stay n (opened {a = a} {own = own} {next = next} value read unbound goes binds sorted more) i =
       others_stay n more (λ h. i (inr h)) ∙ found_other outer own next (row_of export a value) binds n (λ e. i (inl e))
   others_stay n (refused read unbound goes) i = refl
 
@@ -114,7 +114,7 @@ module _ (outer : List (List BoundRow)) (stage_with : List BoundRow → Stage) (
       at_it frame from before (skipped (inr bound) more) =
           let e : found_in (frame ∷ outer) a.number ≡ None = others_stay a.number before o.first ∙ o.opened.unbound in
           let s = subst (λ it. IsSome it) e bound in absurd (cc)
-      at_it frame from before (opened {next = next} {mid = mid} value read unbound goes binds more) = record {
+      at_it frame from before (opened {next = next} {mid = mid} value read unbound goes binds sorted more) = record {
         value = value;
         frame = frame;
         next = next;
@@ -158,7 +158,7 @@ module _ (outer : List (List BoundRow)) (stage_with : List BoundRow → Stage) (
         before = skipped why f.before;
         goes = f.goes;
       }
-  faults_at (opened {a = b} {more = more'} {own = own} {next = next} {last = last} {old = old} {new = new} value read unbound goes binds more) =
+  faults_at (opened {a = b} {more = more'} {own = own} {next = next} {last = last} {old = old} {new = new} value read unbound goes binds sorted more) =
       let f = faults_at more in
       let other = bound_another b f.it own next value binds f.opens.opened in
       record {
@@ -171,7 +171,7 @@ module _ (outer : List (List BoundRow)) (stage_with : List BoundRow → Stage) (
           opened = record { read = f.opens.opened.read; unbound = sym (found_other outer own next (row_of export b value) binds f.it.number other) ∙ f.opens.opened.unbound };
           first = λ h. ⊎_elim other f.opens.first h;
         };
-        before = opened value read unbound goes binds f.before;
+        before = opened value read unbound goes binds sorted f.before;
         goes = f.goes;
       }
   faults_at (refused {a = a} {more = more'} {own = own} {old = old} {new = new} read unbound goes) = record {

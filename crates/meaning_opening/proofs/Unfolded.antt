@@ -101,12 +101,12 @@ module _ (outer : List (List BoundRow)) (stage_with : List BoundRow → Stage) (
   opening_on variables done own old ordered order before meant agrees (skipped {a = a} {more = more} {own = frame} {old = from} why rest) =
       opening_on variables (done ++ a ∷ []) own old ordered (moved variables done more a order)
       (one_after_another outer stage_with reading_with export overrides is_read before (skipped why all)) (skipped_meant done a own frame old from before why meant) agrees rest
-  opening_on variables done own old ordered order before meant agrees (opened {a = a} {more = more} {own = frame} {next = next} {last = last} {old = from} {mid = mid} {new = new} value read unbound goes binds rest) =
+  opening_on variables done own old ordered order before meant agrees (opened {a = a} {more = more} {own = frame} {next = next} {last = last} {old = from} {mid = mid} {new = new} value read unbound goes binds sorted rest) =
       let first = goes_grows outer stage_with reading_with export overrides is_read frame a from mid (Ok value) goes in
       let others = record_grows outer stage_with reading_with export overrides is_read rest in
       let o = opens_here variables done more a own frame old from order before read unbound in
       let means = one_means variables done more a own frame old from mid (Ok value) ordered o before meant (agrees_first answers from mid new first others agrees) goes in
-      let step : Leads (a ∷ []) frame from next mid None = opened value read unbound goes binds all in
+      let step : Leads (a ∷ []) frame from next mid None = opened value read unbound goes binds sorted all in
       opening_on variables (done ++ a ∷ []) own old ordered (moved variables done more a order)
       (one_after_another outer stage_with reading_with export overrides is_read before step) (bound_meant done a own frame next from mid value step binds means meant)
       (agrees_rest answers from mid new first others agrees) rest

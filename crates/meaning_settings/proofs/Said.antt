@@ -12,7 +12,7 @@ use Rattle.meaning_worlds.specs.Given.{Text}
 use Rattle.meaning_worlds.proofs.Places.{contains_first, contains_later}
 use Rattle.meaning_rules.specs.Naming.{Part, part, parts_of_value}
 use Rattle.meaning_calls.specs.Named.{ModuleRow}
-use Rattle.just_meaning.specs.Rows.{is_any, is_true, module_row, or_base, setting_named, settled_text, settled_value, settled_words}
+use Rattle.just_meaning.specs.Rows.{is_any, is_true, module_row, setting_named, settled_text, settled_value, settled_words, text_or_empty}
 
 -- what a setting says, in each form that is asked for
 pub record Said : Type 0 where
@@ -114,13 +114,8 @@ row_from start source unexports all = record {
 }
 
 -- the folder that a module starts from: the root's where the program works, another's that of its file
-abbrev start_of : (Shape → Value) → Text → Text → Bool → Text → Text
-start_of settle base working is_root source = cond is_root working (or_base settle base (parent (join base source)))
-
--- where there is no folder it is the base, whatever settles
-base_same : (settle settle' : Shape → Value) (base : Text) (folder : Option Text) → or_base settle base folder ≡ or_base settle' base folder
-base_same settle settle' base None = refl
-base_same settle settle' base (Some folder) = refl
+abbrev start_of : Text → Text → Bool → Text → Text
+start_of base working is_root source = cond is_root working (text_or_empty (parent (join base source)))
 
 -- functions that give the same of each make the same list
 map_same : {X Y : Type 0} (f g : X → Y) (xs : List X) → ((x : X) → f x ≡ g x) → map f xs ≡ map g xs
@@ -133,7 +128,7 @@ module _ (base working : Text) (is_root : Bool) (source : Text) (unexports : Lis
   all_said settle sets = map (λ name. said settle (setting_named name sets)) names
 
   -- the row is that of what its settings say
-  row_is : (settle : Shape → Value) (sets : List SetShape) → module_row settle base working is_root source unexports sets ≡ row_from (start_of settle base working is_root source) source unexports (all_said settle sets)
+  row_is : (settle : Shape → Value) (sets : List SetShape) → module_row settle base working is_root source unexports sets ≡ row_from (start_of base working is_root source) source unexports (all_said settle sets)
   row_is settle sets = refl
 
   -- settings with the same values of names, whose expressions have the same values, make the same row
@@ -142,8 +137,7 @@ module _ (base working : Text) (is_root : Bool) (source : Text) (unexports : Lis
       → module_row settle base working is_root source unexports sets ≡ module_row settle' base working is_root source unexports sets'
   row_same value_of settle settle' sets sets' named agree =
       row_is settle sets
-      ∙ ap (λ folder. row_from (cond is_root working folder) source unexports (all_said settle sets)) (base_same settle settle' base (parent (join base source)))
-      ∙ ap (row_from (start_of settle' base working is_root source) source unexports)
+      ∙ ap (row_from (start_of base working is_root source) source unexports)
       (map_same (λ name. said settle (setting_named name sets)) (λ name. said settle' (setting_named name sets')) names
       (λ name. said_same value_of settle settle' (setting_named name sets) (agree name) ∙ ap (said settle') (named name)))
       ∙ sym (row_is settle' sets')

@@ -68,5 +68,5 @@ module _ (m : Surroundings) (functions : List DefinedFunction) (standing in_body
       → Assigns outer stage_with reading_with export overrides is_read list own old last new fault → NoInternal fault
   opening_proper N holds order all = tt
   opening_proper N {list = a ∷ more} {own = own} holds order (skipped h rest) = opening_proper (With overrides is_read a.number N) (holds_skipped N own a.number holds h) order.1 rest
-  opening_proper N {list = a ∷ more} {own = own} holds order (opened {next = next} value r u g b rest) = opening_proper (With overrides is_read a.number N) (holds_opened N own next (row_of export a value) holds b) order.1 rest
+  opening_proper N {list = a ∷ more} {own = own} holds order (opened {next = next} value r u g b sorted rest) = opening_proper (With overrides is_read a.number N) (holds_opened N own next (row_of export a value) holds b) order.1 rest
   opening_proper N {list = a ∷ more} {own = own} {old = old} {new = new} holds order (refused {fault = fault} r u g) = side_proper N own (overrides a.number) a.value old new fault holds (order.0 r) g

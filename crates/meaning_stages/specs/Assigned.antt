@@ -1,7 +1,7 @@
 -- How a module's variables are opened, and which of them are constants.
 use Rattle.std.specs.Prelude.{◌≡◌, ℕ, ◌⊎◌, ◌||◌, Bool, true, false, List, [], ◌∷◌, Option, Some, None, IsSome, Result, Ok, Err}
 use Rattle.just_host.specs.declared.entry.Entry.{Entry}
-use Rattle.just_value.specs.Frames.{BoundRow, WrittenName, written_name, found_in, Rebinds}
+use Rattle.just_value.specs.Frames.{BoundRow, ByNumber, WrittenName, written_name, found_in, Rebinds}
 use Rattle.evaluate_context.specs.declared.context.AssignmentRef.{AssignmentRef}
 use Rattle.meaning_dialogues.specs.Faults.{Fault}
 use Rattle.meaning_dialogues.specs.Dialogue.{Dialogue, Ends, DialogueGoes, Reading}
@@ -43,7 +43,7 @@ module _ (outer : List (List BoundRow)) (stage_with : List BoundRow → Stage) (
         → (is_read a.number ≡ false) ⊎ IsSome (found_in (own ∷ outer) a.number) → Assigns more own old last new fault → Assigns (a ∷ more) own old last new fault
     opened : {a : Assigned} {more : List Assigned} {own next last : List BoundRow} {old mid new : List Entry} {fault : Option Fault} (value : Value)
         → is_read a.number ≡ true → found_in (own ∷ outer) a.number ≡ None → DialogueGoes (reading_with own) (assigned_dialogue (overrides a.number) (stage_with own) a.value) old mid (Ok value)
-        → Rebinds own (row_of export a value) next → Assigns more next mid last new fault → Assigns (a ∷ more) own old last new fault
+        → Rebinds own (row_of export a value) next → ByNumber next → Assigns more next mid last new fault → Assigns (a ∷ more) own old last new fault
     refused : {a : Assigned} {more : List Assigned} {own : List BoundRow} {old new : List Entry} {fault : Fault}
         → is_read a.number ≡ true → found_in (own ∷ outer) a.number ≡ None → DialogueGoes (reading_with own) (assigned_dialogue (overrides a.number) (stage_with own) a.value) old new (Err fault)
         → Assigns (a ∷ more) own old own new (Some fault)

@@ -210,7 +210,7 @@ module _ {A : Type 0} (overrides : BTreeMap ℕ (String A)) (w : World) (compila
       Evaluated number = IsEvaluated variables recipes settings called no_dependencies number
 
       -- a variable of the module that is evaluated is opened there
-      opened_here : (place number : ℕ) → slice_get (numbers_in lists.assignments.items) place ≡ Some number → Evaluated number → OpenedIn k lists reads place
+      pub opened_here : (place number : ℕ) → slice_get (numbers_in lists.assignments.items) place ≡ Some number → Evaluated number → OpenedIn k lists reads place
       opened_here place number at e =
           let home : e.home ≡ k = same_home e.home k number e.opened.place place (kept e.home number e.opened.place e.lists e.kept e.opened.here) (kept k number place lists there at) in
           let lists_same : e.lists ≡ lists = same_Some e.lists lists (sym e.kept ∙ ap (slice_get variables.lists.items) home ∙ there) in

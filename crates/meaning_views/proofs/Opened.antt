@@ -64,7 +64,7 @@ module _ (outer : List (List BoundRow)) where
     all_bound all e = record { kept = λ number h. h; each = λ a c read. absurd (contains_none [] a refl c) }
     all_bound (skipped {a = a} {more = more} {own = own} {last = last} reason rest) e =
         one_more a more own own last (λ number h. h) (λ read. elim reason [ inl is ↦ absurd (true≢false (sym read ∙ is)) | inr h ↦ h ]) (all_bound rest e)
-    all_bound (opened {a = a} {more = more} {own = own} {next = next} {last = last} value read none goes rebinds rest) e =
+    all_bound (opened {a = a} {more = more} {own = own} {next = next} {last = last} value read none goes rebinds sorted rest) e =
         one_more a more own next last (λ number h. binds own next (row_of export a value) rebinds number (inr h)) (λ is. binds own next (row_of export a value) rebinds a.number (inl refl)) (all_bound rest e)
     all_bound (refused read none goes) e = absurd (cc e)
 

@@ -1,16 +1,16 @@
 //! What the action and the words ask of a resolved justfile.
-ghost use Rattle.std.specs.Prelude.{◌≡◌, IfErr, IfOk, OnOk, map};
+ghost use Rattle.std.specs.Prelude.{◌≡◌, IfErr, IfOk, map};
 ghost use Rattle.analyze_calls.specs.Calls.{row_of, rows};
 ghost use Rattle.analyze_words.specs.Broken.{IsRefusedBy};
 ghost use Rattle.justfile_analyzer.specs.Targets.{AreInOrder};
 ghost use Rattle.meaning_runs.specs.Invokes.{Invoke};
 ghost use Rattle.analyze_words.specs.Worded as worded;
-ghost use Rattle.just_meaning.specs.Actions.{ActionRule, BreaksCommand, BreaksText};
+ghost use Rattle.just_meaning.specs.Actions.{BreaksCommand, BreaksText};
 ghost use Rattle.resolve_recipes.specs.Named.{AllByName};
+ghost use Rattle.run_requests.specs.Asked.{HandsOver, IsAskedFor, PlansCalls, RunsCalls, TellsText, TellsValues};
 ghost use Rattle.run_requests.specs.Requests.{IsFor};
 ghost use Rattle.run_requests.specs.Words as spec;
 ghost use Rattle.run_requests.specs.declared.action.Action.TheVariants.{Command, Evaluate, Plan, Run};
-ghost use Rattle.run_requests.specs.declared.request.Request.TheVariants as requests;
 
 use crate::action::Action;
 use analyze_calls::Call;
@@ -111,7 +111,8 @@ fn called<'src>(
 
 /// A run of the calls; the list of recipes where there are none.
 fn run_request<'w>(calls: Vec<Call>) -> Request<'w>
-    ensures { IsFor Run result }
+    ensures is_for { IsFor Run result }
+    ensures asked { RunsCalls (rows calls.items) result }
 {
     if calls.is_empty() {
         return Request::Text(RootText::List);
@@ -121,7 +122,8 @@ fn run_request<'w>(calls: Vec<Call>) -> Request<'w>
 
 /// What a run of the calls would hand over; the list of recipes where there are none.
 fn plan_request<'w>(calls: Vec<Call>) -> Request<'w>
-    ensures { IsFor Plan result }
+    ensures is_for { IsFor Plan result }
+    ensures asked { PlansCalls (rows calls.items) result }
 {
     if calls.is_empty() {
         return Request::Text(RootText::List);
@@ -158,7 +160,7 @@ fn values_request<'w, 'src>(
     words: &'w [Text],
 ) -> Result<Request<'w>, WordFault>
     ensures is_for { IfOk result (IsFor Evaluate) }
-    ensures named { OnOk result (AreInOrder modules.now → spec.NamesValuesAt modules.now lists.now words.now) }
+    ensures asked { IfOk result (λ request. AreInOrder modules.now → TellsValues modules.now lists.now words.now request) }
     ensures refused { IfErr result (λ fault. AreInOrder modules.now → spec.IsRefusedFor (spec.BreaksValuesAt modules.now lists.now words.now) fault) }
 {
     let target = target(alloc, modules, lists, words)?;
@@ -168,7 +170,7 @@ fn values_request<'w, 'src>(
 /// The command that the words are.
 fn command_request<'w>(words: &'w [Text]) -> Result<Request<'w>, WordFault>
     ensures is_for { IfOk result (IsFor Command) }
-    ensures there { OnOk result ((rule : ActionRule) → BreaksCommand words.now rule → ⊥) }
+    ensures asked { IfOk result (HandsOver words.now) }
     ensures refused { IfErr result (spec.IsRefusedFor (BreaksCommand words.now)) }
 {
     if words.is_empty() {
@@ -183,8 +185,7 @@ fn text_request<'w>(
     text: RootText,
     words: &'w [Text],
 ) -> Result<Request<'w>, WordFault>
-    ensures is { IfOk result (λ request. request ≡ requests.Text text) }
-    ensures bare { OnOk result ((rule : ActionRule) → BreaksText words.now rule → ⊥) }
+    ensures asked { IfOk result (TellsText text words.now) }
     ensures refused { IfErr result (spec.IsRefusedFor (BreaksText words.now)) }
 {
     match words.first() {
@@ -203,7 +204,7 @@ pub fn request_of<'w, 'src>(
     words: &'w [Text],
 ) -> Result<Request<'w>, WordFault>
     ensures is_for { IfOk result (IsFor action) }
-    ensures meant { analysis.now.modules.now ≡ compilation.now.modules.items → AllByName compilation.now → OnOk result (spec.MeansPlaced compilation.now analysis.now words.now action) }
+    ensures meant { analysis.now.modules.now ≡ compilation.now.modules.items → AllByName compilation.now → IfOk result (IsAskedFor compilation.now analysis.now words.now action) }
     ensures refused { analysis.now.modules.now ≡ compilation.now.modules.items → AllByName compilation.now → IfErr result (spec.BreaksPlaced compilation.now analysis.now words.now action) }
 {
     match action {

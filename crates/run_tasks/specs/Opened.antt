@@ -2,7 +2,7 @@
 use Rattle.std.specs.Prelude.{◌≡◌, ◌≢◌, ◌<◌, ℕ, suc, nat_eq, if◌then◌else◌, Bool, false, List, [], ◌∷◌, map, Option, Some, None, Result, Ok, Err, length, get_or}
 use Rattle.just_host.specs.declared.entry.Entry.{Entry}
 use Rattle.just_value.specs.Constants.{constant_rows}
-use Rattle.just_value.specs.Frames.{BindsRows}
+use Rattle.just_value.specs.Frames.{BindsRows, ByNumber}
 use Rattle.evaluate_context.specs.Environment.{variable}
 use Rattle.evaluate_context.specs.declared.context.ExecutionContext.{ExecutionContext}
 use Rattle.evaluate_context.specs.declared.context.ModuleView.{ModuleView}
@@ -51,7 +51,7 @@ module _ (context : TaskContext) where
     one_more : {place : ℕ} {view : ModuleView} {views : List ModuleView} {row : OpenedRow} {here : ExecutionContext} {contexts : List ExecutionContext}
         → last_opened place None rows ≡ Some row → IsContextAt view row here → AreContexts rows (suc place) views contexts → AreContexts rows place (view ∷ views) (here ∷ contexts)
 
-  -- what all modules open with: the constants of the language around them
+  -- what all modules open with: the constants of the language around them, by their numbers
   pub record IsOpeningOf (opens : Opens) : Type 0 where
     pub config : opens.config.now ≡ context.config.now
     pub overrides : opens.overrides.now ≡ context.overrides.now
@@ -59,6 +59,7 @@ module _ (context : TaskContext) where
     pub wanted : opens.wanted ≡ context.wanted
     pub constants : BindsRows constant_rows opens.constants.now.own
     pub alone : opens.constants.now.outer ≡ []
+    pub sorted : ByNumber opens.constants.now.own
 
 -- ---- a run
 

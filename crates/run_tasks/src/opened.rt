@@ -7,7 +7,7 @@ ghost use Rattle.run_tasks.specs.Kinds.{AsksFor, AsksOver, AsksRoot};
 ghost use Rattle.std.specs.Prelude.{[], ℕ, List};
 ghost use Rattle.std.specs.Global.{Vec};
 ghost use Rattle.just_value.specs.Constants.{constant_rows};
-ghost use Rattle.just_value.specs.Frames.{BindsRows};
+ghost use Rattle.just_value.specs.Frames.{BindsRows, ByNumber};
 ghost use Rattle.analyze_calls.specs.Calls.{rows};
 ghost use Rattle.analyze_calls.specs.Opening.{opened_rows};
 ghost use Rattle.analyze_calls.specs.declared.call.Call.{Call};
@@ -208,7 +208,7 @@ fn opening_of<'a, 'src>(
     context: &TaskContext<'a>,
     constants: &'a Scope<'a, 'src>,
 ) -> Opening<'a, 'src>
-    ensures { BindsRows constant_rows constants.now.own → constants.now.outer ≡ [] → IsOpeningOf context.now result }
+    ensures { BindsRows constant_rows constants.now.own → constants.now.outer ≡ [] → ByNumber constants.now.own → IsOpeningOf context.now result }
 {
     Opening {
         config: context.config,
@@ -231,7 +231,7 @@ fn perform_inside<'src, H: RunHost + Drop>(
     tally: &mut Tally,
 ) -> Result<Performed, TaskFault<'src>>
     ensures asks { AsksFor task.entry context.now.config.now.dry_run H.goes host.old host.new }
-    ensures runs { BindsRows constant_rows constants.now.own → constants.now.outer ≡ [] → (calls : Vec Call) → task.entry ≡ Run calls → IfEnded host.new.exhausted result (Runs context.now modules.now recipes.now (rows calls.items) host.old.entries (tally_of tally.old) host.new.entries (tally_of tally.new)) }
+    ensures runs { BindsRows constant_rows constants.now.own → constants.now.outer ≡ [] → ByNumber constants.now.own → (calls : Vec Call) → task.entry ≡ Run calls → IfEnded host.new.exhausted result (Runs context.now modules.now recipes.now (rows calls.items) host.old.entries (tally_of tally.old) host.new.entries (tally_of tally.new)) }
 {
     let opening = opening_of(&*context, &*constants);
     let opened = open_modules(alloc, host, &opening, modules, context.opening_order)?;

@@ -25,4 +25,4 @@ pub returns-clause-opens : goal.returns-clause-opens
 returns-clause-opens g c =
     let read : reads c.args.references c.args.assignment.now.number ≡ true = search rules in
     let free : look_up c.args.scope.now c.args.assignment.now.number ≡ None = none_found _ c.binding.result _ c.binding.ensures (search rules) in
-    λ n. opens_value c.args.context.now (reads c.args.references) (assigned c.args.assignment) c.args.scope.now read free c.in_ok-value.ensures.evaluates (rw c.is_exported-export.ensures at c.in_ok-bind_value.ensures.bound.0)
+    λ n. opens_value c.args.context.now (reads c.args.references) (assigned c.args.assignment) c.args.scope.now read free c.in_ok-value.ensures.evaluates (rw c.is_exported-export.ensures at c.in_ok-bind_value.ensures.bound.0) c.in_ok-bind_value.ensures.sorted

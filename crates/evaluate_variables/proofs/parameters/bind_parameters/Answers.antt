@@ -92,7 +92,7 @@ loop-parameter-preserved g c =
           let passed = sym (now.0 (length v)) ∙ (ap (may p) (sym long) ∙ c.in_ok-check_count.ensures.passed may always) in
           (now.1, binds_more here there stage site.is_dependency (lexeme site.recipe.token) counts site.passes_words (lists_of site) formals groups none l.scope l.invariant.lies _ _ _ _ _ _ h.1 (formal_of p) _ q _ (ap (map formal_of) ps) qs _ _ (value_binding p.name p.number p.export (bound_value (lists_of site) v)) v given passed (search rules) refl refl (search rules));
       left = λ k d lt. all (suc k) d (omega arith);
-      rows = λ none. more_rows c.args.parameters.now l.scope.own p (bound_value (lists_of site) v) _ (l.invariant.rows none) (all 0 p (omega arith)) (search rules);
+      rows = λ none. more_rows c.args.parameters.now l.scope.own p (bound_value (lists_of site) v) _ (l.invariant.rows none) (all 0 p (omega arith)) (search rules) c.in_ok-bind_parameter.ensures.sorted;
     }
 
 pub returns-clause-evaluates : goal.returns-clause-evaluates
@@ -100,3 +100,9 @@ returns-clause-evaluates g c = λ may counts always counted none.
     let l = c.loop-parameter in
     let over = either_empty_from_Zip l.parameter-iterator c.next.new.self c.next.result (search rules) (search rules) in
     binds_end _ _ _ _ _ _ _ _ _ _ _ _ _ _ _ _ (l.invariant.binds may counts always counted none).1 (none_left _ _ over)
+
+pub returns-in_err-value-clause-asks : goal.returns-in_err-value-clause-asks
+returns-in_err-value-clause-asks g c = λ kinds has start asked. c.in_err-value.ensures.asks kinds has start (c.loop-parameter.invariant.asks kinds has start asked)
+
+pub returns-in_err-check_count-clause-asks : goal.returns-in_err-check_count-clause-asks
+returns-in_err-check_count-clause-asks g c = λ kinds has start asked. c.in_ok-value.ensures.asks kinds has start (c.loop-parameter.invariant.asks kinds has start asked)

@@ -13,6 +13,15 @@ invariant_of-self-in-Err c =
     inserted_by_number c.self.inside.bindings.items c.args.self.now c.self.view_is (subst ByNumber c.self.view_is c.self.invariant) c.in-Err.place c.args.binding c.in-Err.ensures.place.1
     c.put_in.result c.put_in.new.bindings.items c.put_in.ensures.items
 
+pub returns-in-Ok-clause-sorted : goal.returns-in-Ok-clause-sorted
+returns-in-Ok-clause-sorted c =
+    set_by_number c.self.inside.bindings.items c.args.self.now c.self.view_is (subst ByNumber c.self.view_is c.self.invariant) c.in-Ok.place c.args.binding c.in-Ok.ensures.place
+
+pub returns-in-Err-clause-sorted : goal.returns-in-Err-clause-sorted
+returns-in-Err-clause-sorted c =
+    inserted_by_number c.self.inside.bindings.items c.args.self.now c.self.view_is (subst ByNumber c.self.view_is c.self.invariant) c.in-Err.place c.args.binding c.in-Err.ensures.place.1
+    c.put_in.result c.put_in.new.bindings.items c.put_in.ensures.items
+
 pub returns-in-Ok-clause-bound : goal.returns-in-Ok-clause-bound
 returns-in-Ok-clause-bound c =
     set_rebinds c.self.inside.bindings.items c.args.self.now c.self.view_is (subst ByNumber c.self.view_is c.self.invariant) c.in-Ok.place c.args.binding c.in-Ok.ensures.place

@@ -1,0 +1,4 @@
+//! Runs of calls under other names.
+#![tactic(auto)]
+
+pub mod law;

@@ -1,0 +1,12 @@
+//! Laws on the parameters of functions and of recipes.
+ghost use Rattle.meaning_distinct.specs.Distinct.{CompilationsAreApart, FilesAreApart, WorldsAreApart};
+
+/// The parameters of each function and of each recipe have different names, and only a recipe's last parameter takes all values that remain.
+pub fn parameters_differ()
+    // So it is of the items that a text says.
+    ensures files { FilesAreApart }
+    // So it is of the items of each file that is reached in a world.
+    ensures worlds { WorldsAreApart }
+    // So it is of the items of each file of a module of a compilation.
+    ensures compilations { CompilationsAreApart }
+{}

@@ -1,0 +1,2 @@
+//! Modules that are open by numbers and by names.
+#![tactic(auto)]

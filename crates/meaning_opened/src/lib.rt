@@ -1,0 +1,4 @@
+//! Modules that open by places open by names.
+#![tactic(auto)]
+
+pub mod law;
