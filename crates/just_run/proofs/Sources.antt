@@ -22,6 +22,7 @@ use Rattle.run_plain.specs.Stages.{IsRoot}
 use Rattle.meaning_worlds.specs.Given.{Text, World}
 use Rattle.meaning_worlds.specs.Standing.{StandsFor}
 use Rattle.meaning_files.specs.Views.{given_of}
+use Rattle.just_run.specs.Named.{Left}
 use Rattle.just_run.specs.Sources.{AnswersSources, Asked, LooksAtAll, TellsSources, read}
 use Rattle.just_run.specs.declared.fault.Fault.{Fault}
 use Rattle.run_requests.specs.declared.action.Action.TheVariants.{Run, Plan}
@@ -49,8 +50,8 @@ module _ {A B C D : Type 0} (sources : BTreeMap (String A) (String B)) (roots : 
   root_read path file next f = record { text = f.text; there = text_is_source sources path f.text f.there; says = f.says; whole = f.whole; numbered = f.numbered }
 
   -- what is told of them is told of the root at its path
-  pub told_of_root : (os : _) (unstable : Bool) (asked : Asked) (path : List ℕ) (file : Ast) (next : Numbers) (plain : Option PlainAst) (result : Result Outcome Fault)
+  pub told_of_root : (os : _) (unstable : Bool) (asked : Asked) (path : List ℕ) (file : Ast) (next : Numbers) (plain : Option PlainAst) (left : Left) (result : Result Outcome Fault)
       → IsFileRead inputs path file next → IsRoot inputs path (option_map shape_of plain) → LooksAtAll asked.action inputs
-      → (((asked.action ≡ Run) ⊎ (asked.action ≡ Plan) → plain ≡ None) → (start : Numbers) → length constant_rows ≤ start.bindings → IsRootRead sources expansion version start path (record { ast = file; numerator = next }) → (w : World) → StandsFor (given_of sources os unstable expansion version path) w → TellsSources asked result w)
-      → AnswersSources (given_of sources os unstable expansion version) inputs asked result
-  told_of_root os unstable asked path file next plain result f is all tells = read path f.rooted (tells (λ ways. none_plain inputs path plain is (all ways)) f.start f.above (root_read path file next f))
+      → (((asked.action ≡ Run) ⊎ (asked.action ≡ Plan) → plain ≡ None) → (start : Numbers) → length constant_rows ≤ start.bindings → IsRootRead sources expansion version start path (record { ast = file; numerator = next }) → (w : World) → StandsFor (given_of sources os unstable expansion version path) w → TellsSources asked path left result w)
+      → AnswersSources (given_of sources os unstable expansion version) inputs asked left result
+  told_of_root os unstable asked path file next plain left result f is all tells = read path f.rooted (tells (λ ways. none_plain inputs path plain is (all ways)) f.start f.above (root_read path file next f))

@@ -5,14 +5,16 @@ use Rattle.just_host.specs.Kinds.{Only}
 use Rattle.just_host.specs.Record.{Record}
 use Rattle.just_host.specs.declared.entry.Entry.{Entry}
 use Rattle.run_plain.specs.Inputs.{Inputs}
-use Rattle.run_plain.specs.Setup.{Setup}
+use Rattle.run_plain.specs.Setup.{setup_of}
+use Rattle.just_host.specs.declared.config.Config.{Config}
+use Rattle.just_run.specs.Named.{left_of}
 use Rattle.meaning_worlds.specs.Given.{Given, Text}
 use Rattle.just_run.specs.Early.{IsEarly}
 use Rattle.just_run.specs.Kinds.{MayAdd}
 use Rattle.just_run.specs.Plain.{AnswersPlain, IsPlain}
 use Rattle.just_run.specs.Plans.{IsKeptBy, Plans}
 use Rattle.run_requests.specs.Requests.{IsText}
-use Rattle.just_run.specs.Sources.{AnswersSources, LooksAtAll}
+use Rattle.just_run.specs.Sources.{AnswersSources, LooksAtAll, asked_of}
 use Rattle.just_run.specs.Writes.{WriteFails}
 use Rattle.just_run.specs.declared.fault.Fault.{Fault}
 use Rattle.run_requests.specs.declared.action.Action.{Action}
@@ -25,14 +27,14 @@ pub record State (H : Type 0) : Type 0 where
   pub written : List ℕ
   pub failed : ℕ
 
--- Whatever is asked for, of whatever files: `given` is what is looked at for the root at a path, and keys of files stand in the folder `base`.
-pub record Drives {H : Type 0} (goes : H → List Entry → H → Type 0) (inputs : Inputs) (given : Text → Given) (setup : Setup) (base : Text) (action : Action) (old : State H) (result : Result Outcome Fault) (new : State H) : Type 0 where
+-- Whatever is asked for, of whatever files: `given` is what is looked at for the root at a path.
+pub record Drives {H : Type 0} (goes : H → List Entry → H → Type 0) (inputs : Inputs) (given : Text → Given) (config : Config) (action : Action) (old : State H) (result : Result Outcome Fault) (new : State H) : Type 0 where
   -- where no root file that can be read says more than plain recipes, a run is one of plain recipes
-  pub plain : action ≡ actions.Run → IsPlain inputs → AnswersPlain goes inputs setup result old.host new.host
+  pub plain : action ≡ actions.Run → IsPlain inputs → AnswersPlain goes inputs (setup_of config) result old.host new.host
   -- a fault that is none of a run or of the output names a rule that is broken; then nothing was asked, handed over or written
   pub early : IfErr result (λ fault. IsEarly fault old.host old.written new.host new.written)
-  -- where all files are looked at, the call is refused by a rule of files, modules, definitions, names or words exactly where one is broken
-  pub sources : LooksAtAll action inputs → AnswersSources given inputs (record { action = action; words = inputs.words; base = base; working = setup.folder }) result
+  -- where all files are looked at, the call is refused by a rule of files, modules, definitions, names or words exactly where one is broken, and else a run goes by what is defined by name
+  pub sources : LooksAtAll action inputs → AnswersSources given inputs (asked_of action inputs.words config) (left_of old.host new.host) result
   -- where the text of the root file or the list of recipes is asked for, nothing is asked and nothing handed over
   pub silent : IsText action → new.host ≡ old.host
   -- where the call is refused nothing is written, unless the output takes no more, or a run fails whose plan is written
@@ -44,4 +46,4 @@ pub record Drives {H : Type 0} (goes : H → List Entry → H → Type 0) (input
   -- a run of plain recipes writes nothing
   pub unwritten : action ≡ actions.Run → IsPlain inputs → new.written ≡ old.written
   -- the record has grown by just what was asked, by entries alone that the action may add, and the host went along by it
-  pub asked : (kinds : Entry → Bool) → MayAdd action setup.dry_run kinds → IsAsked (Only kinds goes) old.host new.host
+  pub asked : (kinds : Entry → Bool) → MayAdd action config.dry_run kinds → IsAsked (Only kinds goes) old.host new.host

@@ -2,6 +2,7 @@ pub mod Drives
 pub mod Early
 pub mod Faulted
 pub mod Kinds
+pub mod Named
 pub mod Passed
 pub mod Plain
 pub mod Plans

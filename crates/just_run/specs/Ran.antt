@@ -7,13 +7,12 @@ use Rattle.modules_compilation.specs.declared.compilation.Compilation.{Compilati
 use Rattle.resolve_analysis.specs.declared.analysis.Analysis.{Analysis}
 use Rattle.analyze_calls.specs.Calls.{CallRow, rows}
 use Rattle.analyze_calls.specs.declared.call.Call.{Call}
-use Rattle.analyze_words.specs.declared.fault.WordFault.{WordFault}
 use Rattle.run_tasks.specs.Opened.{IfEnded, RunEnd}
 use Rattle.run_tasks.specs.declared.fault.TaskFault.{TaskFault}
 use Rattle.run_tasks.specs.declared.task.Performed.{Performed}
 use Rattle.run_prepared.specs.Runs.{RunsCalls}
 use Rattle.run_requests.specs.Words.{InvokesAt}
-use Rattle.just_run.specs.Passed.{task_fault, word_fault}
+use Rattle.just_run.specs.Passed.{task_fault}
 use Rattle.just_run.specs.Texts.{performed_outcome}
 use Rattle.just_run.specs.declared.fault.Fault.{Fault}
 use Rattle.just_run.specs.declared.outcome.Outcome.{Outcome}
@@ -33,8 +32,7 @@ module _ (compilation : Compilation) (analysis : Analysis) (config : Config) (ro
   abbrev pub Invokes : List CallRow → Type 0
   Invokes = InvokesAt compilation analysis.table.value analysis.values.value.settings.items words
 
-  -- the words are refused, or they invoke no calls, and nothing was asked; or the calls that they invoke run
+  -- the words invoke no calls, and nothing was asked; or the calls that they invoke run
   pub data RunsInvoked (old new : List Entry) (exhausted : Bool) (result : Result Outcome Fault) : Type 0 where
-    refused : (fault : WordFault) → result ≡ Err (word_fault fault) → new ≡ old → RunsInvoked old new exhausted result
     none : Invokes [] → new ≡ old → RunsInvoked old new exhausted result
     runs : (calls : Vec Call) → Invokes (rows calls.items) → EndsRun exhausted result (RunsCalls compilation analysis config root calls old new) → RunsInvoked old new exhausted result

@@ -22,6 +22,9 @@ use Rattle.meaning_overriding.specs.Texts.{overrides_of}
 use Rattle.just_resolve.specs.Rules as names
 use Rattle.just_resolve.specs.declared.error.Error.{Error as NameError}
 use Rattle.just_run.specs.Early.{IsOfNoRule}
+use Rattle.just_run.specs.Named.{Left, RunsNamed}
+use Rattle.just_run.specs.Ran.{RunsInvoked}
+use Rattle.meaning_grounds.specs.Alike.{configuration_of}
 use Rattle.just_run.specs.Passed.{file_fault, name_fault, word_fault}
 use Rattle.just_run.specs.Plain.{fault_of}
 use Rattle.just_run.specs.declared.fault.Fault.{Fault}
@@ -33,45 +36,47 @@ use Rattle.just_run.specs.declared.outcome.Outcome.{Outcome}
 abbrev pub LooksAtAll : Action → Inputs → Type 0
 LooksAtAll action i = (action ≡ actions.Run) ⊎ (action ≡ actions.Plan) → (path : List ℕ) × Broken i (not_yet path)
 
--- what is asked for, the words, the folder that keys of files stand in, and the one that the root works in
+-- what is asked for, the words, and the configuration
 pub record Asked : Type 0 where
   pub action : Action
   pub words : Positional
-  pub base : Text
-  pub working : Text
+  pub config : Config
 
 abbrev pub asked_of : Action → Positional → Config → Asked
-asked_of action words config = record { action = action; words = words; base = string_bytes config.base; working = string_bytes config.working_directory }
+asked_of action words config = record { action = action; words = words; config = config }
 
--- the words break a rule of what is asked for that the fault names, unless memory ran out; or they break none, and a fault is of no rule
-pub data TellsWords (asked : Asked) (defined : Definitions) (result : Result Outcome Fault) : Type 0 where
-  broken : (fault : WordFault) → result ≡ Err (word_fault fault) → BreaksNamed defined asked.words.arguments asked.action fault → TellsWords asked defined result
-  clear : MeansNamed defined asked.words.arguments asked.action → IfErr result IsOfNoRule → TellsWords asked defined result
+module _ (asked : Asked) (root : Text) (left : Left) (result : Result Outcome Fault) where
+  -- the words break a rule of what is asked for that the fault names, unless memory ran out; or they break none, and a fault is of no rule, and what the words of a run invoke runs
+  pub data TellsWords (w : World) (defined : Definitions) : Type 0 where
+    broken : (fault : WordFault) → result ≡ Err (word_fault fault) → BreaksNamed defined asked.words.arguments asked.action fault → TellsWords w defined
+    clear : MeansNamed defined asked.words.arguments asked.action → IfErr result IsOfNoRule
+        → (asked.action ≡ actions.Run → RunsNamed (configuration_of asked.config root w.expansion) defined asked.words.arguments left result) → TellsWords w defined
 
--- so it is by what the world defines
-pub record TellsDefined (asked : Asked) (result : Result Outcome Fault) (w : World) : Type 0 where
-  pub defined : Definitions
-  pub are : AreDefined w (overrides_of asked.words.overrides) asked.base asked.working defined
-  pub words : TellsWords asked defined result
+  -- so it is by what the world defines
+  pub record TellsDefined (w : World) : Type 0 where
+    pub defined : Definitions
+    pub are : AreDefined w (overrides_of asked.words.overrides) (string_bytes asked.config.base) (string_bytes asked.config.working_directory) defined
+    pub words : TellsWords w defined
 
--- the world breaks a rule of names that the fault names, unless memory ran out; or it breaks none, and so it is of rules of words
-pub data TellsNames (asked : Asked) (result : Result Outcome Fault) (w : World) : Type 0 where
-  broken : (error : NameError) → result ≡ Err (name_fault error) → names.IsNamed w (overrides_of asked.words.overrides) error → TellsNames asked result w
-  clear : names.BreaksNone w (overrides_of asked.words.overrides) → TellsDefined asked result w → TellsNames asked result w
+  -- the world breaks a rule of names that the fault names, unless memory ran out; or it breaks none, and so it is of rules of words
+  pub data TellsNames (w : World) : Type 0 where
+    broken : (error : NameError) → result ≡ Err (name_fault error) → names.IsNamed w (overrides_of asked.words.overrides) error → TellsNames w
+    clear : names.BreaksNone w (overrides_of asked.words.overrides) → TellsDefined w → TellsNames w
 
--- the world breaks a rule of files, modules and definitions that the fault names, unless memory or numbers ran out; or it breaks none, and so it is of rules of names
-pub data TellsSources (asked : Asked) (result : Result Outcome Fault) (w : World) : Type 0 where
-  broken : (error : Error) → result ≡ Err (file_fault error) → BreaksTold error w → TellsSources asked result w
-  clear : BreaksNone w → TellsNames asked result w → TellsSources asked result w
+  -- the world breaks a rule of files, modules and definitions that the fault names, unless memory or numbers ran out; or it breaks none, and so it is of rules of names
+  pub data TellsSources (w : World) : Type 0 where
+    broken : (error : Error) → result ≡ Err (file_fault error) → BreaksTold error w → TellsSources w
+    clear : BreaksNone w → TellsNames w → TellsSources w
 
 -- The root file can't be read, and the fault names why; or it is read, and so it is in each world that the sources stand for.
-pub data AnswersSources (given : Text → Given) (i : Inputs) (asked : Asked) (result : Result Outcome Fault) : Type 0 where
-  unread : (fault : plain_fault.Fault) → result ≡ Err (fault_of fault) → IsTold i (verdict fault) → AnswersSources given i asked result
-  read : (path : List ℕ) → i.root ≡ Some path → ((w : World) → StandsFor (given path) w → TellsSources asked result w) → AnswersSources given i asked result
+pub data AnswersSources (given : Text → Given) (i : Inputs) (asked : Asked) (left : Left) (result : Result Outcome Fault) : Type 0 where
+  unread : (fault : plain_fault.Fault) → result ≡ Err (fault_of fault) → IsTold i (verdict fault) → AnswersSources given i asked left result
+  read : (path : List ℕ) → i.root ≡ Some path → ((w : World) → StandsFor (given path) w → TellsSources asked path left result w) → AnswersSources given i asked left result
 
 -- ---- by places
 
--- the words break a rule of what is asked for that the fault names, unless memory ran out; or they break none, and a fault is of no rule
-pub data TellsPlaced (compilation : Compilation) (analysis : Analysis) (words : List (List ℕ)) (action : Action) (result : Result Outcome Fault) : Type 0 where
-  broken : (fault : WordFault) → result ≡ Err (word_fault fault) → BreaksPlaced compilation analysis words action fault → TellsPlaced compilation analysis words action result
-  clear : MeansPlaced compilation analysis words action → IfErr result IsOfNoRule → TellsPlaced compilation analysis words action result
+-- the words break a rule of what is asked for that the fault names, unless memory ran out; or they break none, and a fault is of no rule, and the calls that the words of a run invoke run
+pub data TellsPlaced (compilation : Compilation) (analysis : Analysis) (asked : Asked) (root : Text) (left : Left) (result : Result Outcome Fault) : Type 0 where
+  broken : (fault : WordFault) → result ≡ Err (word_fault fault) → BreaksPlaced compilation analysis asked.words.arguments asked.action fault → TellsPlaced compilation analysis asked root left result
+  clear : MeansPlaced compilation analysis asked.words.arguments asked.action → IfErr result IsOfNoRule
+      → (asked.action ≡ actions.Run → RunsInvoked compilation analysis asked.config root asked.words.arguments left.before left.behind left.exhausted result) → TellsPlaced compilation analysis asked root left result

@@ -1,6 +1,5 @@
 //! The whole: from texts and words to what is done.
 ghost use Rattle.std.specs.Prelude.{◌≡◌, ◌≤◌, ◌⊎◌, Bool, None, IfErr, length, option_map};
-ghost use Rattle.std.specs.String.{string_bytes};
 ghost use Rattle.just_text.specs.Numbers.{Numbers};
 ghost use Rattle.justfile_syntax.specs.PlainShapes.{shape_of};
 ghost use Rattle.modules_sources.specs.Loaded.{IsRootRead};
@@ -9,7 +8,8 @@ ghost use Rattle.just_value.specs.Constants.{constant_rows};
 ghost use Rattle.just_modules.specs.Worlds.{InEachWorld};
 ghost use Rattle.just_resolve.specs.Rules.{IsResolvable};
 ghost use Rattle.meaning_names.specs.Meant.{IsMeantWhole};
-ghost use Rattle.meaning_worlds.specs.Given.{World};
+ghost use Rattle.meaning_worlds.specs.Given.{Given, World};
+ghost use Rattle.meaning_worlds.specs.Standing.{StandsFor};
 ghost use Rattle.resolve_recipes.specs.Named.{AllByName};
 ghost use Rattle.run_plain.specs.Inputs.{Inputs, inputs_of, reader_of};
 ghost use Rattle.run_plain.specs.Setup.{setup_of};
@@ -29,7 +29,8 @@ ghost use Rattle.just_run.specs.Kinds.{AsksFor, MayAdd};
 ghost use Rattle.run_tasks.specs.Kinds as tasks;
 ghost use Rattle.run_tasks.specs.declared.task.Task.TheVariants as tasks_of;
 ghost use Rattle.run_prepared.specs.Runs.{RunsCalls};
-ghost use Rattle.just_run.specs.Ran.{EndsRun, RunsInvoked};
+ghost use Rattle.just_run.specs.Named.{left_of};
+ghost use Rattle.just_run.specs.Ran.{EndsRun};
 ghost use Rattle.analyze_calls.specs.declared.call.Call.{Call};
 ghost use Rattle.std.specs.Global.{Vec};
 
@@ -91,9 +92,7 @@ fn drive_analysis<'src, H: RunHost + Drop, O: Out>(
     ensures early { IfErr result (λ fault. IsEarly fault host.old (O.written out.old) host.new (O.written out.new)) }
     ensures silent { IsText action → host.new ≡ host.old }
     ensures asks { AsksFor action config.now.dry_run H.goes host.old host.new }
-    ensures words { analysis.now.modules.now ≡ compilation.now.modules.items → AllByName compilation.now → TellsPlaced compilation.now analysis.now words.now.arguments action result }
-    // A run is one of the calls that the words invoke.
-    ensures runs { action ≡ Run → analysis.now.modules.now ≡ compilation.now.modules.items → AllByName compilation.now → RunsInvoked compilation.now analysis.now config.now root.now words.now.arguments host.old.entries host.new.entries host.new.exhausted result }
+    ensures words { analysis.now.modules.now ≡ compilation.now.modules.items → AllByName compilation.now → TellsPlaced compilation.now analysis.now (asked_of action words.now config.now) root.now (left_of host.old host.new) result }
 {
     let words = words.arguments.as_slice();
     let request = request_of(alloc, compilation, analysis, action, words)?;
@@ -139,7 +138,7 @@ fn drive_modules<'src, H: RunHost + Drop, O: Out>(
     ensures early { IfErr result (λ fault. IsEarly fault host.old (O.written out.old) host.new (O.written out.new)) }
     ensures silent { IsText action → host.new ≡ host.old }
     ensures asks { AsksFor action config.now.dry_run H.goes host.old host.new }
-    ensures names { (w : World) → IsResolvable w compilation.now → TellsNames (asked_of action words.now config.now) result w }
+    ensures names { (source : Given) (w : World) → StandsFor source w → IsResolvable w compilation.now → TellsNames (asked_of action words.now config.now) root.now (left_of host.old host.new) result w }
 {
     let overrides = words.overrides.as_slice();
     match Analyzer::analyze(alloc, compilation, config, overrides) {
@@ -191,7 +190,7 @@ fn drive_compilation<'src, H: RunHost + Drop, O: Out>(
     ensures early { IfErr result (λ fault. IsEarly fault host.old (O.written out.old) host.new (O.written out.new)) }
     ensures silent { IsText action → host.new ≡ host.old }
     ensures asks { AsksFor action config.now.dry_run H.goes host.old host.new }
-    ensures names { AllByName compilation.entry → (w : World) → IsMeantWhole w compilation.entry → TellsNames (asked_of action words.now config.now) result w }
+    ensures names { AllByName compilation.entry → (source : Given) (w : World) → StandsFor source w → IsMeantWhole w compilation.entry → TellsNames (asked_of action words.now config.now) root.now (left_of host.old host.new) result w }
 {
     match number_variables(alloc, &mut compilation) {
         Ok(()) => {
@@ -223,7 +222,7 @@ fn drive_files<'src, E: Expander, H: RunHost + Drop, O: Out>(
     ensures early { IfErr result (λ fault. IsEarly fault host.old (O.written out.old) host.new (O.written out.new)) }
     ensures silent { IsText action → host.new ≡ host.old }
     ensures asks { AsksFor action config.now.dry_run H.goes host.old host.new }
-    ensures sources { (start : Numbers) → length constant_rows ≤ start.bindings → IsRootRead sources.now (E.expansion expander.now) config.now.version start path.now parsed.entry → InEachWorld config.now.os config.now.unstable sources.now (E.expansion expander.now) config.now.version path.now (TellsSources (asked_of action words.now config.now) result) }
+    ensures sources { (start : Numbers) → length constant_rows ≤ start.bindings → IsRootRead sources.now (E.expansion expander.now) config.now.version start path.now parsed.entry → InEachWorld config.now.os config.now.unstable sources.now (E.expansion expander.now) config.now.version path.now (TellsSources (asked_of action words.now config.now) path.now (left_of host.old host.new) result) }
 {
     match Compiler::compile_parsed(alloc, config, expander, sources, path, parsed) {
         Ok(compilation) => drive_compilation(
@@ -307,7 +306,7 @@ fn drive_root<'src, E: Expander, H: RunHost + Drop, O: Out>(
     ensures early { (i : Inputs) → i.words ≡ words.now → IsRoot i root.entry.path.now (option_map shape_of root.entry.plain) → IfErr result (λ fault. IsEarly fault host.old (O.written out.old) host.new (O.written out.new)) }
     ensures silent { IsText action → host.new ≡ host.old }
     ensures asks { AsksFor action config.now.dry_run H.goes host.old host.new }
-    ensures sources { ((action ≡ Run) ⊎ (action ≡ Plan) → root.entry.plain ≡ None) → (start : Numbers) → length constant_rows ≤ start.bindings → IsRootRead sources.now (E.expansion expander.now) config.now.version start root.entry.path.now (record { ast = root.entry.file; numerator = root.entry.numerator }) → InEachWorld config.now.os config.now.unstable sources.now (E.expansion expander.now) config.now.version root.entry.path.now (TellsSources (asked_of action words.now config.now) result) }
+    ensures sources { ((action ≡ Run) ⊎ (action ≡ Plan) → root.entry.plain ≡ None) → (start : Numbers) → length constant_rows ≤ start.bindings → IsRootRead sources.now (E.expansion expander.now) config.now.version start root.entry.path.now (record { ast = root.entry.file; numerator = root.entry.numerator }) → InEachWorld config.now.os config.now.unstable sources.now (E.expansion expander.now) config.now.version root.entry.path.now (TellsSources (asked_of action words.now config.now) root.entry.path.now (left_of host.old host.new) result) }
 {
     let Root {
         path,
@@ -353,8 +352,8 @@ fn drive_words<'src, E: Expander, H: RunHost + Drop, O: Out>(
     ensures plain { action ≡ Run → IsPlain (inputs_of (reader_of (E.expansion expander.now) config.now.version) sources.now roots.now words.now) → AnswersPlain H.goes (inputs_of (reader_of (E.expansion expander.now) config.now.version) sources.now roots.now words.now) (setup_of config.now) result host.old host.new }
     // Whatever is asked for: a fault that is none of a run or of the output names a rule that is broken; then nothing was asked, handed over or written.
     ensures early { IfErr result (λ fault. IsEarly fault host.old (O.written out.old) host.new (O.written out.new)) }
-    // Where all files are looked at, the call is refused by a rule of files, modules, definitions, names or words exactly where one is broken.
-    ensures sources { LooksAtAll action (inputs_of (reader_of (E.expansion expander.now) config.now.version) sources.now roots.now words.now) → AnswersSources (given_of sources.now config.now.os config.now.unstable (E.expansion expander.now) config.now.version) (inputs_of (reader_of (E.expansion expander.now) config.now.version) sources.now roots.now words.now) (record { action = action; words = (inputs_of (reader_of (E.expansion expander.now) config.now.version) sources.now roots.now words.now).words; base = string_bytes config.now.base; working = string_bytes config.now.working_directory }) result }
+    // Where all files are looked at, the call is refused by a rule of files, modules, definitions, names or words exactly where one is broken, and else a run goes by what is defined by name.
+    ensures sources { LooksAtAll action (inputs_of (reader_of (E.expansion expander.now) config.now.version) sources.now roots.now words.now) → AnswersSources (given_of sources.now config.now.os config.now.unstable (E.expansion expander.now) config.now.version) (inputs_of (reader_of (E.expansion expander.now) config.now.version) sources.now roots.now words.now) (asked_of action (inputs_of (reader_of (E.expansion expander.now) config.now.version) sources.now roots.now words.now).words config.now) (left_of host.old host.new) result }
     // Where the text of the root file or the list of recipes is asked for, nothing is asked and nothing handed over.
     ensures silent { IsText action → host.new ≡ host.old }
     // Where the call is refused nothing is written, unless the output takes no more, or a run fails whose plan is written.
@@ -403,7 +402,7 @@ pub fn drive<'src, E: Expander, H: RunHost + Drop, O: Out>(
     host: &mut Recorded<H>,
     out: &mut O,
 ) -> Result<Outcome, Fault<'src>>
-    ensures { Drives H.goes (inputs_of (reader_of (E.expansion expander.now) config.now.version) sources.now roots.now words.now) (given_of sources.now config.now.os config.now.unstable (E.expansion expander.now) config.now.version) (setup_of config.now) (string_bytes config.now.base) action (record { host = host.old; written = O.written out.old; failed = O.failed out.old }) result (record { host = host.new; written = O.written out.new; failed = O.failed out.new }) }
+    ensures { Drives H.goes (inputs_of (reader_of (E.expansion expander.now) config.now.version) sources.now roots.now words.now) (given_of sources.now config.now.os config.now.unstable (E.expansion expander.now) config.now.version) config.now action (record { host = host.old; written = O.written out.old; failed = O.failed out.old }) result (record { host = host.new; written = O.written out.new; failed = O.failed out.new }) }
 {
     drive_words(
         alloc,
@@ -436,7 +435,7 @@ pub fn drive_and_leak<'src, E: Expander, H: RunHost + Drop, O: Out>(
     host: &mut Recorded<H>,
     out: &mut O,
 ) -> Result<Outcome, Fault<'src>>
-    ensures { Drives H.goes (inputs_of (reader_of (E.expansion expander.now) config.now.version) sources.now roots.now words.now) (given_of sources.now config.now.os config.now.unstable (E.expansion expander.now) config.now.version) (setup_of config.now) (string_bytes config.now.base) action (record { host = host.old; written = O.written out.old; failed = O.failed out.old }) result (record { host = host.new; written = O.written out.new; failed = O.failed out.new }) }
+    ensures { Drives H.goes (inputs_of (reader_of (E.expansion expander.now) config.now.version) sources.now roots.now words.now) (given_of sources.now config.now.os config.now.unstable (E.expansion expander.now) config.now.version) config.now action (record { host = host.old; written = O.written out.old; failed = O.failed out.old }) result (record { host = host.new; written = O.written out.new; failed = O.failed out.new }) }
 {
     drive_words(
         alloc,

@@ -4,9 +4,7 @@ use Rattle.std.proofs.lemmas.List.Elements.{All-append, All-cons, All-nil, All-r
 use Rattle.std.specs.List.{All}
 use Rattle.tree_items.specs.declared.ast.Item.{Item}
 use Rattle.tree_items.specs.declared.ast.Item.TheVariants.{Newline}
-use Rattle.tree_attribute_sets.specs.declared.attribute_item.AttributeItem.{AttributeItem}
-use Rattle.parse_attributes.specs.Cooked.{IsCookedAttribute}
-use Rattle.parse_attributed_items.specs.Held.{IsItemCooked}
+use Rattle.parse_attributed_items.specs.Held.{IsItemCooked, IsWholeAttribute}
 use Rattle.parse_expressions.specs.Literals.{Origin}
 
 pub none_held : (P : Item → Type 0) (items : List Item) → items ≡ [] → All P items
@@ -16,4 +14,4 @@ pub one_held : (P : Item → Type 0) → P Newline → (items : List Item) (i : 
 one_held P of_blank items i blanks these this = All-append P items (i ∷ replicate blanks Newline) these (All-cons P i (replicate blanks Newline) this (All-replicate P blanks Newline of_blank))
 
 pub blank_cooked : (origin : Origin) → IsItemCooked origin Newline
-blank_cooked origin = record { attributes = All-nil (λ (item : AttributeItem). IsCookedAttribute origin item.attribute); inside = tt }
+blank_cooked origin = record { attributes = All-nil (IsWholeAttribute origin); inside = tt }

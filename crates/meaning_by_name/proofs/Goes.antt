@@ -53,7 +53,7 @@ module _ (first second : Reading) where
   at_value G next k old new r (Err fault) go on stop h = stop fault (h.0, refl) h.1
 
   -- where one after another leads, the first leads to a value from which the other goes on, or to a fault
-  parted : {A B : Type 0} (G : Type 0) (t : Dialogue A) (k : A → Dialogue B) (old new : List Entry) (r : Result B Fault)
+  pub parted : {A B : Type 0} (G : Type 0) (t : Dialogue A) (k : A → Dialogue B) (old new : List Entry) (r : Result B Fault)
       → ((a : A) (mid : List Entry) → DialogueGoes first t old mid (Ok a) → DialogueGoes first (k a) mid new r → G) → ((fault : Fault) → DialogueGoes first t old new (Err fault) → r ≡ Err fault → G)
       → DialogueGoes first (t >>= k) old new r → G
   parted G (Ends (Ok a)) k old new r on stop h = on a old (refl, refl) h

@@ -130,7 +130,9 @@ module _ (w : World) (compilation : Compilation) (is : IsResolvable w compilatio
 -- the definitions of an analysis are those of the world, and words mean by them what they mean by places
 pub analyses_are_defined : AnalysesAreDefined
 analyses_are_defined w compilation is given base analysis known working words = record {
+  settled = settled w compilation is given base analysis known working;
   defined = defined w compilation is given base analysis known working;
+  is = refl;
   are = are_defined w compilation is given base analysis known working;
   breaks = breaks_named compilation analysis (defined w compilation is given base analysis known working) words (menus_are w compilation is given base analysis known working words) (target_is w compilation is given base analysis known working);
   means = means_named compilation analysis (defined w compilation is given base analysis known working) words (menus_are w compilation is given base analysis known working words) (target_is w compilation is given base analysis known working);

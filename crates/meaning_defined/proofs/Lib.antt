@@ -1,2 +1,3 @@
 mod Worded
+pub mod Calls
 pub mod Defined

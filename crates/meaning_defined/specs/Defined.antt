@@ -1,5 +1,5 @@
 -- What is known of a resolved justfile by places is what its world defines by paths and names.
-use Rattle.std.specs.Prelude.{ℕ, List, map}
+use Rattle.std.specs.Prelude.{◌≡◌, ℕ, List, map}
 use Rattle.analyze_calls.specs.Calls.{CallRow}
 use Rattle.analyze_words.specs.declared.fault.WordFault.{WordFault}
 use Rattle.just_value.specs.declared.positional.Override.{Override}
@@ -7,7 +7,9 @@ use Rattle.modules_compilation.specs.declared.compilation.Compilation.{Compilati
 use Rattle.resolve_analysis.specs.declared.analysis.Analysis.{Analysis}
 use Rattle.just_resolve.specs.Analysis.{IsAnalysis}
 use Rattle.just_resolve.specs.Rules.{IsResolvable}
-use Rattle.meaning_worlds.specs.Given.{Overrides, Text, World}
+use Rattle.meaning_worlds.specs.Given.{Text, World}
+use Rattle.meaning_resolved.specs.Definitions.{definitions_of}
+use Rattle.meaning_settings.specs.Settled.{AllSettle}
 use Rattle.meaning_overriding.specs.Texts.{overrides_of}
 use Rattle.meaning_runs.specs.Invokes.{Invoke}
 use Rattle.meaning_calls.specs.Named.{Definitions, RecipeName}
@@ -22,9 +24,11 @@ abbrev pub named_call : Compilation → Analysis → CallRow → RecipeName × L
 named_call compilation analysis call = (name_at compilation analysis.table.value call.recipe, call.groups)
 
 -- there is what the world defines, by which words mean what they mean by places, and invoke the same calls
-pub record IsDefinedBy (w : World) (compilation : Compilation) (o : Overrides) (base working : Text) (analysis : Analysis) (words : List Text) : Type 0 where
+pub record IsDefinedBy (w : World) (compilation : Compilation) (given : List Override) (base working : Text) (analysis : Analysis) (words : List Text) : Type 0 where
+  pub settled : AllSettle w (overrides_of given) compilation analysis.values.value.settings.items
   pub defined : Definitions
-  pub are : AreDefined w o base working defined
+  pub is : defined ≡ definitions_of compilation w.expansion (overrides_of given) settled.settle base working
+  pub are : AreDefined w (overrides_of given) base working defined
   pub breaks : (action : Action) (fault : WordFault) → BreaksPlaced compilation analysis words action fault → BreaksNamed defined words action fault
   pub means : (action : Action) → MeansPlaced compilation analysis words action → MeansNamed defined words action
   pub invokes : (calls : List CallRow) → InvokesAt compilation analysis.table.value analysis.values.value.settings.items words calls → Invoke (menu_of defined) words (map (named_call compilation analysis) calls)
@@ -32,4 +36,4 @@ pub record IsDefinedBy (w : World) (compilation : Compilation) (o : Overrides) (
 -- so it is of each analysis of a justfile, in each world that the justfile stands for
 abbrev pub AnalysesAreDefined : Type 0
 AnalysesAreDefined = (w : World) (compilation : Compilation) → IsResolvable w compilation → (given : List Override) (base : Text) (analysis : Analysis) → IsAnalysis compilation base given analysis
-    → (working : Text) (words : List Text) → IsDefinedBy w compilation (overrides_of given) base working analysis words
+    → (working : Text) (words : List Text) → IsDefinedBy w compilation given base working analysis words

@@ -1,7 +1,7 @@
-//! Laws on the parameters of functions and of recipes.
+//! Laws on the parameters of functions and of recipes, and on the attributes of recipes.
 ghost use Rattle.meaning_distinct.specs.Distinct.{CompilationsAreApart, FilesAreApart, WorldsAreApart};
 
-/// The parameters of each function and of each recipe have different names, and only a recipe's last parameter takes all values that remain.
+/// The parameters of each function and of each recipe have different names, only a recipe's last parameter takes all values that remain, and no attribute stands twice before a recipe that may stand once.
 pub fn parameters_differ()
     // So it is of the items that a text says.
     ensures files { FilesAreApart }

@@ -1,23 +1,34 @@
 -- All modules open by names where they open by their places, and so they are open alike.
-use Rattle.std.proofs.Common.{◌≡◌, inl, inr, refl, sym, ◌∙◌, ap, subst, Bool, true, false, if◌then◌else◌, nat_eq, List, [], ◌∷◌, map, length, Option, Some, None, Result, Ok, Err, ℕ, zero, suc, ◌+◌, ◌<◌, arith}
-use Rattle.std.specs.Prelude.{Contains, slice_get}
+use Rattle.std.proofs.Common.{◌≡◌, ◌⊎◌, inl, inr, refl, sym, ◌∙◌, ap, subst, Bool, true, false, if◌then◌else◌, nat_eq, List, [], ◌∷◌, map, length, Option, Some, None, Result, Ok, Err, ℕ, zero, suc, ◌+◌, ◌<◌, arith}
+use Rattle.std.specs.Prelude.{Contains, IsSome, slice_get}
+use Rattle.std.specs.List.{All}
+use Rattle.std.specs.Borrow.{Bor}
+use Rattle.std.specs.BTreeSet.{BTreeSet}
+use Rattle.std.specs.Option.{option_map}
 use Rattle.std.specs.String.{string_bytes}
 use Rattle.std.proofs.lemmas.Bool.Decides.{Decides-eqb}
+use Rattle.std.proofs.lemmas.List.Elements.{All-cons, All-nil}
 use Rattle.std.proofs.lemmas.Option.{none-some, same_Some, slice_get_within}
 use Rattle.just_host.specs.declared.entry.Entry.{Entry}
-use Rattle.just_value.specs.Frames.{Frames}
+use Rattle.just_value.specs.Frames.{BoundRow, ByNumber, Frames, look_up}
 use Rattle.just_value.specs.declared.positional.Override.{Override}
+use Rattle.evaluate_context.specs.declared.context.AssignmentRef.{AssignmentRef}
 use Rattle.evaluate_context.specs.declared.context.ExecutionContext.{ExecutionContext}
 use Rattle.evaluate_context.specs.declared.context.ModuleView.{ModuleView}
+use Rattle.evaluate_variables.specs.Opened.{reads}
 use Rattle.modules_compilation.specs.Modulepaths.{path_in}
 use Rattle.modules_compilation.specs.declared.compilation.Compilation.{Compilation}
+use Rattle.resolve_analysis.specs.Opening.{Runs}
 use Rattle.resolve_analysis.specs.Views.{seen}
 use Rattle.resolve_analysis.specs.declared.analysis.Analysis.{Analysis}
+use Rattle.resolve_analysis.specs.declared.module_lists.ModuleLists.{ModuleLists}
+use Rattle.resolve_analysis.specs.declared.module_reads.ModuleReads.{ModuleReads}
+use Rattle.resolve_analysis.specs.declared.recipes.ResolvedRecipe.{ResolvedRecipe}
 use Rattle.analyze_calls.specs.Opening as placed
-use Rattle.analyze_calls.specs.Opening.{OpenedRow}
+use Rattle.analyze_calls.specs.Opening.{OpenedRow, is_wanted}
 use Rattle.analyze_calls.specs.declared.opening.Opening.{Opening as Opens}
 use Rattle.run_prepared.specs.Order.{opening_from}
-use Rattle.run_prepared.specs.Wanted.{called_by}
+use Rattle.run_prepared.specs.Wanted.{IsWanted, called_by}
 use Rattle.run_tasks.specs.Opened.{AreContexts, IsContextAt, last_opened}
 use Rattle.run_tasks.specs.Opened as contexts_of
 use Rattle.run_tasks.specs.declared.task.Task.{Task}
@@ -31,19 +42,23 @@ use Rattle.meaning_names.proofs.Found.{there_within}
 use Rattle.meaning_overriding.specs.Texts.{overrides_of}
 use Rattle.meaning_calls.specs.Named.{Definitions, RecipeName, VariableName, paths_of}
 use Rattle.meaning_calls.specs.Scopes.{Configuration}
-use Rattle.just_meaning.specs.Opening.{IsOpened, Opened, OpensAll, OpensOne}
+use Rattle.just_meaning.specs.Opening.{Held, IsOpened, Opened, OpensAll, OpensOne}
 use Rattle.just_meaning.specs.Opening as named
 use Rattle.meaning_menus.specs.Named.{name_at}
 use Rattle.meaning_resolved.specs.Definitions.{all_modules, definitions_of}
 use Rattle.meaning_resolved.proofs.Own.{has_own_path}
 use Rattle.meaning_settings.specs.Settled.{AllSettle}
 use Rattle.meaning_grounds.specs.Alike.{AreOpenAlike, IsOpenAlike, configuration_of}
-use Rattle.meaning_opened.specs.Opened.{IsTaskOf, OpenByNames}
+use Rattle.meaning_views.specs.Known.{IsSeenAt}
+use Rattle.meaning_views.specs.Read.{AreReadFrom}
+use Rattle.meaning_views.proofs.Evaluated.{running_are_read}
+use Rattle.meaning_views.specs.Recipes.{AreBoundIn, IsConstantOrRead}
+use Rattle.meaning_opened.specs.Opened.{AreReady, IsTaskOf, OpenByNames}
 use Rattle.meaning_opened.proofs.Opening.{defined_by}
 use Rattle.meaning_opened.proofs.Opens.{IsOpenedSo, MayOpen, opens_one, viewed}
 use Rattle.meaning_opened.proofs.Order.{AreOnce, IsOpeningOrder, one_index, opening_order_is}
-use Rattle.meaning_opened.proofs.Requests.{listed_in, view_parts}
-use Rattle.meaning_opened.proofs.Values.{HoldAlike}
+use Rattle.meaning_opened.proofs.Requests.{IsViewOf, listed_in, view_parts}
+use Rattle.meaning_opened.proofs.Values.{HoldAlike, held_there, name_of}
 use Rattle.meaning_opened.proofs.Views.{view_exists, views_many}
 
 module _ (w : World) (compilation : Compilation) (given : List Override) (base : Text) (analysis : Analysis) (settled : AllSettle w (overrides_of given) compilation analysis.values.value.settings.items)
@@ -141,6 +156,20 @@ module _ (w : World) (compilation : Compilation) (given : List Override) (base :
   so_at none_so i o e = absurd (none-some o e)
   so_at (one_so {k = m} {o = first} p rest) zero o e = (m, refl, subst (λ (x : Opened). x.path ≡ path_of m) (same_Some first o e) p.so.path_is, p.has)
   so_at (one_so p rest) (suc i) o e = so_at rest i o e
+
+  -- variables are wanted that recipes read which run
+  wanted_read : (place : ℕ) (recipe : ResolvedRecipe) → slice_get analysis.table.value.recipes.items place ≡ Some recipe
+      → Runs analysis.table.value.recipes.items context.config.now.no_dependencies (called_by task) place
+      → (lists : ModuleLists) (home : ModuleReads) → slice_get analysis.variables.lists.items recipe.module ≡ Some lists → slice_get analysis.variables.reads.items recipe.module ≡ Some home
+      → AreReadFrom lists home recipe.reads.items (reads context.wanted)
+  wanted_read place recipe at runs lists home kept known = by_wanted context.wanted t.prepared.wanted_are
+    where
+      by_wanted : (wanted : Option (Bor (BTreeSet ℕ))) → IsWanted analysis.variables analysis.table.value.recipes.items analysis.values.value.settings.items task context.config.now.no_dependencies (option_map (λ numbers. numbers.now) wanted)
+          → AreReadFrom lists home recipe.reads.items (reads wanted)
+      by_wanted None h = record { variable = λ p number c e. refl; function = λ p other number c le chain e. refl }
+      by_wanted (Some numbers) h =
+          running_are_read analysis.values.value.overrides compilation analysis.variables t.known.is_known.variables_are analysis.table.value.recipes.items analysis.values.value.settings.items (called_by task) context.config.now.no_dependencies
+          (reads (Some numbers)) h.1 place recipe at runs lists home kept known
 
   -- ---- contexts
 
@@ -249,6 +278,91 @@ module _ (w : World) (compilation : Compilation) (given : List Override) (base :
       apart = one_opened;
     }
 
+    -- ---- what a run rests on besides
+
+    -- the context at a place is of what was opened there
+    record IsHere (k : ℕ) (here : ExecutionContext) : Type 0 where
+      pub row : OpenedRow
+      pub o : Opened
+      pub among : Contains os o
+      pub is : IsPlacedSo k row o
+      pub context_is : IsContextAt context is.view row here
+
+    here_at : (k : ℕ) (here : ExecutionContext) → slice_get contexts k ≡ Some here → IsHere k here
+    here_at k here e =
+        let c = context_at are all_open k here e in
+        let l = last_there so once k (all k (here_within k c.view c.at)) None in
+        let same : 0 + k ≡ k = omega arith in
+        let row_is : c.row ≡ l.row = same_Some c.row l.row (sym c.last ∙ ap (λ p. last_opened p None rows) same ∙ l.last) in
+        let view_is : l.is.view ≡ c.view = same_Some l.is.view c.view (sym l.is.at ∙ c.at) in
+        record {
+          row = l.row;
+          o = l.o;
+          among = l.among;
+          is = l.is;
+          context_is = subst (λ view. IsContextAt context view l.row here) (sym view_is) (subst (λ row. IsContextAt context c.view row here) row_is c.is);
+        }
+
+    sorted_at : (k : ℕ) (here : ExecutionContext) → slice_get contexts k ≡ Some here → (frame : List BoundRow) → Contains (here.scope.now.own ∷ here.scope.now.outer) frame → ByNumber frame
+    sorted_at k here e frame c = by_frame (contains_cases h.row.frames.own h.row.frames.outer frame (subst (λ (f : Frames). Contains (f.own ∷ f.outer) frame) h.context_is.scope c))
+      where
+        h : IsHere k here
+        h = here_at k here e
+
+        by_constants : (opens.constants.now.own ≡ frame) ⊎ Contains [] frame → ByNumber frame
+        by_constants (inl same) = subst ByNumber same t.opens_are.sorted
+        by_constants (inr later) = absurd (contains_none [] frame refl later)
+
+        by_frame : (h.row.frames.own ≡ frame) ⊎ Contains h.row.frames.outer frame → ByNumber frame
+        by_frame (inl same) = subst ByNumber same h.is.so.sorted
+        by_frame (inr later) = by_constants (contains_cases opens.constants.now.own [] frame (subst (λ frames. Contains frames frame) h.is.so.outer later))
+
+    -- what the view has of its lists
+    abbrev parts_of : (k : ℕ) (row : OpenedRow) (o : Opened) (p : IsPlacedSo k row o) → IsViewOf compilation.modules.items analysis.variables analysis.values.value k (seen p.view)
+    parts_of k row o p =
+        view_parts compilation.modules.items analysis.variables analysis.values.value k (seen p.view) (viewed w compilation given base analysis settled task context modules opens t k p.view p.at (path_of k) p.has)
+
+    held_of : (k : ℕ) (here : ExecutionContext) → slice_get contexts k ≡ Some here → (o : Opened) → Contains os o → (alike : IsOpenAlike compilation analysis k here o) → (held : Held) → Contains o.values held
+        → (lent : AssignmentRef) × Contains alike.lists.assignments.items lent × (name_of lent ≡ held.name)
+    held_of k here e o among alike held c =
+        let h = here_at k here e in
+        let one : o ≡ h.o = one_opened o h.o among h.among (alike.path ∙ sym h.is.so.path_is) in
+        let there = held_there h.o.values held (subst (λ (x : Opened). Contains x.values held) one c) in
+        let only = h.is.so.alike.only held.name there.0 there.1 in
+        let parts = parts_of k h.row h.o h.is in
+        let lists : parts.lists ≡ alike.lists = same_Some parts.lists alike.lists (sym parts.kept ∙ alike.kept) in
+        let listed : h.is.view.assignments.now ≡ parts.lists.assignments.items = listed_in compilation.modules.items analysis.variables analysis.values.value k (seen h.is.view) parts in
+        (only.0, subst (λ (l : ModuleLists). Contains l.assignments.items only.0) lists (subst (λ items. Contains items only.0) listed only.1), only.2)
+
+    configured_from : {place : ℕ} {list : List ModuleView} {others : List ExecutionContext} → AreContexts context rows place list others
+        → All (λ (here : ExecutionContext). (here.config.now ≡ context.config.now) × (here.root.now ≡ context.root.now)) others
+    configured_from contexts_of.none_left = All-nil (λ (here : ExecutionContext). (here.config.now ≡ context.config.now) × (here.root.now ≡ context.root.now))
+    configured_from (contexts_of.closed none rest) = configured_from rest
+    configured_from (contexts_of.one_more {here} {contexts = others} last is rest) =
+        All-cons (λ (here : ExecutionContext). (here.config.now ≡ context.config.now) × (here.root.now ≡ context.root.now)) here others (is.config, is.root) (configured_from rest)
+
+    -- what is wanted of all modules is wanted of each
+    wanted_here : (view : ModuleView) (number : ℕ) → reads context.wanted number ≡ true → is_wanted opens view number ≡ true
+    wanted_here view number e = by_lazy view.settings.now.lazy
+      where
+        by_lazy : (b : Bool) → reads (if b then opens.wanted else None) number ≡ true
+        by_lazy true = ap (λ wanted. reads wanted number) t.opens_are.wanted ∙ e
+        by_lazy false = refl
+
+    bound_at : (k : ℕ) (here : ExecutionContext) → slice_get contexts k ≡ Some here → (known : IsSeenAt analysis.variables k here) → AreBoundIn (IsConstantOrRead known.lists (reads context.wanted)) here.scope.now
+    bound_at k here e known number n =
+        let h = here_at k here e in
+        let parts = parts_of k h.row h.o h.is in
+        let lists : known.lists ≡ parts.lists = same_Some known.lists parts.lists (sym known.lists_there ∙ parts.kept) in
+        subst (λ (f : Frames). IsSome (look_up f number)) (sym h.context_is.scope) (h.is.so.bound number (wider h.is.view parts.lists (subst (λ l. IsConstantOrRead l (reads context.wanted) number) lists n)))
+      where
+        wider : (view : ModuleView) (l : ModuleLists) → IsConstantOrRead l (reads context.wanted) number → IsConstantOrRead l (is_wanted opens view) number
+        wider view l (inl constant) = inl constant
+        wider view l (inr v) = inr (record { place = v.place; here = v.here; read = wanted_here view number v.read })
+
+    pub ready : AreReady w compilation given base analysis settled task context contexts os
+    ready = record { sorted = sorted_at; held_only = held_of; configured = configured_from are; read = wanted_read; bound = bound_at }
+
   -- ---- the whole
 
   -- what is defined where keys stand in this folder
@@ -267,7 +381,7 @@ module _ (w : World) (compilation : Compilation) (given : List Override) (base :
   open_by_names may old new = record {
     opened = λ rows o.
         let a = opens_all Open may order.within o in
-        (a.0, named_so (Ok a.0) a.1, λ contexts are. open_alike context.opening_order.now order.once order.all rows a.0 a.2 contexts are);
+        (a.0, named_so (Ok a.0) a.1, λ contexts are. (open_alike context.opening_order.now order.once order.all rows a.0 a.2 contexts are, ready context.opening_order.now order.once order.all rows a.0 a.2 contexts are));
     refused = λ failure enough o. named_so (Err failure) (opens_all Open may order.within o);
   }
     where

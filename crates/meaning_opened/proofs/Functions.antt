@@ -69,10 +69,10 @@ use Rattle.meaning_by_name.specs.Variables.{AreDistinct}
 use Rattle.meaning_by_name.proofs.Frames.{apart, same_value}
 use Rattle.meaning_grounds.specs.Alike.{IsRowOf}
 use Rattle.meaning_views.proofs.Terms.{IsSo, each_so}
-use Rattle.meaning_opened.specs.Opened.{HaveOwnParameters}
 use Rattle.meaning_opened.proofs.Module as kept
 use Rattle.meaning_opened.proofs.Reading.{bound_number, gives_alike, numbered, pairs}
 use Rattle.meaning_opened.proofs.Values.{HoldAlike, name_of, number_of}
+use Rattle.meaning_opened.proofs.Written.{HaveOwnParameters}
 
 -- ---- numbers of parameters
 
@@ -215,7 +215,7 @@ module _ (w : World) (compilation : Compilation) (n : IsNumberedWorld w compilat
         name_at = ap (λ l. slice_get l i) (names_map ps) ∙ mapped text_of ps i p e ∙ ap Some named
 
         position : numbered_in names name ≡ Some i
-        position = position_at name names i name_at (λ j g. own_parameters place f there i j name name_at g)
+        position = position_at name names i name_at (λ j g. own_parameters k node here place from to f there i j name name_at g)
 
         in_numbers : (qs : List (Name × ℕ)) (j : ℕ) (q : Name × ℕ) → slice_get qs j ≡ Some q → q.1 ≡ m → IsIn m (map (λ r. r.1) qs)
         in_numbers [] j q e same = absurd (none-some q e)

@@ -57,7 +57,7 @@ use Rattle.meaning_settings.specs.Settled.{AllSettle}
 use Rattle.meaning_menus.specs.Named.{name_at}
 use Rattle.meaning_views.specs.Read.{AreEvaluated, AreReadFrom}
 use Rattle.meaning_views.proofs.Evaluated.{evaluated_are_closed, opened_here, running_are_read}
-use Rattle.meaning_opened.specs.Opened.{AttributesStandOnce, IsTaskOf}
+use Rattle.meaning_opened.specs.Opened.{IsTaskOf}
 use Rattle.meaning_opened.proofs.Back.{reads_by_name}
 use Rattle.meaning_opened.proofs.Graphs.{defines, reads_by_place}
 use Rattle.meaning_opened.proofs.Module as kept
@@ -70,6 +70,7 @@ use Rattle.meaning_opened.proofs.Read as recipes
 use Rattle.meaning_opened.proofs.Requests.{HasRow, IsViewOf, settings_in}
 use Rattle.meaning_opened.proofs.Values.{name_of, number_of}
 use Rattle.meaning_opened.proofs.Views.{kept_here, lists_many}
+use Rattle.meaning_opened.proofs.Written.{AttributesStandOnce}
 
 any_true : {X : Type 0} (test : X → Bool) (xs : List X) (x : X) → Contains xs x → test x ≡ true → list_any test xs ≡ true
 any_true test [] x c e = absurd (contains_none [] x refl c)

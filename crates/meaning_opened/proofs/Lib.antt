@@ -5,6 +5,7 @@ pub mod Sides
 pub mod Values
 pub mod Pairs
 pub mod Places
+pub mod Written
 pub mod Reading
 pub mod Known
 pub mod Orders

@@ -1,6 +1,7 @@
 -- One module opens by names where it opens by its place, and so do all.
-use Rattle.std.proofs.Common.{◌≡◌, refl, sym, ◌∙◌, ap, subst, List, [], ◌∷◌, map, Option, Some, None, Result, Ok, Err, ℕ}
+use Rattle.std.proofs.Common.{◌≡◌, Bool, refl, sym, ◌∙◌, ap, subst, List, [], ◌∷◌, map, Option, Some, None, Result, Ok, Err, ℕ}
 use Rattle.std.specs.Prelude.{slice_get}
+use Rattle.std.specs.List.Sorted.{IsStrictlySortedBy}
 use Rattle.std.specs.Option.{option_map}
 use Rattle.std.specs.String.{string_bytes}
 use Rattle.std.proofs.lemmas.Option.{same_Some}
@@ -14,7 +15,7 @@ use Rattle.evaluate_context.specs.Surroundings.{by_name}
 use Rattle.evaluate_context.specs.declared.context.ExecutionContext.{ExecutionContext}
 use Rattle.evaluate_context.specs.declared.context.ModuleView.{ModuleView}
 use Rattle.evaluate_variables.specs.Known.{VariablesKnown}
-use Rattle.evaluate_variables.specs.Opened.{OpensInside, ordered}
+use Rattle.evaluate_variables.specs.Opened.{OpensInside, framed, ordered}
 use Rattle.modules_compilation.specs.declared.compilation.Compilation.{Compilation}
 use Rattle.modules_compilation.specs.declared.module_node.ModuleNode.{ModuleNode}
 use Rattle.resolve_analysis.specs.Views.{seen, view_at}
@@ -26,7 +27,11 @@ use Rattle.analyze_calls.specs.declared.opening.Opening.{Opening as Opens}
 use Rattle.run_prepared.specs.Wanted.{IsWanted}
 use Rattle.run_tasks.specs.declared.task.Task.{Task}
 use Rattle.run_tasks.specs.declared.task.TaskContext.{TaskContext}
+use Rattle.meaning_dialogues.specs.Dialogue.{Reading}
+use Rattle.meaning_dialogues.specs.Evaluation.{Stage}
 use Rattle.meaning_dialogues.specs.Faults.{Fault}
+use Rattle.meaning_stages.specs.Assigned.{Assigned, Assigns, all, skipped}
+use Rattle.meaning_stages.specs.Assigned as assigns
 use Rattle.meaning_opening.specs.Requests.{OpeningFailure, Requests}
 use Rattle.meaning_worlds.specs.Given.{Text, World}
 use Rattle.meaning_worlds.specs.Compiled.{HasPath}
@@ -38,6 +43,8 @@ use Rattle.just_meaning.specs.Opening.{Fills, IsOrder, Opened, OpensAll, OpensOn
 use Rattle.just_meaning.specs.Opening as named
 use Rattle.meaning_settings.specs.Settled.{AllSettle}
 use Rattle.meaning_views.specs.Known.{IsSeenAt}
+use Rattle.meaning_views.specs.Recipes.{AreBoundIn, IsConstantOrRead}
+use Rattle.meaning_views.proofs.Opened.{opened_are_bound}
 use Rattle.meaning_grounds.specs.Alike.{configuration_of}
 use Rattle.meaning_opened.specs.Opened.{IsTaskOf}
 use Rattle.meaning_opened.proofs.Filled.{read_names}
@@ -46,6 +53,19 @@ use Rattle.meaning_opened.proofs.Requests.{HasRow, functions_in, has_row, listed
 use Rattle.meaning_opened.proofs.Values.{HoldAlike}
 use Rattle.meaning_opened.proofs.Views.{folders_are, view_there}
 use Rattle.meaning_opened.proofs.Wanted.{names_known}
+
+-- an empty frame is sorted
+none_sorted : ByNumber []
+unfolding IsStrictlySortedBy
+none_sorted = tt
+
+-- frames stay sorted as variables are assigned
+assigned_sorted : {outer : List (List BoundRow)} {stage_with : List BoundRow → Stage} {reading_with : List BoundRow → Reading} {export : Bool} {overrides : ℕ → Option (List ℕ)} {is_read : ℕ → Bool}
+    {variables : List Assigned} {own last : List BoundRow} {old new : List Entry} {fault : Option Fault} → Assigns outer stage_with reading_with export overrides is_read variables own old last new fault → ByNumber own → ByNumber last
+assigned_sorted all sorted = sorted
+assigned_sorted (skipped reason rest) sorted = assigned_sorted rest sorted
+assigned_sorted (assigns.opened value read none goes rebinds next_sorted rest) sorted = assigned_sorted rest next_sorted
+assigned_sorted (assigns.refused read none goes) sorted = sorted
 
 module _ (w : World) (compilation : Compilation) (given : List Override) (base : Text) (analysis : Analysis) (settled : AllSettle w (overrides_of given) compilation analysis.values.value.settings.items)
     (task : Task) (context : TaskContext) (modules : List ModuleView) (opens : Opens) (t : IsTaskOf w compilation given base analysis settled task context modules opens) where
@@ -137,6 +157,16 @@ module _ (w : World) (compilation : Compilation) (given : List Override) (base :
           (subst (λ (m : ModuleView). Family here.config.now here.root.now m own old new fault) is.module_is
           (module_in_context w compilation t.resolvable.numbered given base analysis t.known settled k path has pairs (is_wanted opens view) here ready agree own old new fault inside)))
 
+      -- the constants are bound, and the variables that are read
+      bound_inside : (own : List BoundRow) (old new : List Entry) → OpensInside here (is_wanted opens view) old own new None
+          → AreBoundIn (IsConstantOrRead (view_parts compilation.modules.items analysis.variables analysis.values.value k (seen view) viewed).lists (is_wanted opens view)) (framed (opens.constants.now.own ∷ opens.constants.now.outer) own)
+      unfolding seen_in_context
+      bound_inside own old new inside =
+          subst
+          (λ (frames : Frames). AreBoundIn (IsConstantOrRead (view_parts compilation.modules.items analysis.variables analysis.values.value k (seen view) viewed).lists (is_wanted opens view)) (framed (frames.own ∷ frames.outer) own)) is.scope
+          (opened_are_bound analysis.values.value.overrides compilation analysis.variables t.known.is_known.variables_are k here (seen_in_context here is.module_is) language (is_wanted opens view) old new
+          (framed (here.scope.now.own ∷ here.scope.now.outer) own) (refl, inside))
+
     -- ---- the module opens
 
     -- what was opened by its place was opened by names
@@ -146,6 +176,8 @@ module _ (w : World) (compilation : Compilation) (given : List Override) (base :
       pub pairs : row.pairs ≡ by_name o.pairs
       pub outer : row.frames.outer ≡ opens.constants.now.own ∷ []
       pub alike : HoldAlike view.assignments.now view.settings.now.export row.frames.own o.values
+      pub sorted : ByNumber row.frames.own
+      pub bound : AreBoundIn (IsConstantOrRead (view_parts compilation.modules.items analysis.variables analysis.values.value k (seen view) viewed).lists (is_wanted opens view)) row.frames
 
     module _ (Open : VariableName → Type 0) where
       abbrev pub OneByName : List Entry → List Entry → Result OpenedRow OpeningFailure → Type 0
@@ -177,6 +209,8 @@ module _ (w : World) (compilation : Compilation) (given : List Override) (base :
                 pairs = refl;
                 outer = ap (λ rest. opens.constants.now.own ∷ rest) t.opens_are.alone;
                 alike = e.alike;
+                sorted = assigned_sorted inside none_sorted;
+                bound = bound_inside pairs here is own mid new inside;
               },
             )
         opens_one {old} {new} (placed.unfilled {mid} {pairs} {fault} here q is left) =

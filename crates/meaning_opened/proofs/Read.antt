@@ -2,7 +2,7 @@
 use Rattle.std.proofs.Common.{◌≡◌, ◌⊎◌, inl, inr, refl, sym, ◌∙◌, ap, subst, List, length, Option, Some, None, Ok, ℕ, ◌+◌, ◌≤◌, ◌<◌, ◌^◌, arith}
 use Rattle.std.specs.Prelude.{Contains, slice_get}
 use Rattle.std.proofs.lemmas.List.{length-map}
-use Rattle.std.proofs.lemmas.Option.{none-some, same_Some, slice_get_within}
+use Rattle.std.proofs.lemmas.Option.{same_Some, slice_get_within}
 use Rattle.just_text.specs.Tokens.{lexeme}
 use Rattle.just_value.specs.declared.positional.Override.{Override}
 use Rattle.tree_attributes.specs.Attributes.{AttributeShape}
@@ -16,8 +16,6 @@ use Rattle.tree_items.specs.declared.ast.Item.{Item}
 use Rattle.tree_items.specs.declared.ast.Item.TheVariants as items
 use Rattle.tree_items.specs.declared.item.Binding.{Binding}
 use Rattle.tree_items.specs.declared.item.FunctionDefinition.{FunctionDefinition}
-use Rattle.tree_items.specs.declared.recipe.Recipe.{Recipe}
-use Rattle.tree_items.specs.declared.recipe.UnresolvedDependency.{UnresolvedDependency}
 use Rattle.parse_attributed_items.specs.Fitting.{repeated}
 use Rattle.evaluate_context.specs.declared.context.AssignmentRef.{AssignmentRef}
 use Rattle.modules_compilation.specs.Modulepaths.{path_in}
@@ -29,8 +27,7 @@ use Rattle.resolve_references.specs.ItemReferences.{references_of_recipe}
 use Rattle.resolve_references.specs.Places.{places_of}
 use Rattle.resolve_references.specs.Seen.{Seen, seen_in}
 use Rattle.resolve_references.specs.declared.references.Reference.{Reference}
-use Rattle.resolve_recipes.specs.Nodes.{Kept, all_kept, recipe_at}
-use Rattle.resolve_recipes.specs.Nodes as kept_nodes
+use Rattle.resolve_recipes.specs.Nodes.{Kept, all_kept}
 use Rattle.resolve_analysis.specs.Lists.{kept_by, variables_at, variables_in}
 use Rattle.resolve_analysis.specs.Reads.{IsResolverOf}
 use Rattle.resolve_analysis.specs.declared.module_reads.ModuleReads.{ModuleReads}
@@ -66,7 +63,6 @@ use Rattle.just_meaning.specs.Reading.{ReadsIn, RecipeReads, expressions_in}
 use Rattle.meaning_resolved.specs.Definitions.{functions_at, recipe_named}
 use Rattle.meaning_menus.specs.Named.{name_at}
 use Rattle.meaning_menus.proofs.Slots.{in_order_already}
-use Rattle.meaning_opened.specs.Opened.{AttributesStandOnce}
 use Rattle.meaning_opened.proofs.Back.{IsRead, called_read, many as many_variables, name_there, named_read, read_named}
 use Rattle.meaning_opened.proofs.Graphs.{part_reads}
 use Rattle.meaning_opened.proofs.Module as kept_at
@@ -74,24 +70,7 @@ use Rattle.meaning_opened.proofs.Ranked.{called_so, home_is, meant, own_name, r,
 use Rattle.meaning_opened.proofs.Reached.{row_at, row_there}
 use Rattle.meaning_opened.proofs.Recipes.{expressions, from_parts, to_parts}
 use Rattle.meaning_opened.proofs.Values.{name_of}
-
--- ---- recipes of items
-
-recipe_back : (item : Item) (q : Recipe UnresolvedDependency) → kept_nodes.recipe_of (Some item) ≡ Some q → item ≡ items.Recipe q
-recipe_back (items.Alias x) q e = absurd (none-some q e)
-recipe_back (items.Assignment x) q e = absurd (none-some q e)
-recipe_back (items.Comment x) q e = absurd (none-some q e)
-recipe_back (items.Function x) q e = absurd (none-some q e)
-recipe_back (items.Import x) q e = absurd (none-some q e)
-recipe_back (items.Module x) q e = absurd (none-some q e)
-recipe_back items.Newline q e = absurd (none-some q e)
-recipe_back (items.Recipe x) q e = ap (λ y. items.Recipe y) (same_Some x q e)
-recipe_back (items.Set x) q e = absurd (none-some q e)
-recipe_back (items.Unexport x) q e = absurd (none-some q e)
-
-item_back : (o : Option Item) (q : Recipe UnresolvedDependency) → kept_nodes.recipe_of o ≡ Some q → o ≡ Some (items.Recipe q)
-item_back None q e = absurd (none-some q e)
-item_back (Some item) q e = ap (λ x. Some x) (recipe_back item q e)
+use Rattle.meaning_opened.proofs.Written.{AttributesStandOnce, item_back}
 
 module _ (w : World) (compilation : Compilation) (n : IsNumberedWorld w compilation) (reads : List ModuleReads) (table : RecipeTable) (many : length compilation.modules.items ≤ length reads) (t : IsTable compilation reads table)
     (rank : ℕ) (recipe : ResolvedRecipe) (at : slice_get table.recipes.items rank ≡ Some recipe) (k : ℕ) (node : ModuleNode) (here : HasNode w compilation k node) (same : recipe.module ≡ k)
@@ -114,7 +93,7 @@ module _ (w : World) (compilation : Compilation) (n : IsNumberedWorld w compilat
   -- no attribute of it stands twice that may stand once
   pub attributes_once : AttributesStandOnce compilation → repeated (shapes_in kept.2.attributes) ≡ None
   attributes_once single =
-      single kept.1 kept.2 (is_kept compilation kept (contains_at (all_kept compilation) (r w compilation n reads table many t rank recipe at).q kept (r w compilation n reads table many t rank recipe at).at)).there
+      single kept.0 standing.node standing.here kept.1 standing.keeps.there.from standing.keeps.there.to kept.2 (is_kept compilation kept (contains_at (all_kept compilation) (r w compilation n reads table many t rank recipe at).q kept (r w compilation n reads table many t rank recipe at).at)).there
 
   nodes_same : standing.node ≡ node
   nodes_same = same_Some standing.node node (sym standing.here ∙ ap (slice_get compilation.modules.items) kept_home ∙ here)

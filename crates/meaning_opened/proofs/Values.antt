@@ -35,7 +35,7 @@ held_append name (x ∷ xs) h = by_test (bytes_eq x.name name) (held_append name
     by_test false e = e
 
 -- a name that one of these has is held
-held_there : (hs : List Held) (h : Held) → Contains hs h → (value : Value) × (held h.name hs ≡ Some value)
+pub held_there : (hs : List Held) (h : Held) → Contains hs h → (value : Value) × (held h.name hs ≡ Some value)
 held_there [] h c = absurd (contains_none [] h refl c)
 held_there (x ∷ xs) h c = by_test (bytes_eq x.name h.name) refl (contains_cases x xs h c) (λ d. held_there xs h d)
   where

@@ -1,5 +1,5 @@
 -- Tasks of a resolved justfile open modules by names.
-use Rattle.std.proofs.Common.{◌≡◌, ◌↔◌, refl, sym, ◌∙◌, ap, subst, true, false, List, [], ◌∷◌, map, Some, ℕ}
+use Rattle.std.proofs.Common.{◌≡◌, ◌↔◌, refl, sym, ◌∙◌, ap, subst, true, List, [], ◌∷◌, map, Some, ℕ}
 use Rattle.std.specs.Prelude.{Contains, slice_get}
 use Rattle.just_host.specs.declared.entry.Entry.{Entry}
 use Rattle.just_host.specs.declared.job.Pair.{Pair}
@@ -32,12 +32,13 @@ use Rattle.just_meaning.specs.Opening.{IsOpened, named, reading_in}
 use Rattle.meaning_menus.specs.Named.{name_at}
 use Rattle.meaning_resolved.specs.Definitions.{functions_at}
 use Rattle.meaning_settings.specs.Settled.{AllSettle}
-use Rattle.meaning_opened.specs.Opened.{AttributesStandOnce, HaveOwnParameters, IsTaskOf, OpenByNames}
+use Rattle.meaning_opened.specs.Opened.{IsTaskOf, OpenByNames}
 use Rattle.std.proofs.Common.{not, length, ◌<◌}
+use Rattle.analyze_calls.specs.Calls.{row_of}
 use Rattle.analyze_calls.specs.declared.call.Call.{Call}
 use Rattle.run_prepared.specs.Wanted.{is_lazy, wants_all}
 use Rattle.run_tasks.specs.declared.task.Task.TheVariants.{Run}
-use Rattle.meaning_reading.proofs.Lists.{contains_mapped}
+use Rattle.meaning_reading.proofs.Lists.{contains_map, contains_mapped}
 use Rattle.meaning_opened.specs.Laws.{CallsOpenByNames}
 use Rattle.meaning_opened.proofs.All.{open_by_names}
 use Rattle.meaning_opened.proofs.Lazy.{wanted_open}
@@ -48,6 +49,7 @@ use Rattle.meaning_opened.proofs.Ordering.{order_here}
 use Rattle.meaning_opened.proofs.Requests.{IsViewOf, functions_in, listed_in, view_parts}
 use Rattle.meaning_opened.proofs.Values.{HoldAlike, name_of, number_of}
 use Rattle.meaning_opened.proofs.Views.{kept_here, variables_here}
+use Rattle.meaning_opened.proofs.Written.{AttributesStandOnce, HaveOwnParameters, attributes_stand_once, have_own_parameters}
 
 definitions_are : (fs : List FunctionRef) → definitions fs ≡ map defined_of (lists.functions_in fs)
 definitions_are [] = refl
@@ -106,6 +108,7 @@ module _ (w : World) (compilation : Compilation) (given : List Override) (base :
 
 -- where calls run, modules open by names as they open by places
 pub calls_open_by_names : CallsOpenByNames
-calls_open_by_names w compilation given base analysis settled calls context modules opens t parameters single there old new =
-    wanted_open_by_names w compilation given base analysis settled (Run calls) context modules opens t parameters single
-    (λ place c. let m = contains_mapped (λ (call : Call). call.recipe) calls.items place c in subst (λ p. p < length analysis.table.value.recipes.items) m.2 (there m.0 m.1)) refl old new
+calls_open_by_names w compilation given base analysis settled calls context modules opens t source stands there old new =
+    wanted_open_by_names w compilation given base analysis settled (Run calls) context modules opens t (have_own_parameters source w compilation stands t.resolvable.numbered.of)
+    (attributes_stand_once source w compilation stands t.resolvable.numbered.of)
+    (λ place c. let m = contains_mapped (λ (call : Call). call.recipe) calls.items place c in subst (λ p. p < length analysis.table.value.recipes.items) m.2 (there (row_of m.0) (contains_map row_of calls.items m.0 m.1))) refl old new

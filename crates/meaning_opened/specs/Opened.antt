@@ -1,29 +1,27 @@
 -- Modules that open by places, and by names.
-use Rattle.std.specs.Prelude.{◌≡◌, ◌≢◌, ◌<◌, ℕ, List, Some, None, Contains, map, length, slice_get, Result, Ok, Err}
+use Rattle.std.specs.Prelude.{◌≡◌, ◌≢◌, ℕ, List, ◌∷◌, Some, Contains, map, length, slice_get, Result, Ok, Err}
+use Rattle.std.specs.List.{All}
 use Rattle.std.specs.Option.{option_map}
 use Rattle.std.specs.String.{string_bytes}
+use Rattle.just_text.specs.Tokens.{lexeme}
 use Rattle.just_host.specs.declared.entry.Entry.{Entry}
+use Rattle.just_value.specs.Frames.{BoundRow, ByNumber}
 use Rattle.just_value.specs.declared.positional.Override.{Override}
-use Rattle.tree_items.specs.Items.{names_of}
-use Rattle.tree_items.specs.declared.ast.Item.TheVariants.{Function}
-use Rattle.tree_items.specs.declared.item.FunctionDefinition.{FunctionDefinition}
-use Rattle.tree_attribute_sets.specs.Sets.{shapes_in}
-use Rattle.tree_items.specs.declared.recipe.Recipe.{Recipe}
-use Rattle.tree_items.specs.declared.recipe.UnresolvedDependency.{UnresolvedDependency}
-use Rattle.parse_attributed_items.specs.Fitting.{repeated}
-use Rattle.resolve_recipes.specs.Nodes.{recipe_at}
-use Rattle.modules_compilation.specs.Places.{item_at}
 use Rattle.modules_compilation.specs.declared.compilation.Compilation.{Compilation}
-use Rattle.modules_compilation.specs.declared.place.Place.{Place}
+use Rattle.evaluate_context.specs.declared.context.AssignmentRef.{AssignmentRef}
 use Rattle.evaluate_context.specs.declared.context.ExecutionContext.{ExecutionContext}
 use Rattle.evaluate_context.specs.declared.context.ModuleView.{ModuleView}
+use Rattle.evaluate_variables.specs.Opened.{reads}
+use Rattle.resolve_analysis.specs.Opening.{Runs}
 use Rattle.resolve_analysis.specs.Views.{seen, views_of}
 use Rattle.resolve_analysis.specs.declared.analysis.Analysis.{Analysis}
+use Rattle.resolve_analysis.specs.declared.module_lists.ModuleLists.{ModuleLists}
+use Rattle.resolve_analysis.specs.declared.module_reads.ModuleReads.{ModuleReads}
+use Rattle.resolve_analysis.specs.declared.recipes.ResolvedRecipe.{ResolvedRecipe}
 use Rattle.just_resolve.specs.Analysis.{IsAnalysis}
 use Rattle.just_resolve.specs.Rules.{IsResolvable}
 use Rattle.analyze_calls.specs.Opening as placed
 use Rattle.analyze_calls.specs.declared.opening.Opening.{Opening as Opens}
-use Rattle.analyze_calls.specs.declared.call.Call.{Call}
 use Rattle.run_tasks.specs.Opened.{AreContexts, IsOpeningOf}
 use Rattle.run_tasks.specs.declared.task.Task.{Task}
 use Rattle.run_tasks.specs.declared.task.TaskContext.{TaskContext}
@@ -34,24 +32,14 @@ use Rattle.meaning_opening.specs.Requests.{OpeningFailure, opening}
 use Rattle.meaning_worlds.specs.Given.{Text, World}
 use Rattle.meaning_overriding.specs.Texts.{overrides_of}
 use Rattle.meaning_calls.specs.Named.{Definitions, paths_of}
-use Rattle.just_meaning.specs.Opening.{IsOpened, Opened, OpensAll}
+use Rattle.just_meaning.specs.Opening.{Held, IsOpened, Opened, OpensAll}
 use Rattle.meaning_resolved.specs.Definitions.{definitions_of}
 use Rattle.meaning_settings.specs.Settled.{AllSettle}
 use Rattle.meaning_menus.specs.Named.{name_at}
-use Rattle.meaning_grounds.specs.Alike.{AreOpenAlike, configuration_of}
-
--- no function has two parameters of one name
-abbrev pub HaveOwnParameters : Compilation → Type 0
-HaveOwnParameters compilation = (place : Place) (f : FunctionDefinition) → item_at compilation place ≡ Some (Function f)
-    → (i j : ℕ) (name : List ℕ) → slice_get (names_of f.parameters.items) i ≡ Some name → slice_get (names_of f.parameters.items) j ≡ Some name → i ≡ j
-
--- no recipe has an attribute twice that may stand once
-abbrev pub AttributesStandOnce : Compilation → Type 0
-AttributesStandOnce compilation = (place : Place) (r : Recipe UnresolvedDependency) → recipe_at compilation place ≡ Some r → repeated (shapes_in r.attributes) ≡ None
-
--- each call is of a recipe of the table
-abbrev pub CallsAreThere : Analysis → List Call → Type 0
-CallsAreThere analysis calls = (call : Call) → Contains calls call → call.recipe < length analysis.table.value.recipes.items
+use Rattle.meaning_views.specs.Known.{IsSeenAt}
+use Rattle.meaning_views.specs.Read.{AreReadFrom}
+use Rattle.meaning_views.specs.Recipes.{AreBoundIn, IsConstantOrRead}
+use Rattle.meaning_grounds.specs.Alike.{AreOpenAlike, IsOpenAlike, configuration_of}
 
 module _ (w : World) (compilation : Compilation) (given : List Override) (base : Text) (analysis : Analysis) (settled : AllSettle w (overrides_of given) compilation analysis.values.value.settings.items) where
   -- What a task of a resolved justfile rests on: its configuration, and what is prepared for it.
@@ -73,8 +61,21 @@ module _ (w : World) (compilation : Compilation) (given : List Override) (base :
     abbrev pub OpensNamed : List Entry → List Entry → Result (List Opened) OpeningFailure → Type 0
     OpensNamed = OpensAll (configuration_of context.config.now context.root.now w.expansion) defined (IsOpened defined context.config.now.no_dependencies (map (name_at compilation analysis.table.value) (called_by task))) (paths_of defined.modules)
 
+    -- What a run over modules that are open rests on besides: their frames are sorted by numbers, what is held by names is of their variables, they have the task's configuration,
+    -- variables are wanted that recipes read which run, and in the frames the constants are bound, and the variables that are wanted.
+    pub record AreReady (contexts : List ExecutionContext) (all : List Opened) : Type 0 where
+      pub sorted : (k : ℕ) (here : ExecutionContext) → slice_get contexts k ≡ Some here → (frame : List BoundRow) → Contains (here.scope.now.own ∷ here.scope.now.outer) frame → ByNumber frame
+      pub held_only : (k : ℕ) (here : ExecutionContext) → slice_get contexts k ≡ Some here → (o : Opened) → Contains all o → (alike : IsOpenAlike compilation analysis k here o) → (h : Held) → Contains o.values h
+          → (lent : AssignmentRef) × Contains alike.lists.assignments.items lent × (lexeme lent.assignment.now.name.token ≡ h.name)
+      pub configured : All (λ (here : ExecutionContext). (here.config.now ≡ context.config.now) × (here.root.now ≡ context.root.now)) contexts
+      pub read : (place : ℕ) (recipe : ResolvedRecipe) → slice_get analysis.table.value.recipes.items place ≡ Some recipe
+          → Runs analysis.table.value.recipes.items context.config.now.no_dependencies (called_by task) place
+          → (lists : ModuleLists) (home : ModuleReads) → slice_get analysis.variables.lists.items recipe.module ≡ Some lists → slice_get analysis.variables.reads.items recipe.module ≡ Some home
+          → AreReadFrom lists home recipe.reads.items (reads context.wanted)
+      pub bound : (k : ℕ) (here : ExecutionContext) → slice_get contexts k ≡ Some here → (seen : IsSeenAt analysis.variables k here) → AreBoundIn (IsConstantOrRead seen.lists (reads context.wanted)) here.scope.now
+
     -- modules that open by places open by names: with the same values where all open, or with the same fault, unless memory ran out
     pub record OpenByNames (modules : List ModuleView) (opens : Opens) (old new : List Entry) : Type 0 where
       pub opened : (rows : List placed.OpenedRow) → placed.OpensAll opens modules context.opening_order.now old new (Ok rows)
-          → (all : List Opened) × OpensNamed old new (Ok all) × ((contexts : List ExecutionContext) → AreContexts context rows 0 modules contexts → AreOpenAlike compilation analysis contexts all)
+          → (all : List Opened) × OpensNamed old new (Ok all) × ((contexts : List ExecutionContext) → AreContexts context rows 0 modules contexts → AreOpenAlike compilation analysis contexts all × AreReady contexts all)
       pub refused : (failure : OpeningFailure) → failure ≢ opening memory → placed.OpensAll opens modules context.opening_order.now old new (Err failure) → OpensNamed old new (Err failure)

@@ -3,7 +3,7 @@ use Rattle.std.proofs.Common.{◌≡◌, refl, sym, ◌∙◌, ap, subst, List, 
 use Rattle.std.specs.Prelude.{slice_get}
 use Rattle.std.specs.List.{flat_map}
 use Rattle.std.proofs.lemmas.List.{length-map}
-use Rattle.std.proofs.lemmas.List.Elements.{All-cons, All-head, All-map, All-nil, All-tail, All-weaker}
+use Rattle.std.proofs.lemmas.List.Elements.{All-cons, All-head, All-map, All-nil, All-tail}
 use Rattle.std.proofs.lemmas.Simd.{map-map}
 use Rattle.std.proofs.lemmas.Option.{none-some, slice_get-map}
 use Rattle.just_text.specs.Tokens.{lexeme}
@@ -38,7 +38,8 @@ use Rattle.meaning_files.specs.Views.{file_view, node_view}
 use Rattle.meaning_names.specs.Meant.{IsMeantWhole}
 use Rattle.meaning_names.specs.Names.{nodes, views}
 use Rattle.meaning_reading.specs.Carried.{NumberedAreMeant}
-use Rattle.meaning_reading.specs.Meant.{AreExpressionsCooked, AreSeenCooked}
+use Rattle.meaning_reading.specs.Meant.{AreAttributesKnown, AreExpressionsCooked, AreSeenCooked, HasKnownAttributes}
+use Rattle.meaning_reading.proofs.Attributes.{attributes_known}
 use Rattle.meaning_reading.proofs.Cooked.{said_cooked, seen_cooked}
 
 -- ---- lists that are the same place by place
@@ -65,14 +66,14 @@ same_flat f (x ∷ xs) [] many each = absurd (omega (arith, many))
 same_flat f (x ∷ xs) (y ∷ ys) many each =
     ap (λ l. l ++ flat_map f ys) (each 0 x y refl refl) ∙ ap (λ l. f x ++ l) (same_flat f xs ys (omega (arith, many)) (λ place. each (suc place)))
 
--- what holds of each element holds of the one at its place
-all_kept : {X : Type 0} (P : X → Type 0) (old new : List X) → length new ≡ length old
-    → ((place : ℕ) (x y : X) → slice_get old place ≡ Some x → slice_get new place ≡ Some y → P x → P y) → All P old → All P new
-all_kept P [] [] many each all = all
-all_kept P [] (y ∷ ys) many each all = absurd (omega (arith, many))
-all_kept P (x ∷ xs) [] many each all = absurd (omega (arith, many))
-all_kept P (x ∷ xs) (y ∷ ys) many each all =
-    All-cons P y ys (each 0 x y refl refl (All-head P x xs all)) (all_kept P xs ys (omega (arith, many)) (λ place. each (suc place)) (All-tail P x xs all))
+-- what follows for the one at its place from what holds of each element
+all_kept : {X : Type 0} (P Q : X → Type 0) (old new : List X) → length new ≡ length old
+    → ((place : ℕ) (x y : X) → slice_get old place ≡ Some x → slice_get new place ≡ Some y → P x → Q y) → All P old → All Q new
+all_kept P Q [] [] many each all = All-nil Q
+all_kept P Q [] (y ∷ ys) many each all = absurd (omega (arith, many))
+all_kept P Q (x ∷ xs) [] many each all = absurd (omega (arith, many))
+all_kept P Q (x ∷ xs) (y ∷ ys) many each all =
+    All-cons Q y ys (each 0 x y refl refl (All-head P x xs all)) (all_kept P Q xs ys (omega (arith, many)) (λ place. each (suc place)) (All-tail P x xs all))
 
 -- what holds of what a function gives of each element
 all_unmapped : {X Y : Type 0} (P : Y → Type 0) (f : X → Y) (xs : List X) → All P (map f xs) → All (λ x. P (f x)) xs
@@ -261,7 +262,7 @@ module _ (w : World) (before after : Compilation) (is : IsNumbered before after)
     owned k file f =
         let o = old_at k file f in
         let are = is.items k o.0 file o.1 f in
-        all_kept (IsOwnItem w.expansion) o.0.ast.items.items file.ast.items.items are.many
+        all_kept (IsOwnItem w.expansion) (IsOwnItem w.expansion) o.0.ast.items.items file.ast.items.items are.many
         (λ place x y e g. own_kept w.expansion x y (are.each place x y e g).numbered (are.each place x y e g).shape) (whole.meant.options k o.0 o.1)
 
     -- their expressions hold what their strings stand for
@@ -272,9 +273,21 @@ module _ (w : World) (before after : Compilation) (is : IsNumbered before after)
         let same : file.key.now ≡ o.0.key.now = ap (λ n. n.key) (names_at k o.0 file o.1 f) in
         let origin : Origin = from_file o.0.key.now w.expansion in
         subst (λ key. All (AreSeenCooked (from_file key w.expansion)) file.ast.items.items) (sym same)
-        (all_kept (AreSeenCooked origin) o.0.ast.items.items file.ast.items.items are.many
-        (λ place x y e g. said_cooked origin (seen_in x) (seen_in y) (are.each place x y e g).said)
-        (All-weaker (IsItemCooked origin) (AreSeenCooked origin) (seen_cooked origin) o.0.ast.items.items (whole.cooked k o.0 o.1)))
+        (all_kept (IsItemCooked origin) (AreSeenCooked origin) o.0.ast.items.items file.ast.items.items are.many
+        (λ place x y e g h. said_cooked origin (seen_in x) (seen_in y) (are.each place x y e g).said (seen_cooked origin x h))
+        (whole.cooked k o.0 o.1))
+
+    -- and so do the attributes of their recipes
+    attributed : AreAttributesKnown w after
+    attributed k file f =
+        let o = old_at k file f in
+        let are = is.items k o.0 file o.1 f in
+        let same : file.key.now ≡ o.0.key.now = ap (λ n. n.key) (names_at k o.0 file o.1 f) in
+        let origin : Origin = from_file o.0.key.now w.expansion in
+        subst (λ key. All (HasKnownAttributes (from_file key w.expansion)) file.ast.items.items) (sym same)
+        (all_kept (IsItemCooked origin) (HasKnownAttributes origin) o.0.ast.items.items file.ast.items.items are.many
+        (λ place x y e g h. attributes_known origin x y (are.each place x y e g).numbered h (said_cooked origin (seen_in x) (seen_in y) (are.each place x y e g).said (seen_cooked origin x h)))
+        (whole.cooked k o.0 o.1))
 
 -- what holds before the variables get their numbers holds after
 pub numbered_world : NumberedAreMeant
@@ -285,5 +298,6 @@ numbered_world w before after whole is bound = record {
   bound = bound;
   options = owned w before after is whole;
   cooked = cooked w before after is whole;
+  attributes = attributed w before after is whole;
   above = λ k view there. whole.meant.above k view (ap (λ vs. slice_get vs k) (sym (same_views w before after is)) ∙ there);
 }

@@ -23,7 +23,7 @@ use Rattle.parse_expressions.specs.Literals.{AreCooked, IsCooked, Origin, cooked
 use Rattle.parse_attributes.specs.Cooked.{IsCookedAttribute}
 use Rattle.parse_recipes.specs.Cooked.{AreDependenciesCooked, AreParametersCooked, IsBodyCooked, IsDependencyCooked, IsFragmentCooked, IsLineCooked, IsParameterCooked, IsRecipeCooked}
 use Rattle.parse_items.specs.SettingCooked.{IsCookedSetting}
-use Rattle.parse_attributed_items.specs.Held.{AreAttributesCooked, IsItemCooked}
+use Rattle.parse_attributed_items.specs.Held.{AreAttributesCooked, IsItemCooked, IsWholeAttribute}
 use Rattle.parse_attributed_items.specs.Options.{AreValuesCooked, IsValueCooked}
 use Rattle.resolve_references.specs.Said.{said_by, said_of}
 use Rattle.resolve_references.specs.Seen.{Seen, seeing, seeing_if_there, seen_in_attribute, seen_in_attributes, seen_in_body, seen_in_dependencies, seen_in_dependency, seen_in_fragment, seen_in_line, seen_in_parameters, seen_in_recipe, seen_in_setting}
@@ -36,7 +36,7 @@ Pairs = List (List ℕ × ℕ)
 
 -- ---- expressions that say the same
 
-same_parts : {X : Type 0} (x y : X) (xs ys : List X) → x ∷ xs ≡ y ∷ ys → (x ≡ y) × (xs ≡ ys)
+pub same_parts : {X : Type 0} (x y : X) (xs ys : List X) → x ∷ xs ≡ y ∷ ys → (x ≡ y) × (xs ≡ ys)
 same_parts x y xs ys e = (cc, cc)
 
 -- an expression that says what one said that was cooked is cooked
@@ -121,7 +121,7 @@ module _ (origin : Origin) where
   in_attribute seen (WorkingDirectory text) h = none
 
   in_attributes : (seen : Pairs) (items : List AttributeItem) → AreAttributesCooked origin items → AreAllCooked (seen_in_attributes seen items)
-  in_attributes seen items h = flat (λ (item : AttributeItem). IsCookedAttribute origin item.attribute) (λ (item : AttributeItem). seen_in_attribute seen item.attribute) (λ item. in_attribute seen item.attribute) items h
+  in_attributes seen items h = flat (IsWholeAttribute origin) (λ (item : AttributeItem). seen_in_attribute seen item.attribute) (λ item whole. in_attribute seen item.attribute whole.0) items h
 
   in_parameters : (earlier : Pairs) (ps : List Parameter) → AreParametersCooked origin ps → AreValuesCooked origin ps → AreAllCooked (seen_in_parameters earlier ps)
   in_parameters earlier [] h g = none

@@ -18,4 +18,5 @@ pub mod Clear
 pub mod Chains
 pub mod Cycles
 pub mod Cooked
+pub mod Attributes
 pub mod Carried

@@ -11,6 +11,7 @@ use Rattle.tree_items.specs.declared.item.Binding.{Binding}
 use Rattle.tree_items.specs.declared.recipe.Parameter.{Parameter}
 use Rattle.tree_items.specs.declared.recipe.Recipe.{Recipe as RecipeTree}
 use Rattle.tree_items.specs.declared.recipe.UnresolvedDependency.{UnresolvedDependency}
+use Rattle.tree_attribute_sets.specs.Order.{item_shape, name_text}
 use Rattle.tree_attribute_sets.specs.Sets.{items_of, shapes_in, is_private as are_private}
 use Rattle.parse_attributes.specs.Cooked.{IsCookedAttribute}
 use Rattle.parse_expressions.specs.Literals.{Expansion, Origin}
@@ -62,8 +63,12 @@ attributes_of (Recipe r) = items_of r.attributes
 attributes_of (Set s) = items_of s.attributes
 attributes_of other = []
 
+-- an attribute holds what its strings stand for, and the name that is written is its own
+abbrev pub IsWholeAttribute : Origin → AttributeItem → Type 0
+IsWholeAttribute origin item = IsCookedAttribute origin item.attribute × (lexeme item.name.token ≡ name_text (item_shape item))
+
 abbrev pub AreAttributesCooked : Origin → List AttributeItem → Type 0
-AreAttributesCooked origin items = All (λ item. IsCookedAttribute origin item.attribute) items
+AreAttributesCooked origin items = All (IsWholeAttribute origin) items
 
 -- the expressions and strings of an item after its attributes hold what their strings stand for
 abbrev pub IsInsideCooked : Origin → Item → Type 0

@@ -1,6 +1,8 @@
 -- What the parser of items with attributes holds as the grammar sees it.
 use Rattle.std.specs.Prelude.{ℕ, ◌≡◌, List, map, Option, Some}
 use Rattle.std.specs.List.{All}
+use Rattle.std.specs.Option.{option_map}
+use Rattle.just_text.specs.declared.name.Name.{Name}
 use Rattle.tree_attributes.specs.Attributes.{AttributeShape, options_shape}
 use Rattle.tree_attributes.specs.declared.attribute.Attribute.{Attribute}
 use Rattle.tree_attribute_sets.specs.declared.attribute_item.AttributeItem.{AttributeItem}
@@ -19,9 +21,13 @@ use Rattle.parse_attributed_items.specs.Fitting.{options_among}
 use Rattle.parse_attributed_items.specs.Held.{AreAttributesCooked}
 use Rattle.parse_attributed_items.specs.Reading.{Parts}
 
--- the attribute itself, without where its name is written
-abbrev pub attribute_in : AttributeItem → Attribute
-attribute_in item = item.attribute
+-- the attribute itself, and where its name is written
+abbrev pub attribute_in : AttributeItem → Attribute × Name
+attribute_in item = (item.attribute, item.name)
+
+-- an attribute, if it is one, with the name
+abbrev pub with_name : Name → Option Attribute → Option (Attribute × Name)
+with_name name attribute = option_map (λ a. (a, name)) attribute
 
 -- an item and its blank lines
 abbrev pub read_of : ItemRead → ItemShape × ℕ

@@ -7,7 +7,7 @@ ghost use Rattle.tree_attribute_sets.specs.Sets.{shapes_in};
 ghost use Rattle.parse_expressions.specs.Literals.{Origin};
 ghost use Rattle.parse_attributes.specs.Seen.{AreWholeReads, read_shapes};
 ghost use Rattle.parse_attributed_items.specs.Fitting.{known};
-ghost use Rattle.parse_attributed_items.specs.Seen.{AreWholeKnown, AreWholeOrdered, attribute_in};
+ghost use Rattle.parse_attributed_items.specs.Seen.{AreWholeKnown, AreWholeOrdered, attribute_in, with_name};
 
 use just_text::{Name, both};
 use parse_attributes::AttributeRead;
@@ -64,7 +64,7 @@ fn named<'src>(
     attribute: Attribute<'src>,
     name: Name<'src>,
 ) -> Result<Option<AttributeItem<'src>>, AllocError>
-    ensures { IfOk result (λ item. option_map attribute_in item ≡ Some attribute.entry) }
+    ensures { IfOk result (λ item. option_map attribute_in item ≡ Some (attribute.entry, name.entry)) }
 {
     let item = AttributeItem::new(alloc, attribute, name)?;
     Ok(Some(item))
@@ -76,7 +76,7 @@ fn item<'src>(
     attribute: Option<Attribute<'src>>,
     name: Name<'src>,
 ) -> Result<Option<AttributeItem<'src>>, AllocError>
-    ensures { IfOk result (λ item. option_map attribute_in item ≡ attribute.entry) }
+    ensures { IfOk result (λ item. option_map attribute_in item ≡ with_name name.entry attribute.entry) }
 {
     match attribute {
         Some(attribute) => named(alloc, attribute, name),
@@ -91,7 +91,7 @@ fn add<'src>(
     known: &mut KnownAttributes<'src>,
     read: AttributeRead<'src>,
 ) -> Result<(), AllocError>
-    ensures attributes { OnOk result (map attribute_in known.new.items.items ≡ map attribute_in known.old.items.items ++ cons_option read.entry.attribute []) }
+    ensures attributes { OnOk result (map attribute_in known.new.items.items ≡ map attribute_in known.old.items.items ++ cons_option (with_name read.entry.name read.entry.attribute) []) }
     ensures options { OnOk result (known.new.options.items ≡ known.old.options.items ++ cons_option read.entry.options []) }
 {
     let AttributeRead {

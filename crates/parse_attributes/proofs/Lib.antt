@@ -13,3 +13,4 @@ pub mod Rows
 pub mod RowsExact
 pub mod StringsExact
 pub mod Making
+pub mod Named

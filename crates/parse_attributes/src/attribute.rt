@@ -99,6 +99,7 @@ fn known<'src, E: Expander>(
     name: Name<'src>,
     kind: AttributeKind,
 ) -> Result<AttributeRead<'src>, Fault<'src>>
+    requires { kind_named (lexeme name.token) ≡ Some kind }
     ensures gives { Gives (λ r. (read_shape r, ahead cursor.new)) result (known_at word_of (E.expansion context.now.expander.now) name.entry.token (Some kind) (ahead cursor.old)) }
     ensures whole { IfOk result (IsWholeRead (origin_of E.expansion context.now)) }
 {

@@ -48,6 +48,6 @@ numbered_itself (Function f) = (f.body, refl)
 numbered_itself (Import i) = refl
 numbered_itself (Module m) = refl
 numbered_itself Newline = refl
-numbered_itself (Recipe r) = (r, refl, record { name = refl; number = refl; quiet = refl; parameters = refl })
+numbered_itself (Recipe r) = (r, refl, record { name = refl; number = refl; quiet = refl; parameters = refl; attributes = refl })
 numbered_itself (Set s) = (s, refl, refl, same_setting s.value)
 numbered_itself (Unexport u) = refl

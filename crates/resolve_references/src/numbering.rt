@@ -11,7 +11,7 @@ ghost use Rattle.tree_items.specs.Contexts.{named_number, number_in, parameter_n
 ghost use Rattle.tree_items.specs.Files.{item_shape};
 ghost use Rattle.tree_items.specs.Lines.{piece_of, pieces_of};
 ghost use Rattle.tree_items.specs.Recipes.{argument_shape, body_shape, dependency_shape, dependency_shapes, parameter_shape, parameter_shapes, recipe_shape};
-ghost use Rattle.resolve_references.specs.Numbered.{IsNumberedItem, IsSameRecipe, IsSameSetting, bare_parameter, bare_parameters};
+ghost use Rattle.resolve_references.specs.Numbered.{IsNumberedItem, IsSameRecipe, IsSameSetting, bare_parameter, bare_parameters, seen_attributes};
 ghost use Rattle.resolve_references.specs.Said.{SayTheSame, said_by, said_of};
 ghost use Rattle.resolve_references.specs.Seen.{AreNumberedBy, HasNumbers, HaveNumbers, StandsFor, seeing, seeing_if_there, seen_in, seen_in_attributes, seen_in_body, seen_in_dependencies, seen_in_dependency, seen_in_fragment, seen_in_interpreter, seen_in_line, seen_in_parameters, seen_in_recipe, seen_in_setting};
 
@@ -187,6 +187,7 @@ fn number_attributes<'src>(
     attributes: &mut AttributeSet<'src>,
     names: &Names<'_, 'src>,
 )
+    ensures same { seen_attributes (items_of attributes.new) ≡ seen_attributes (items_of attributes.old) }
     ensures shapes { shapes_in attributes.new ≡ shapes_in attributes.old }
     ensures said { SayTheSame (λ seen. seen_in_attributes seen (items_of attributes.old)) (λ seen. seen_in_attributes seen (items_of attributes.new)) }
     ensures numbers { AreNumberedBy names.now.parameters.now names.now.bindings.now (λ seen. seen_in_attributes seen (items_of attributes.new)) }

@@ -1,9 +1,9 @@
 -- Attributes whose variables have numbers.
-use Rattle.std.specs.Prelude.{◌≡◌, ℕ, List, [], ◌∷◌, Option, Some, None, length, slice_get}
+use Rattle.std.specs.Prelude.{◌≡◌, ℕ, List, [], ◌∷◌, Option, Some, None, length, map, slice_get}
 use Rattle.tree_expressions.specs.declared.expression.Expression.{Expression}
 use Rattle.tree_expressions.specs.Numbering.{AreNumbered}
 use Rattle.tree_attributes.specs.declared.attribute.Attribute.{Attribute}
-use Rattle.tree_attributes.specs.declared.attribute.Attribute.TheVariants.{Arg, Confirm, Env, Script}
+use Rattle.tree_attributes.specs.declared.attribute.Attribute.TheVariants.{Arg, Confirm, Doc, Env, Extension, Group, Metadata, Script, WorkingDirectory}
 use Rattle.tree_attributes.specs.declared.setting.Interpreter.{Interpreter}
 use Rattle.tree_attributes.specs.Attributes.{attribute_shape}
 use Rattle.tree_attribute_sets.specs.declared.attribute_item.AttributeItem.{AttributeItem}
@@ -33,9 +33,19 @@ abbrev pub value_of : Attribute → List Expression
 value_of (Env key value) = value.value ∷ []
 value_of other = []
 
+-- the texts of an attribute's own strings without quotes and escapes, but those of an `arg`
+abbrev pub texts_of : Attribute → List (List ℕ)
+texts_of (Doc (Some text)) = text.cooked ∷ []
+texts_of (Extension text) = text.cooked ∷ []
+texts_of (Group text) = text.cooked ∷ []
+texts_of (Metadata first others) = first.cooked ∷ map (λ text. text.cooked) others.items
+texts_of (WorkingDirectory text) = text.cooked ∷ []
+texts_of other = []
+
 -- An attribute before and after, where each variable has got the number of its name, those of an `env` the environment's, and nothing else has changed.
 pub record IsNumberedAttribute (number environment : List ℕ → Option ℕ) (old new : Attribute) : Type 0 where
   pub shape : attribute_shape new ≡ attribute_shape old
+  pub texts : texts_of new ≡ texts_of old
   pub expressions : AreNumbered number (expressions_of old) (expressions_of new)
   pub key : AreNumbered environment (key_of old) (key_of new)
   pub value : AreNumbered environment (value_of old) (value_of new)

@@ -2,7 +2,7 @@
 ghost use Rattle.std.specs.Prelude.{◌≡◌};
 ghost use Rattle.tree_attributes.specs.Attributes.{attribute_shape};
 ghost use Rattle.tree_expressions.specs.Numbering.{AreNumbered};
-ghost use Rattle.tree_attribute_sets.specs.Numbering.{IsNumberedAttribute, elements, expressions_of, if_there, key_of, value_of};
+ghost use Rattle.tree_attribute_sets.specs.Numbering.{IsNumberedAttribute, elements, expressions_of, if_there, key_of, texts_of, value_of};
 
 use tree_attributes::{Attribute, Interpreter};
 use tree_expressions::{Expression, VariableNumbers};
@@ -19,6 +19,7 @@ pub fn number_attribute<N: VariableNumbers>(attribute: &mut Attribute, numbers: 
 /// The same of all expressions but the value of an `env`.
 fn number_front<N: VariableNumbers>(attribute: &mut Attribute, numbers: &N, environment: &N)
     ensures shape { attribute_shape attribute.new ≡ attribute_shape attribute.old }
+    ensures texts { texts_of attribute.new ≡ texts_of attribute.old }
     ensures expressions { AreNumbered (N.number numbers.now) (expressions_of attribute.old) (expressions_of attribute.new) }
     ensures key { AreNumbered (N.number environment.now) (key_of attribute.old) (key_of attribute.new) }
     ensures value { value_of attribute.new ≡ value_of attribute.old }
@@ -35,6 +36,7 @@ fn number_front<N: VariableNumbers>(attribute: &mut Attribute, numbers: &N, envi
 /// The same of the value of an `env`.
 fn number_value<N: VariableNumbers>(attribute: &mut Attribute, numbers: &N)
     ensures shape { attribute_shape attribute.new ≡ attribute_shape attribute.old }
+    ensures texts { texts_of attribute.new ≡ texts_of attribute.old }
     ensures expressions { expressions_of attribute.new ≡ expressions_of attribute.old }
     ensures key { key_of attribute.new ≡ key_of attribute.old }
     ensures value { AreNumbered (N.number numbers.now) (value_of attribute.old) (value_of attribute.new) }

@@ -8,7 +8,7 @@ use Rattle.run_requests.proofs.Asked.{asked_means}
 use Rattle.just_run.proofs.Early.{late_are_unruled, planned_is_unruled}
 use Rattle.run_requests.specs.declared.request.Request.TheVariants as requests
 use Rattle.just_run.proofs.Added.{for_task, questions_asked}
-use Rattle.just_run.specs.Ran.{none, refused, runs}
+use Rattle.just_run.specs.Ran.{none, runs}
 use Rattle.just_run.proofs.Ran.{no_plan_of_run, task_of_run, text_of_run}
 use Rattle.just_run.proofs.driver.drive_analysis.Goals as goal
 
@@ -29,39 +29,21 @@ returns-in_err-request-clause-words g c = λ same all.
 
 pub returns-in-Task-clause-words : goal.returns-in-Task-clause-words
 returns-in-Task-clause-words g c = λ same all.
-    clear (asked_means c.args.compilation.now c.args.analysis.now c.args.words.now.arguments c.args.action c.in_ok-request.request (subst (λ words. IsAskedFor c.args.compilation.now c.args.analysis.now words c.args.action c.in_ok-request.request) c.as_slice-words.ensures (c.in_ok-request.ensures.meant same all)))
+    let asked = (subst (λ words. IsAskedFor c.args.compilation.now c.args.analysis.now words c.args.action c.in_ok-request.request) c.as_slice-words.ensures (c.in_ok-request.ensures.meant same all)) in
+    clear (asked_means c.args.compilation.now c.args.analysis.now c.args.words.now.arguments c.args.action c.in_ok-request.request asked)
     (late_are_unruled c.drive_task.result c.drive_task.ensures.late)
+    (λ run. let so = subst (IsAskedFor c.args.compilation.now c.args.analysis.now c.args.words.now.arguments c.args.action) c.in-Task.is asked in let task = task_of_run c.args.compilation.now c.args.analysis.now c.args.words.now.arguments c.args.action c.in-Task.task run so in runs task.0 task.2 (c.drive_task.ensures.runs task.0 task.1))
 
 pub returns-in-Plan-clause-words : goal.returns-in-Plan-clause-words
 returns-in-Plan-clause-words g c = λ same all.
-    clear (asked_means c.args.compilation.now c.args.analysis.now c.args.words.now.arguments c.args.action c.in_ok-request.request (subst (λ words. IsAskedFor c.args.compilation.now c.args.analysis.now words c.args.action c.in_ok-request.request) c.as_slice-words.ensures (c.in_ok-request.ensures.meant same all)))
+    let asked = (subst (λ words. IsAskedFor c.args.compilation.now c.args.analysis.now words c.args.action c.in_ok-request.request) c.as_slice-words.ensures (c.in_ok-request.ensures.meant same all)) in
+    clear (asked_means c.args.compilation.now c.args.analysis.now c.args.words.now.arguments c.args.action c.in_ok-request.request asked)
     (planned_is_unruled g.H.Host.goes c.args.host.now (g.O.Out.written c.args.out.now) c.drive_plan.result c.drive_plan.new.host (g.O.Out.written c.drive_plan.new.out) c.drive_plan.ensures.planned)
+    (λ run. let so = subst (IsAskedFor c.args.compilation.now c.args.analysis.now c.args.words.now.arguments c.args.action) c.in-Plan.is asked in absurd (no_plan_of_run c.args.compilation.now c.args.analysis.now c.args.words.now.arguments c.args.action c.in-Plan.calls run so))
 
 pub returns-in-Text-clause-words : goal.returns-in-Text-clause-words
 returns-in-Text-clause-words g c = λ same all.
-    clear (asked_means c.args.compilation.now c.args.analysis.now c.args.words.now.arguments c.args.action c.in_ok-request.request (subst (λ words. IsAskedFor c.args.compilation.now c.args.analysis.now words c.args.action c.in_ok-request.request) c.as_slice-words.ensures (c.in_ok-request.ensures.meant same all)))
+    let asked = (subst (λ words. IsAskedFor c.args.compilation.now c.args.analysis.now words c.args.action c.in_ok-request.request) c.as_slice-words.ensures (c.in_ok-request.ensures.meant same all)) in
+    clear (asked_means c.args.compilation.now c.args.analysis.now c.args.words.now.arguments c.args.action c.in_ok-request.request asked)
     c.tell.ensures.unruled
-
-pub returns-in_err-request-clause-runs : goal.returns-in_err-request-clause-runs
-returns-in_err-request-clause-runs g c = λ run same all.
-    let p = err_from_is_err_and c.from_residual.result c.from_residual.ensures.1 in
-    refused c.in_err-request.field-0.0 (p.1 ∙ ap Err p.2) refl
-
-pub returns-in-Task-clause-runs : goal.returns-in-Task-clause-runs
-returns-in-Task-clause-runs g c = λ run same all.
-    let asked : IsAskedFor c.args.compilation.now c.args.analysis.now c.args.words.now.arguments c.args.action (requests.Task c.in-Task.task) =
-    subst (IsAskedFor c.args.compilation.now c.args.analysis.now c.args.words.now.arguments c.args.action) c.in-Task.is (subst (λ words. IsAskedFor c.args.compilation.now c.args.analysis.now words c.args.action c.in_ok-request.request) c.as_slice-words.ensures (c.in_ok-request.ensures.meant same all)) in
-    let task = task_of_run c.args.compilation.now c.args.analysis.now c.args.words.now.arguments c.args.action c.in-Task.task run asked in
-    runs task.0 task.2 (c.drive_task.ensures.runs task.0 task.1)
-
-pub returns-in-Plan-clause-runs : goal.returns-in-Plan-clause-runs
-returns-in-Plan-clause-runs g c = λ run same all.
-    let asked : IsAskedFor c.args.compilation.now c.args.analysis.now c.args.words.now.arguments c.args.action (requests.Plan c.in-Plan.calls) =
-    subst (IsAskedFor c.args.compilation.now c.args.analysis.now c.args.words.now.arguments c.args.action) c.in-Plan.is (subst (λ words. IsAskedFor c.args.compilation.now c.args.analysis.now words c.args.action c.in_ok-request.request) c.as_slice-words.ensures (c.in_ok-request.ensures.meant same all)) in
-    absurd (no_plan_of_run c.args.compilation.now c.args.analysis.now c.args.words.now.arguments c.args.action c.in-Plan.calls run asked)
-
-pub returns-in-Text-clause-runs : goal.returns-in-Text-clause-runs
-returns-in-Text-clause-runs g c = λ run same all.
-    let asked : IsAskedFor c.args.compilation.now c.args.analysis.now c.args.words.now.arguments c.args.action (requests.Text c.in-Text.text) =
-    subst (IsAskedFor c.args.compilation.now c.args.analysis.now c.args.words.now.arguments c.args.action) c.in-Text.is (subst (λ words. IsAskedFor c.args.compilation.now c.args.analysis.now words c.args.action c.in_ok-request.request) c.as_slice-words.ensures (c.in_ok-request.ensures.meant same all)) in
-    none (text_of_run c.args.compilation.now c.args.analysis.now c.args.words.now.arguments c.args.action c.in-Text.text run asked) refl
+    (λ run. let so = subst (IsAskedFor c.args.compilation.now c.args.analysis.now c.args.words.now.arguments c.args.action) c.in-Text.is asked in none (text_of_run c.args.compilation.now c.args.analysis.now c.args.words.now.arguments c.args.action c.in-Text.text run so) refl)

@@ -11,6 +11,7 @@ use Rattle.run_plain.specs.Drives.{verdict}
 use Rattle.run_plain.specs.Stages.{IsRoot, IsTold}
 use Rattle.just_run.proofs.Driven.{ran_out_answers, told_answers_plain}
 use Rattle.just_run.specs.Plain.{fault_of}
+use Rattle.just_run.specs.Named.{left_of}
 use Rattle.just_run.specs.Sources.{asked_of, unread}
 use Rattle.just_run.proofs.Sources.{told_of_root}
 use Rattle.run_plain.specs.declared.fault.Fault.TheVariants as plain_faults
@@ -75,4 +76,4 @@ returns-in_err-root-clause-sources g c = λ all.
 pub returns-clause-sources : goal.returns-clause-sources
 returns-clause-sources g c = rw (sym c.in_ok-words.ensures) (λ all.
     told_of_root c.args.sources.now c.args.roots.now c.in_ok-words.words (g.E.Expander.expansion c.args.expander.now) c.args.config.now.version c.args.config.now.os c.args.config.now.unstable (asked_of c.args.action c.in_ok-words.words c.args.config.now) c.in_ok-root.root.path.now c.in_ok-root.root.file c.in_ok-root.root.numerator c.in_ok-root.root.plain
-    c.drive_root.result c.in_ok-root.ensures.read c.in_ok-root.ensures.ok all c.drive_root.ensures.sources)
+    (left_of c.args.host.now c.drive_root.new.host) c.drive_root.result c.in_ok-root.ensures.read c.in_ok-root.ensures.ok all c.drive_root.ensures.sources)

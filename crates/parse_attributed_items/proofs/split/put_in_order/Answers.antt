@@ -5,7 +5,7 @@ use Rattle.std.specs.Ordering.{on}
 use Rattle.tree_attribute_sets.specs.Order.{in_order, is_before, item_shape, items_in_order}
 use Rattle.tree_attribute_sets.specs.Sets.{items_of, shapes_in}
 use Rattle.parse_expressions.proofs.Together.{both_given}
-use Rattle.parse_attributes.specs.Cooked.{IsCookedAttribute}
+use Rattle.parse_attributed_items.specs.Held.{IsWholeAttribute}
 use Rattle.parse_attributed_items.proofs.Ordered.{all_sorted, shapes_in_order}
 use Rattle.parse_attributed_items.proofs.split.put_in_order.Goals as goal
 
@@ -23,7 +23,7 @@ returns-clause-whole c = λ x whole.
     let same : items_of c.in_ok-options.attributes ≡ items_in_order items = subst (λ r. IfOk r (λ set. items_of set ≡ items_in_order items)) given.1 c.from_items-attributes.ensures in
     record {
       again = rw given.0 whole.again;
-      cooked = rw same (all_sorted (λ item. IsCookedAttribute x item.attribute) (on item_shape is_before) items whole.cooked);
+      cooked = rw same (all_sorted (IsWholeAttribute x) (on item_shape is_before) items whole.cooked);
       cooked_options = rw given.0 whole.cooked_options;
       order = ap (map item_shape) same ∙ shapes_in_order items;
     }

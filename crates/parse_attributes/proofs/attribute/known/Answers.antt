@@ -4,7 +4,7 @@ use Rattle.std.specs.Prelude.{IfOk, IfSome, Result, option_map}
 use Rattle.std.specs.declared.alloc.AllocError.{AllocError}
 use Rattle.std.proofs.lemmas.Result.{err_from_is_err_and}
 use Rattle.parse_expressions.proofs.Together.{both_given, second_refused}
-use Rattle.just_text.specs.Tokens.{word_of}
+use Rattle.just_text.specs.Tokens.{lexeme, word_of}
 use Rattle.tree_attributes.specs.Attributes.{AttributeShape, attribute_shape, options_shape}
 use Rattle.tree_attributes.specs.declared.attribute.ArgumentOptions.{ArgumentOptions}
 use Rattle.tree_attributes.specs.declared.attribute.Attribute.{Attribute}
@@ -16,6 +16,7 @@ use Rattle.parse_attributes.specs.Cooked.{AreCookedOptions, IsCookedAttribute}
 use Rattle.parse_attributes.specs.declared.arguments.ArgumentsRead.{ArgumentsRead}
 use Rattle.parse_attributes.specs.Seen.{options_in}
 use Rattle.parse_attributes.proofs.Known.{counted_read, known_so, not_counted, refused_again}
+use Rattle.parse_attributes.proofs.Named.{named_so}
 use Rattle.parse_attributes.proofs.attribute.known.Goals as goal
 
 pub returns-in_err-arguments-clause-gives : goal.returns-in_err-arguments-clause-gives
@@ -59,6 +60,9 @@ returns-clause-whole g c =
     let is : option_map attribute_shape c.in_ok-options.attribute ≡ made x c.args.kind (arguments_shape c.in_ok-arguments-2.arguments) =
     subst (λ (r : Result (Option Attribute) AllocError). IfOk r (λ a. option_map attribute_shape a ≡ made x c.args.kind (arguments_shape c.in_ok-arguments-2.arguments))) last.1 (c.made-made.ensures.shape (origin_of g.E.Expander.expansion c.args.context.now) cooked) in
     record {
+      named =
+          named_so x c.args.kind a (lexeme c.args.name.token) c.in_ok-options.attribute c.requires c.in_ok-arguments.ensures.sort c.in_ok-arguments.ensures.taken
+          (is ∙ ap (λ (r : ArgumentsRead). made x c.args.kind (arguments_shape r)) given.0);
       again = ap (option_map options_shape) last.0 ∙ gives ∙ ap options_in (ap (λ (r : ArgumentsRead). made x c.args.kind (arguments_shape r)) (sym given.0) ∙ sym is);
       cooked = subst (λ (r : Result (Option Attribute) AllocError). IfOk r (λ a. IfSome a (IsCookedAttribute (origin_of g.E.Expander.expansion c.args.context.now)))) last.1 (c.made-made.ensures.cooked (origin_of g.E.Expander.expansion c.args.context.now) cooked);
       cooked_options =

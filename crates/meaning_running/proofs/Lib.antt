@@ -1,0 +1,3 @@
+pub mod Written
+pub mod Ended
+pub mod Running

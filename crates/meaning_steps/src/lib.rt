@@ -1,0 +1,4 @@
+//! Steps of calls by places are steps by names.
+#![tactic(auto)]
+
+pub mod law;
