@@ -176,4 +176,5 @@ module _ (w : World) (o : Overrides) where
     pub variables : (x : VariableName) (row : VariableRow) → (defined.variable x ≡ Some row) ↔ IsVariableRow x row
     pub overrides : (x : VariableName) (text : Text) → (defined.override x ≡ Some text) ↔ IsOverrideOf x text
     pub functions : (path : List Text) (own : Text) → IsModule w path own → AreFunctions own (defined.functions path)
+    pub nowhere : (path : List Text) → ((own : Text) → IsModule w path own → ⊥) → (defined.names path ≡ []) × (defined.functions path ≡ [])
     pub modules : (path : List Text) (row : ModuleRow) → (defined.inside path ≡ Some row) ↔ IsModuleRow base working path row

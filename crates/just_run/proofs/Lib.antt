@@ -3,6 +3,7 @@ mod Again
 mod Driven
 mod Early
 mod Failed
+mod Formatted
 mod Planned
 mod Ran
 mod Roots

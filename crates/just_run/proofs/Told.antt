@@ -1,64 +1,174 @@
 -- What is told by places is told by what is defined.
-use Rattle.std.proofs.Common.{◌≡◌, ◌≢◌, ◌∙◌, ap, map, refl, sym, subst, ℕ, Bool, false, List, [], ◌∷◌, Result, Ok, Err}
+use Rattle.std.proofs.Common.{◌≡◌, ◌≢◌, ◌∙◌, inl, inr, ap, map, refl, sym, subst, ℕ, Bool, true, false, List, [], ◌∷◌, Some, Result, Ok, Err}
+use Rattle.std.specs.Borrow.{Bor}
 use Rattle.std.specs.Global.{Vec}
 use Rattle.std.specs.String.{string_bytes}
+use Rattle.just_host.specs.declared.entry.Entry.{Entry}
+use Rattle.tree_items.specs.Lines.{no_sigils}
 use Rattle.evaluate_context.specs.Refusals.{fault_of}
 use Rattle.analyze_calls.specs.Calls.{CallRow, rows}
 use Rattle.analyze_calls.specs.declared.call.Call.{Call}
 use Rattle.analyze_calls.specs.declared.fault.OpeningFault.TheVariants as openings
+use Rattle.justfile_analyzer.specs.declared.target.EvaluationTarget.{EvaluationTarget}
+use Rattle.justfile_analyzer.specs.declared.target.EvaluationTarget.TheVariants.{Module}
 use Rattle.justfile_evaluator.specs.declared.fault.RunFault.TheVariants as faults
 use Rattle.modules_compilation.specs.declared.compilation.Compilation.{Compilation}
 use Rattle.resolve_analysis.specs.declared.analysis.Analysis.{Analysis}
-use Rattle.run_tasks.specs.Opened.{IfEnded, RunEnd, failed, not_opened, ran}
+use Rattle.run_tasks.specs.Performed.{Fits, IfPerformed, RunEnd, TaskEnd, command_failed, end_by, ends_as, failed, not_opened, ran}
 use Rattle.run_tasks.specs.declared.fault.TaskFault.{TaskFault}
 use Rattle.run_tasks.specs.declared.fault.TaskFault.TheVariants as tasks
 use Rattle.run_tasks.specs.declared.task.Performed.{Performed}
 use Rattle.run_tasks.specs.declared.task.Performed.TheVariants.{Evaluated, Ran}
-use Rattle.run_prepared.specs.Runs.{RunsCalls}
+use Rattle.run_tasks.specs.declared.task.Task.{Task}
+use Rattle.run_tasks.specs.declared.task.Task.TheVariants as of_task
+use Rattle.run_prepared.specs.Performed.{PerformsTask}
+use Rattle.run_requests.specs.Asked.{IsAskedFor}
+use Rattle.run_requests.specs.Words.{InvokesAt, values_of}
+use Rattle.run_requests.specs.declared.action.Action.{Action}
+use Rattle.run_requests.specs.declared.action.Action.TheVariants as requested
+use Rattle.run_requests.specs.declared.request.Request.{Request}
+use Rattle.run_requests.specs.declared.request.Request.TheVariants as requests
+use Rattle.run_requests.specs.declared.request.RootText.{RootText}
+use Rattle.run_requests.specs.declared.request.RootText.TheVariants as texts
 use Rattle.meaning_dialogues.specs.Faults.{memory}
-use Rattle.meaning_opening.specs.Requests.{opening}
-use Rattle.meaning_runs.specs.Failures.{evaluation}
+use Rattle.meaning_runs.specs.Failures.{Failure, Next, evaluation, next_by}
 use Rattle.meaning_runs.specs.Tallies.{Tally}
 use Rattle.meaning_menus.specs.Calls.{CallsAreThere}
+use Rattle.meaning_calls.specs.Calling.{without_next}
 use Rattle.meaning_calls.specs.Named.{Call as NamedCall, Definitions}
-use Rattle.meaning_overriding.specs.Texts.{overrides_of}
+use Rattle.meaning_calls.specs.Scopes.{Configuration}
 use Rattle.meaning_worlds.specs.Given.{Given, World}
 use Rattle.meaning_worlds.specs.Standing.{StandsFor}
 use Rattle.meaning_grounds.specs.Alike.{configuration_of}
 use Rattle.meaning_menus.specs.Named.{name_at}
 use Rattle.just_resolve.specs.Analysis.{IsAnalysis}
 use Rattle.just_resolve.specs.Rules.{IsResolvable}
+use Rattle.just_meaning.specs.Actions.{ActionEnd, CommandGoes, EvaluateGoes}
+use Rattle.just_meaning.specs.Actions as actions
+use Rattle.just_meaning.specs.Actions.{target_of as values_named}
 use Rattle.just_meaning.specs.Runs.{Runs, call_in}
 use Rattle.meaning_defined.specs.Defined.{IsDefinedBy, named_call}
 use Rattle.meaning_defined.proofs.Calls.{words_invoke_recipes}
-use Rattle.meaning_running.specs.Running.{IsToldEnd, outcome_of}
+use Rattle.meaning_running.specs.Running.{IsToldEnd, IsToldTask, action_end, outcome_of}
+use Rattle.meaning_running.proofs.Commanding.{commands_are_named}
 use Rattle.meaning_running.proofs.Running.{calls_run_named}
-use Rattle.just_run.specs.Named.{End, IfRan, Left, RunsNamed, RunsTo, none, runs}
-use Rattle.just_run.specs.Ran.{EndsRun, Invokes, RunsInvoked, answer_of}
-use Rattle.just_run.specs.Ran as placed
+use Rattle.meaning_running.proofs.Telling.{evaluations_are_named}
+use Rattle.meaning_running.proofs.There.{root_there, target_there}
+use Rattle.meaning_running.specs.Told.{IsThere}
+use Rattle.meaning_names.specs.Names.{AreSingle, IsOfWorld}
+use Rattle.resolve_analysis.specs.declared.module_lists.ModuleLists.{ModuleLists}
+use Rattle.std.proofs.lemmas.Option.{same_Some}
+use Rattle.just_run.specs.Named.{End, GoesNamed, IfCommanded, IfRan, IfTold, IsListed, Left, PlansNamed, RunsBetween, RunsNamed, as_run}
+use Rattle.just_run.specs.Named as named
+use Rattle.just_run.specs.Passed.{task_fault}
+use Rattle.just_run.specs.Ran.{Answers, EndsTask, GoesPlaced, PlanEnds, PlansTask, does, plan_answer, plans, tells, unwritten, written}
 use Rattle.just_run.specs.Sources.{Asked, TellsDefined, TellsPlaced, TellsWords, broken, clear}
+use Rattle.just_run.specs.Writes.{Writes}
 use Rattle.just_run.specs.declared.fault.Fault.{Fault}
+use Rattle.just_run.specs.declared.fault.Fault.TheVariants as results
 use Rattle.just_run.specs.declared.outcome.Outcome.{Outcome}
+use Rattle.just_run.specs.declared.outcome.Outcome.TheVariants as outcomes
 
 -- ---- how a run ends
 
-module _ (exhausted : Bool) (P : RunEnd → Type 0) (Q : End → Type 0) (there : (end : RunEnd) → IsToldEnd end → P end → Q (outcome_of end)) where
-  ended_so : (performed : Result Performed TaskFault) → IfEnded exhausted performed P → IfRan exhausted (answer_of performed) Q
-  ended_so (Ok Ran) h = λ e. there ran tt (h e)
-  ended_so (Ok (Evaluated text)) h = absurd h
-  ended_so (Err (tasks.Opening openings.OutOfMemory)) h = tt
-  ended_so (Err (tasks.Opening (openings.Dotenv fault))) h = there (not_opened _) (λ e. absurd (cc e)) h
-  ended_so (Err (tasks.Opening (openings.Opening error))) h = λ n. there (not_opened _) (λ e. n (cc e)) h
-  ended_so (Err (tasks.Run faults.OutOfMemory)) h = tt
-  ended_so (Err (tasks.Run (faults.Evaluation error))) h = λ e n. let told : evaluation (fault_of error) ≢ evaluation memory = λ q. n (cc q) in there (failed _) told (h e told)
-  ended_so (Err (tasks.Run (faults.Code recipe code silent))) h = λ e. there (failed _) (λ q. absurd (cc q)) (h e (λ q. absurd (cc q)))
-  ended_so (Err (tasks.Run (faults.Signal recipe signal silent))) h = λ e. there (failed _) (λ q. absurd (cc q)) (h e (λ q. absurd (cc q)))
-  ended_so (Err (tasks.Run (faults.CouldNotStart recipe))) h = λ e. there (failed _) (λ q. absurd (cc q)) (h e (λ q. absurd (cc q)))
-  ended_so (Err (tasks.Run (faults.NotConfirmed recipe))) h = λ e. there (failed _) (λ q. absurd (cc q)) (h e (λ q. absurd (cc q)))
-  ended_so (Err (tasks.Command fault)) h = absurd h
+-- the answer of a run
+abbrev run_answer : Result Performed TaskFault → Result Outcome Fault
+run_answer (Ok performed) = Ok outcomes.Ran
+run_answer (Err fault) = Err (task_fault fault)
 
-  ran_so : (result : Result Outcome Fault) → EndsRun exhausted result P → IfRan exhausted result Q
-  ran_so result ends = subst (λ r. IfRan exhausted r Q) (sym ends.is) (ended_so ends.performed ends.ended)
+module _ (exhausted : Bool) (calls : Vec Call) (P : TaskEnd → Type 0) (Q : End → Type 0) (there : (end : RunEnd) → IsToldEnd end → P (ends_as end) → Q (outcome_of end)) where
+  ended_so : (performed : Result Performed TaskFault) → IfPerformed (of_task.Run calls) exhausted performed P → IfRan exhausted (run_answer performed) Q
+  ended_so (Ok Ran) h = λ e. there ran tt (h.1 e)
+  ended_so (Ok (Evaluated text)) h = absurd h.0
+  ended_so (Err (tasks.Opening openings.OutOfMemory)) h = tt
+  ended_so (Err (tasks.Opening (openings.Dotenv fault))) h = there (not_opened _) (λ e. absurd (cc e)) h.1
+  ended_so (Err (tasks.Opening (openings.Opening error))) h = λ n. there (not_opened _) (λ e. n (cc e)) h.1
+  ended_so (Err (tasks.Run faults.OutOfMemory)) h = tt
+  ended_so (Err (tasks.Run (faults.Evaluation error))) h = λ e n. let told : evaluation (fault_of error) ≢ evaluation memory = λ q. n (cc q) in there (failed _) told (h.1 e told)
+  ended_so (Err (tasks.Run (faults.Code recipe code silent))) h = λ e. there (failed _) (λ q. absurd (cc q)) (h.1 e (λ q. absurd (cc q)))
+  ended_so (Err (tasks.Run (faults.Signal recipe signal silent))) h = λ e. there (failed _) (λ q. absurd (cc q)) (h.1 e (λ q. absurd (cc q)))
+  ended_so (Err (tasks.Run (faults.CouldNotStart recipe))) h = λ e. there (failed _) (λ q. absurd (cc q)) (h.1 e (λ q. absurd (cc q)))
+  ended_so (Err (tasks.Run (faults.NotConfirmed recipe))) h = λ e. there (failed _) (λ q. absurd (cc q)) (h.1 e (λ q. absurd (cc q)))
+  ended_so (Err (tasks.Command fault)) h = absurd h.0
+
+-- what is answered of a run, and that it writes nothing
+run_told : (left : Left) (result : Result Outcome Fault) (calls : Vec Call) (performed : Result Performed TaskFault) → Fits (of_task.Run calls) performed → Answers left performed result → (result ≡ run_answer performed) × (left.sends.written ≡ left.sent.written)
+run_told left result calls (Ok Ran) fits a = a
+run_told left result calls (Ok (Evaluated text)) fits a = absurd fits
+run_told left result calls (Err fault) fits a = a
+
+-- what is answered of a plan, as the run's answer
+planned_told : (performed : Result Performed TaskFault) → as_run (plan_answer performed) ≡ run_answer performed
+planned_told (Ok performed) = refl
+planned_told (Err (tasks.Opening openings.OutOfMemory)) = refl
+planned_told (Err (tasks.Opening (openings.Dotenv fault))) = refl
+planned_told (Err (tasks.Opening (openings.Opening error))) = refl
+planned_told (Err (tasks.Run faults.OutOfMemory)) = refl
+planned_told (Err (tasks.Run (faults.Evaluation error))) = refl
+planned_told (Err (tasks.Run (faults.Code recipe code silent))) = refl
+planned_told (Err (tasks.Run (faults.Signal recipe signal silent))) = refl
+planned_told (Err (tasks.Run (faults.CouldNotStart recipe))) = refl
+planned_told (Err (tasks.Run (faults.NotConfirmed recipe))) = refl
+planned_told (Err (tasks.Command fault)) = refl
+
+-- ---- how values are told, and how a command ends
+
+module _ (left : Left) (result : Result Outcome Fault) (Q : ActionEnd → Type 0) where
+  -- the text is written, or a beginning of it
+  written_so : (text : List ℕ) (r : Result Outcome Fault) → Writes left.sent text outcomes.Evaluated r left.sends → Q (actions.written text) → IfTold left r Q
+  written_so text (Ok answer) a q = subst (λ o. IfTold left (Ok o) Q) (sym a.0) (text, a.1, q)
+  written_so text (Err results.Write) a q = (text, a.0, q)
+  written_so text (Err results.OutOfMemory) a q = tt
+  written_so text (Err (results.NoRootForWord word)) a q = absurd a
+  written_so text (Err (results.Plain fault)) a q = absurd a
+  written_so text (Err (results.Justfile error)) a q = absurd a
+  written_so text (Err (results.Words fault)) a q = absurd a
+  written_so text (Err (results.Dotenv fault)) a q = absurd a
+  written_so text (Err (results.Opening error)) a q = absurd a
+  written_so text (Err (results.Evaluation error)) a q = absurd a
+  written_so text (Err (results.Code recipe code is_silent)) a q = absurd a
+  written_so text (Err (results.Signal recipe signal is_silent)) a q = absurd a
+  written_so text (Err (results.CouldNotStart recipe)) a q = absurd a
+  written_so text (Err (results.NotConfirmed recipe)) a q = absurd a
+  written_so text (Err (results.Command fault)) a q = absurd a
+  written_so text (Err (results.NotPrintable path)) a q = absurd a
+
+  module _ (P : TaskEnd → Type 0) (there : (end : TaskEnd) → IsToldTask end → P end → Q (action_end true end)) where
+    values_so : (target : EvaluationTarget) (performed : Result Performed TaskFault) → Answers left performed result → IfPerformed (of_task.Evaluate target) left.exhausted performed P → IfTold left result Q
+    values_so target (Ok Ran) a h = absurd h.0
+    values_so target (Ok (Evaluated text)) a h = written_so (string_bytes text) result a (there _ tt h.1)
+    values_so target (Err (tasks.Opening openings.OutOfMemory)) a h = subst (λ r. IfTold left r Q) (sym a.0) tt
+    values_so target (Err (tasks.Opening (openings.Dotenv fault))) a h = subst (λ r. IfTold left r Q) (sym a.0) (there (ends_as (not_opened _)) (λ e. absurd (cc e)) h.1)
+    values_so target (Err (tasks.Opening (openings.Opening error))) a h = subst (λ r. IfTold left r Q) (sym a.0) (λ n. there (ends_as (not_opened _)) (λ e. n (cc e)) h.1)
+    values_so target (Err (tasks.Run fault)) a h =
+        let memory_told : result ≡ Err results.OutOfMemory = subst (λ f. result ≡ Err (task_fault (tasks.Run f))) h.0 a.0 in
+        subst (λ r. IfTold left r Q) (sym memory_told) tt
+    values_so target (Err (tasks.Command fault)) a h = absurd h.0
+
+    -- how a command ends by its status
+    command_so : (r : Result Next Failure) → P (end_by r) → Q (actions.end_of (without_next r))
+    command_so (Ok next) p = there (ends_as ran) tt p
+    command_so (Err failure) p = there (command_failed failure) tt p
+
+    commanded_so : (words : Bor (List (List ℕ))) (performed : Result Performed TaskFault) → Answers left performed result → IfPerformed (of_task.Command words) left.exhausted performed P → IfCommanded left.exhausted result Q
+    commanded_so words (Ok Ran) a h = subst (λ r. IfCommanded left.exhausted r Q) (sym a.0) (λ e. there (ends_as ran) tt (h.1 e))
+    commanded_so words (Ok (Evaluated text)) a h = absurd h.0
+    commanded_so words (Err (tasks.Opening openings.OutOfMemory)) a h = subst (λ r. IfCommanded left.exhausted r Q) (sym a.0) tt
+    commanded_so words (Err (tasks.Opening (openings.Dotenv fault))) a h = subst (λ r. IfCommanded left.exhausted r Q) (sym a.0) (there (ends_as (not_opened _)) (λ e. absurd (cc e)) h.1)
+    commanded_so words (Err (tasks.Opening (openings.Opening error))) a h = subst (λ r. IfCommanded left.exhausted r Q) (sym a.0) (λ n. there (ends_as (not_opened _)) (λ e. n (cc e)) h.1)
+    commanded_so words (Err (tasks.Run fault)) a h =
+        let memory_told : result ≡ Err results.OutOfMemory = subst (λ f. result ≡ Err (task_fault (tasks.Run f))) h.0 a.0 in
+        subst (λ r. IfCommanded left.exhausted r Q) (sym memory_told) tt
+    commanded_so words (Err (tasks.Command fault)) a h = subst (λ r. IfCommanded left.exhausted r Q) (sym a.0) (λ e. command_so (next_by fault.word no_sigils fault.status) (h.1 e))
+
+-- ---- what words name
+
+module _ (w : World) (compilation : Compilation) (is : IsOfWorld w compilation) (single : AreSingle w compilation) (lists : List ModuleLists) where
+  -- what words name for values is there
+  values_there : (words : List (List ℕ)) (target : EvaluationTarget) → values_of compilation.modules.items lists words ≡ Some target → IsThere compilation target
+  values_there [] target e = subst (IsThere compilation) (same_Some (Module 0) target e) (root_there w compilation is single lists)
+  values_there (word ∷ []) target e = target_there w compilation is single lists word target e
+  values_there (word ∷ other ∷ words) target e = absurd (cc e)
 
 -- ---- what is told
 
@@ -67,33 +177,130 @@ module _ (source : Given) (w : World) (stands : StandsFor source w) (compilation
   abbrev Defined : Type 0
   Defined = IsDefinedBy w compilation asked.words.overrides (string_bytes asked.config.base) (string_bytes asked.config.working_directory) analysis asked.words.arguments
 
+  abbrev configuration : Configuration
+  configuration = configuration_of asked.config root w.expansion
+
+  -- what the action and the words ask for
+  abbrev AskedFor : Action → Request → Type 0
+  AskedFor = IsAskedFor compilation analysis asked.words.arguments
+
+  abbrev Invokes : Vec Call → Type 0
+  Invokes calls = InvokesAt compilation analysis.table.value analysis.values.value.settings.items asked.words.arguments (rows calls.items)
+
+  abbrev Performs : Task → List Entry → List Entry → TaskEnd → Type 0
+  Performs task = PerformsTask compilation analysis asked.config root task
+
   -- calls by their names
   named_calls : (calls : List CallRow) → map call_in (map (named_call compilation analysis) calls) ≡ map (λ (call : CallRow). let c : NamedCall = record { recipe = name_at compilation analysis.table.value call.recipe; groups = call.groups } in c) calls
   named_calls [] = refl
   named_calls (call ∷ calls) = ap (λ more. (record { recipe = name_at compilation analysis.table.value call.recipe; groups = call.groups }) ∷ more) (named_calls calls)
 
   -- their recipes are those of the table
-  calls_there : (calls : Vec Call) → Invokes compilation analysis asked.config root asked.words.arguments (rows calls.items) → CallsAreThere analysis.table.value (rows calls.items)
+  calls_there : (calls : Vec Call) → Invokes calls → CallsAreThere analysis.table.value (rows calls.items)
   calls_there calls invokes = words_invoke_recipes compilation analysis.table.value analysis.values.value.settings.items asked.words.arguments (rows calls.items) invokes
 
-  -- calls that run by places run by their names
-  named_run : (d : Defined) (calls : Vec Call) → CallsAreThere analysis.table.value (rows calls.items) → (end : RunEnd) → IsToldEnd end → RunsCalls compilation analysis asked.config root calls left.before left.behind end
-      → RunsTo (configuration_of asked.config root w.expansion) d.defined asked.words.arguments left result (map (named_call compilation analysis) (rows calls.items)) (outcome_of end)
-  named_run d calls there end told goes =
-      let r = calls_run_named ⊥ source w compilation stands resolvable asked.words.overrides asked.config analysis known d.settled root calls there left.before left.behind end told goes in
-      subst (λ (q : Definitions × List NamedCall). (t : Tally) × Runs {Rule = ⊥} (configuration_of asked.config root w.expansion) q.0 q.1 left.before (record { calls = 0; entered = 0 }) left.behind t (outcome_of end))
-      (λ i. (sym d.is i, sym (named_calls (rows calls.items)) i)) r
+  module _ (d : Defined) where
+    abbrev Goes : List Entry → List Entry → Vec Call → End → Type 0
+    Goes old new calls = RunsBetween configuration d.defined asked.words.arguments left result old new (map (named_call compilation analysis) (rows calls.items))
 
-  -- the calls that the words invoke run by their names
-  told_run : (d : Defined) → RunsInvoked compilation analysis asked.config root asked.words.arguments left.before left.behind left.exhausted result
-      → RunsNamed (configuration_of asked.config root w.expansion) d.defined asked.words.arguments left result
-  told_run d (placed.none invokes same) = none (d.invokes [] invokes) same
-  told_run d (placed.runs calls invokes ends) = runs _ (d.invokes (rows calls.items) invokes)
-      (ran_so left.exhausted (RunsCalls compilation analysis asked.config root calls left.before left.behind) _ (λ end told goes. named_run d calls (calls_there calls invokes) end told goes) result ends)
+    -- calls that run by places run by their names
+    named_run : (calls : Vec Call) → CallsAreThere analysis.table.value (rows calls.items) → (old new : List Entry) (end : RunEnd) → IsToldEnd end → Performs (of_task.Run calls) old new (ends_as end) → Goes old new calls (outcome_of end)
+    named_run calls there old new end told goes =
+        let r = calls_run_named ⊥ source w compilation stands resolvable asked.words.overrides asked.config analysis known d.settled root calls there old new end told goes in
+        subst (λ (q : Definitions × List NamedCall). (t : Tally) × Runs {Rule = ⊥} configuration q.0 q.1 old (record { calls = 0; entered = 0 }) new t (outcome_of end))
+        (λ i. (sym d.is i, sym (named_calls (rows calls.items)) i)) r
 
-  told_words : (d : Defined) → TellsPlaced compilation analysis asked root left result → TellsWords asked root left result w d.defined
-  told_words d (broken fault is breaks) = broken fault is (d.breaks asked.action fault breaks)
-  told_words d (clear means other run) = clear (d.means asked.action means) other (λ is. told_run d (run is))
+    -- ---- runs
+
+    run_done : (calls : Vec Call) → Invokes calls → EndsTask left result (of_task.Run calls) (Performs (of_task.Run calls) left.before left.behind) → RunsNamed configuration d.defined asked.words.arguments left result
+    run_done calls invokes ends =
+        let told = run_told left result calls ends.performed ends.ended.0 ends.answers in
+        named.runs _ (d.invokes (rows calls.items) invokes)
+        (subst (λ r. IfRan left.exhausted r (Goes left.before left.behind calls)) (sym told.0)
+        (ended_so left.exhausted calls (Performs (of_task.Run calls) left.before left.behind) (Goes left.before left.behind calls) (λ end so goes. named_run calls (calls_there calls invokes) left.before left.behind end so goes) ends.performed ends.ended))
+        told.1
+
+    run_so : (task : Task) → AskedFor requested.Run (requests.Task task) → EndsTask left result task (Performs task left.before left.behind) → RunsNamed configuration d.defined asked.words.arguments left result
+    run_so (of_task.Run calls) h ends = run_done calls (subst (InvokesAt compilation analysis.table.value analysis.values.value.settings.items asked.words.arguments) (sym h.2) h.1) ends
+    run_so (of_task.Evaluate target) h ends = absurd h.2
+    run_so (of_task.Command words) h ends = absurd h.2
+
+    run_listed : (text : RootText) → AskedFor requested.Run (requests.Text text) → left.behind ≡ left.before → (text ≡ texts.List → IsListed left result) → RunsNamed configuration d.defined asked.words.arguments left result
+    run_listed texts.List h same listed = named.none (d.invokes [] (subst (InvokesAt compilation analysis.table.value analysis.values.value.settings.items asked.words.arguments) h.2 h.1)) same (listed refl)
+    run_listed texts.Dump h same listed = absurd h.2
+    run_listed texts.Format h same listed = absurd h.2
+
+    -- ---- plans
+
+    plan_ran : (calls : Vec Call) → Invokes calls → (entries : List Entry) (performed : Result Performed TaskFault) → PlanEnds result (of_task.Run calls) performed (Performs (of_task.Run calls) [] entries) → IfRan false (as_run result) (Goes [] entries calls)
+    plan_ran calls invokes entries performed (written is goes) =
+        subst (λ r. IfRan false r (Goes [] entries calls)) (sym (ap as_run is ∙ planned_told performed))
+        (ended_so false calls (Performs (of_task.Run calls) [] entries) (Goes [] entries calls) (λ end so goes. named_run calls (calls_there calls invokes) [] entries end so goes) performed goes)
+    plan_ran calls invokes entries performed (unwritten (inl is)) = subst (λ r. IfRan false r (Goes [] entries calls)) (sym (ap as_run is)) tt
+    plan_ran calls invokes entries performed (unwritten (inr is)) = subst (λ r. IfRan false r (Goes [] entries calls)) (sym (ap as_run is)) tt
+
+    plan_so : (calls : Vec Call) → AskedFor requested.Plan (requests.Plan calls) → PlansTask left result (of_task.Run calls) (Performs (of_task.Run calls) []) → PlansNamed configuration d.defined asked.words.arguments left result
+    plan_so calls h p =
+        let invokes = subst (InvokesAt compilation analysis.table.value analysis.values.value.settings.items asked.words.arguments) (sym h.2) h.1 in
+        named.plans _ (d.invokes (rows calls.items) invokes) (record { entries = p.entries; asked = p.asked; written = p.written; ran = plan_ran calls invokes p.entries p.performed p.ended })
+
+    plan_listed : (text : RootText) → AskedFor requested.Plan (requests.Text text) → left.behind ≡ left.before → (text ≡ texts.List → IsListed left result) → PlansNamed configuration d.defined asked.words.arguments left result
+    plan_listed texts.List h same listed = named.none (d.invokes [] (subst (InvokesAt compilation analysis.table.value analysis.values.value.settings.items asked.words.arguments) h.2 h.1)) same (listed refl)
+    plan_listed texts.Dump h same listed = absurd h.2
+    plan_listed texts.Format h same listed = absurd h.2
+
+    -- ---- values
+
+    values_told : (target : EvaluationTarget) → values_of compilation.modules.items analysis.variables.lists.items asked.words.arguments ≡ Some target → EndsTask left result (of_task.Evaluate target) (Performs (of_task.Evaluate target) left.before left.behind)
+        → IfTold left result (EvaluateGoes configuration d.defined true asked.words.arguments left.before left.behind)
+    values_told target is ends =
+        let t = d.targets target is in
+        values_so left result (EvaluateGoes configuration d.defined true asked.words.arguments left.before left.behind) (Performs (of_task.Evaluate target) left.before left.behind)
+        (λ end told goes. subst (λ defined. EvaluateGoes configuration defined true asked.words.arguments left.before left.behind (action_end true end)) (sym d.is)
+        (evaluations_are_named source w compilation stands resolvable asked.words.overrides asked.config analysis known d.settled root target (values_there w compilation resolvable.numbered.of resolvable.numbered.single analysis.variables.lists.items asked.words.arguments target is) asked.words.arguments t.0 t.2
+        (subst (λ (defined : Definitions). values_named defined asked.words.arguments ≡ Some t.0) d.is t.1) true left.before left.behind end told goes))
+        target ends.performed ends.answers ends.ended
+
+    values_done : (task : Task) → AskedFor requested.Evaluate (requests.Task task) → EndsTask left result task (Performs task left.before left.behind) → IfTold left result (EvaluateGoes configuration d.defined true asked.words.arguments left.before left.behind)
+    values_done task h ends =
+        let same : task ≡ of_task.Evaluate h.0 = cc h.2 in
+        values_told h.0 h.1 (subst (λ t. EndsTask left result t (Performs t left.before left.behind)) same ends)
+
+    -- ---- the command
+
+    command_done : (task : Task) → AskedFor requested.Command (requests.Task task) → EndsTask left result task (Performs task left.before left.behind) → IfCommanded left.exhausted result (CommandGoes configuration d.defined asked.words.arguments left.before left.behind)
+    command_done (of_task.Run calls) h ends = absurd h
+    command_done (of_task.Evaluate target) h ends = absurd h
+    command_done (of_task.Command words) h ends =
+        commanded_so left result (CommandGoes configuration d.defined asked.words.arguments left.before left.behind) (Performs (of_task.Command words) left.before left.behind)
+        (λ end told goes. subst (λ (q : Definitions × List (List ℕ)). CommandGoes configuration q.0 q.1 left.before left.behind (action_end true end)) (λ i. (sym d.is i, h.0 i))
+        (commands_are_named source w compilation stands resolvable asked.words.overrides asked.config analysis known d.settled root words (λ e. h.1 (sym h.0 ∙ e)) true left.before left.behind end told goes))
+        words ends.performed ends.answers ends.ended
+
+    -- ---- whatever is asked for
+
+    goes_so : (action : Action) → GoesPlaced compilation analysis asked.config root asked.words.arguments left result action → GoesNamed configuration d.defined asked.words.arguments left result action
+    goes_so requested.Run (does task h ends) = run_so task h ends
+    goes_so requested.Run (plans calls h p) = absurd h.2
+    goes_so requested.Run (tells text h same listed) = run_listed text h same listed
+    goes_so requested.Plan (does task h ends) = absurd h.2
+    goes_so requested.Plan (plans calls h p) = plan_so calls h p
+    goes_so requested.Plan (tells text h same listed) = plan_listed text h same listed
+    goes_so requested.Evaluate (does task h ends) = values_done task h ends
+    goes_so requested.Evaluate (plans calls h p) = absurd (cc h.2)
+    goes_so requested.Evaluate (tells text h same listed) = absurd (cc h.2)
+    goes_so requested.Command (does task h ends) = command_done task h ends
+    goes_so requested.Command (plans calls h p) = absurd h
+    goes_so requested.Command (tells text h same listed) = absurd h
+    goes_so requested.Dump g = tt
+    goes_so requested.Format g = tt
+    goes_so requested.List (does task h ends) = absurd (cc h.1)
+    goes_so requested.List (plans calls h p) = absurd (cc h.1)
+    goes_so requested.List (tells text h same listed) = listed (cc h.1)
+
+    told_words : TellsPlaced compilation analysis asked root left result → TellsWords asked root left result w d.defined
+    told_words (broken fault is breaks) = broken fault is (d.breaks asked.action fault breaks)
+    told_words (clear means other goes) = clear (d.means asked.action means) other (goes_so asked.action goes)
 
   -- where the justfile's analysis has what is defined in the world
   pub told_defined : Defined → TellsPlaced compilation analysis asked root left result → TellsDefined asked root left result w

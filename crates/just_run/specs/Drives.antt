@@ -34,7 +34,7 @@ pub record Drives {H : Type 0} (goes : H → List Entry → H → Type 0) (input
   -- a fault that is none of a run or of the output names a rule that is broken; then nothing was asked, handed over or written
   pub early : IfErr result (λ fault. IsEarly fault old.host old.written new.host new.written)
   -- where all files are looked at, the call is refused by a rule of files, modules, definitions, names or words exactly where one is broken, and else a run goes by what is defined by name
-  pub sources : LooksAtAll action inputs → AnswersSources given inputs (asked_of action inputs.words config) (left_of old.host new.host) result
+  pub sources : LooksAtAll action inputs → AnswersSources given inputs (asked_of action inputs.words config) (left_of old.host old.written old.failed new.host new.written new.failed) result
   -- where the text of the root file or the list of recipes is asked for, nothing is asked and nothing handed over
   pub silent : IsText action → new.host ≡ old.host
   -- where the call is refused nothing is written, unless the output takes no more, or a run fails whose plan is written

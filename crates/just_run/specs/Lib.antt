@@ -11,3 +11,4 @@ pub mod Sources
 pub mod Statuses
 pub mod Texts
 pub mod Writes
+pub mod Formatted

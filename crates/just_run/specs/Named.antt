@@ -1,32 +1,51 @@
 -- A run of the calls that words invoke, by the paths and names of their recipes.
-use Rattle.std.specs.Prelude.{◌≡◌, ◌≢◌, ℕ, Bool, false, List, [], map, Result, Ok, Err}
+use Rattle.std.specs.Prelude.{◌≡◌, ◌≢◌, ◌++◌, ℕ, Bool, true, false, List, [], map, Result, Ok, Err}
 use Rattle.just_text.specs.Tokens.{lexeme}
+use Rattle.just_host.specs.Follows.{questions}
+use Rattle.just_host.specs.Out.{IsPartOf, Sent}
 use Rattle.just_host.specs.Record.{Record}
 use Rattle.just_host.specs.declared.entry.Entry.{Entry}
 use Rattle.evaluate_context.specs.Refusals.{fault_of}
 use Rattle.meaning_dialogues.specs.Faults.{memory}
 use Rattle.meaning_opening.specs.Requests.{dotenv, opening}
-use Rattle.meaning_runs.specs.Failures.{by_code, by_signal, evaluation, not_confirmed, not_started}
+use Rattle.meaning_runs.specs.Failures.{by_code, by_signal, evaluation, next_by, not_confirmed, not_started}
+use Rattle.tree_items.specs.Lines.{no_sigils}
 use Rattle.meaning_runs.specs.Invokes.{Invoke}
 use Rattle.meaning_runs.specs.Tallies.{Tally}
 use Rattle.meaning_calls.specs.Named.{Definitions, RecipeName}
 use Rattle.meaning_calls.specs.Scopes.{Configuration}
+use Rattle.meaning_calls.specs.Calling.{without_next}
+use Rattle.just_meaning.specs.Actions.{ActionEnd, CommandGoes, EvaluateGoes}
+use Rattle.just_meaning.specs.Actions as actions
 use Rattle.just_meaning.specs.Menus.{menu_of}
 use Rattle.just_meaning.specs.Runs.{Runs, call_in}
 use Rattle.just_meaning.specs.Runs as named
+use Rattle.run_plan.specs.Plans.{plan_text}
+use Rattle.run_requests.specs.declared.action.Action.{Action}
+use Rattle.run_requests.specs.declared.action.Action.TheVariants as asked
+use Rattle.just_run.specs.Plans.{IsWrittenPlan}
+use Rattle.just_run.specs.Writes.{Writes}
 use Rattle.just_run.specs.declared.fault.Fault.{Fault}
 use Rattle.just_run.specs.declared.fault.Fault.TheVariants as faults
 use Rattle.just_run.specs.declared.outcome.Outcome.{Outcome}
 use Rattle.just_run.specs.declared.outcome.Outcome.TheVariants as outcomes
 
--- what a call leaves of its host: whether memory ran out, and the record before and after
+-- what a call leaves: whether memory ran out for the record, the record before and after, and what was written before and after
 pub record Left : Type 0 where
   pub exhausted : Bool
   pub before : List Entry
   pub behind : List Entry
+  pub sent : Sent
+  pub sends : Sent
 
-abbrev pub left_of : {H : Type 0} → Record H → Record H → Left
-left_of old new = record { exhausted = new.exhausted; before = old.entries; behind = new.entries }
+abbrev pub left_of : {H : Type 0} → Record H → List ℕ → ℕ → Record H → List ℕ → ℕ → Left
+left_of old written failed new writes fails = record {
+  exhausted = new.exhausted;
+  before = old.entries;
+  behind = new.entries;
+  sent = record { written = written; failed = failed };
+  sends = record { written = writes; failed = fails };
+}
 
 -- how a run ended, without rules
 abbrev pub End : Type 0
@@ -56,12 +75,97 @@ IfRan exhausted (Err (faults.Command fault)) P = ⊥
 IfRan exhausted (Err faults.Write) P = ⊥
 IfRan exhausted (Err (faults.NotPrintable path)) P = ⊥
 
-module _ (c : Configuration) (defined : Definitions) (words : List (List ℕ)) (left : Left) (result : Result Outcome Fault) where
-  -- modules open, and the invocations run over what was opened, with nothing done at first
-  abbrev pub RunsTo : List (RecipeName × List (List (List ℕ))) → End → Type 0
-  RunsTo invocations end = (t : Tally) × Runs c defined (map call_in invocations) left.before (record { calls = 0; entered = 0 }) left.behind t end
+-- P holds of how modules opened and values were told, where a beginning of the text may be written, and memory sufficed
+abbrev pub IfTold : Left → Result Outcome Fault → (ActionEnd → Type 0) → Type 0
+IfTold left (Ok outcomes.Ran) P = ⊥
+IfTold left (Ok outcomes.Planned) P = ⊥
+IfTold left (Ok outcomes.Evaluated) P = (text : List ℕ) × (left.sends.written ≡ left.sent.written ++ text) × P (actions.written text)
+IfTold left (Ok outcomes.Dumped) P = ⊥
+IfTold left (Ok (outcomes.Formatted path text)) P = ⊥
+IfTold left (Ok outcomes.Listed) P = ⊥
+IfTold left (Err faults.OutOfMemory) P = Unit {0}
+IfTold left (Err (faults.NoRootForWord word)) P = ⊥
+IfTold left (Err (faults.Plain fault)) P = ⊥
+IfTold left (Err (faults.Justfile error)) P = ⊥
+IfTold left (Err (faults.Words fault)) P = ⊥
+IfTold left (Err (faults.Dotenv fault)) P = P (actions.not_opened (dotenv fault))
+IfTold left (Err (faults.Opening error)) P = fault_of error ≢ memory → P (actions.not_opened (opening (fault_of error)))
+IfTold left (Err (faults.Evaluation error)) P = ⊥
+IfTold left (Err (faults.Code recipe code is_silent)) P = ⊥
+IfTold left (Err (faults.Signal recipe signal is_silent)) P = ⊥
+IfTold left (Err (faults.CouldNotStart recipe)) P = ⊥
+IfTold left (Err (faults.NotConfirmed recipe)) P = ⊥
+IfTold left (Err (faults.Command fault)) P = ⊥
+IfTold left (Err faults.Write) P = (text : List ℕ) × IsPartOf left.sent.written text left.sends.written × P (actions.written text)
+IfTold left (Err (faults.NotPrintable path)) P = ⊥
 
-  -- the words invoke nothing, and nothing was asked; or what they invoke runs, and how that ended is answered
+-- P holds of how modules opened and the one command ended, where memory sufficed
+abbrev pub IfCommanded : Bool → Result Outcome Fault → (ActionEnd → Type 0) → Type 0
+IfCommanded exhausted (Ok outcomes.Ran) P = exhausted ≡ false → P actions.done
+IfCommanded exhausted (Ok outcomes.Planned) P = ⊥
+IfCommanded exhausted (Ok outcomes.Evaluated) P = ⊥
+IfCommanded exhausted (Ok outcomes.Dumped) P = ⊥
+IfCommanded exhausted (Ok (outcomes.Formatted path text)) P = ⊥
+IfCommanded exhausted (Ok outcomes.Listed) P = ⊥
+IfCommanded exhausted (Err faults.OutOfMemory) P = Unit {0}
+IfCommanded exhausted (Err (faults.NoRootForWord word)) P = ⊥
+IfCommanded exhausted (Err (faults.Plain fault)) P = ⊥
+IfCommanded exhausted (Err (faults.Justfile error)) P = ⊥
+IfCommanded exhausted (Err (faults.Words fault)) P = ⊥
+IfCommanded exhausted (Err (faults.Dotenv fault)) P = P (actions.not_opened (dotenv fault))
+IfCommanded exhausted (Err (faults.Opening error)) P = fault_of error ≢ memory → P (actions.not_opened (opening (fault_of error)))
+IfCommanded exhausted (Err (faults.Evaluation error)) P = ⊥
+IfCommanded exhausted (Err (faults.Code recipe code is_silent)) P = ⊥
+IfCommanded exhausted (Err (faults.Signal recipe signal is_silent)) P = ⊥
+IfCommanded exhausted (Err (faults.CouldNotStart recipe)) P = ⊥
+IfCommanded exhausted (Err (faults.NotConfirmed recipe)) P = ⊥
+IfCommanded exhausted (Err (faults.Command fault)) P = exhausted ≡ false → P (actions.end_of (without_next (next_by fault.word no_sigils fault.status)))
+IfCommanded exhausted (Err faults.Write) P = ⊥
+IfCommanded exhausted (Err (faults.NotPrintable path)) P = ⊥
+
+-- a plan's answer as that of the run that was planned; where the plan was not written it says nothing of the run
+abbrev pub as_run : Result Outcome Fault → Result Outcome Fault
+as_run (Ok outcomes.Planned) = Ok outcomes.Ran
+as_run (Ok outcomes.Ran) = Ok outcomes.Planned
+as_run (Ok other) = Ok other
+as_run (Err faults.Write) = Err faults.OutOfMemory
+as_run (Err fault) = Err fault
+
+-- the list of recipes was written, or a beginning of it where a write failed
+abbrev pub IsListed : Left → Result Outcome Fault → Type 0
+IsListed left result = (text : List ℕ) × Writes left.sent text outcomes.Listed result left.sends
+
+module _ (c : Configuration) (defined : Definitions) (words : List (List ℕ)) (left : Left) (result : Result Outcome Fault) where
+  -- modules open, and the invocations run over what was opened, with nothing done at first, from one record to another
+  abbrev pub RunsBetween : List Entry → List Entry → List (RecipeName × List (List (List ℕ))) → End → Type 0
+  RunsBetween old new invocations end = (t : Tally) × Runs c defined (map call_in invocations) old (record { calls = 0; entered = 0 }) new t end
+
+  abbrev pub RunsTo : List (RecipeName × List (List (List ℕ))) → End → Type 0
+  RunsTo = RunsBetween left.before left.behind
+
+  -- The words invoke nothing, nothing was asked, and the recipes are listed; or what they invoke runs, how that ended is answered, and nothing is written.
   pub data RunsNamed : Type 0 where
-    none : Invoke (menu_of defined) words [] → left.behind ≡ left.before → RunsNamed
-    runs : (invocations : List (RecipeName × List (List (List ℕ)))) → Invoke (menu_of defined) words invocations → IfRan left.exhausted result (RunsTo invocations) → RunsNamed
+    none : Invoke (menu_of defined) words [] → left.behind ≡ left.before → IsListed left result → RunsNamed
+    runs : (invocations : List (RecipeName × List (List (List ℕ)))) → Invoke (menu_of defined) words invocations → IfRan left.exhausted result (RunsTo invocations) → left.sends.written ≡ left.sent.written → RunsNamed
+
+  -- What the words invoke runs under a host of which the caller's answers the questions alone; what was recorded there is written, and how the run ended is answered.
+  pub record PlansRun (invocations : List (RecipeName × List (List (List ℕ)))) : Type 0 where
+    pub entries : List Entry
+    pub asked : left.exhausted ≡ false → left.behind ≡ left.before ++ questions entries
+    pub written : IsWrittenPlan left.sent.written (plan_text entries) result left.sends.written
+    pub ran : IfRan false (as_run result) (RunsBetween [] entries invocations)
+
+  -- the words invoke nothing, nothing was asked, and the recipes are listed; or the run of what they invoke is planned
+  pub data PlansNamed : Type 0 where
+    none : Invoke (menu_of defined) words [] → left.behind ≡ left.before → IsListed left result → PlansNamed
+    plans : (invocations : List (RecipeName × List (List (List ℕ)))) → Invoke (menu_of defined) words invocations → PlansRun invocations → PlansNamed
+
+  -- what an action does that goes by what is defined; what a text of the root says is not said here
+  abbrev pub GoesNamed : Action → Type 0
+  GoesNamed asked.Run = RunsNamed
+  GoesNamed asked.Plan = PlansNamed
+  GoesNamed asked.Evaluate = IfTold left result (EvaluateGoes c defined true words left.before left.behind)
+  GoesNamed asked.Command = IfCommanded left.exhausted result (CommandGoes c defined words left.before left.behind)
+  GoesNamed asked.Dump = Unit {0}
+  GoesNamed asked.Format = Unit {0}
+  GoesNamed asked.List = IsListed left result

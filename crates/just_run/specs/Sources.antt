@@ -22,8 +22,8 @@ use Rattle.meaning_overriding.specs.Texts.{overrides_of}
 use Rattle.just_resolve.specs.Rules as names
 use Rattle.just_resolve.specs.declared.error.Error.{Error as NameError}
 use Rattle.just_run.specs.Early.{IsOfNoRule}
-use Rattle.just_run.specs.Named.{Left, RunsNamed}
-use Rattle.just_run.specs.Ran.{RunsInvoked}
+use Rattle.just_run.specs.Named.{GoesNamed, Left}
+use Rattle.just_run.specs.Ran.{GoesPlaced}
 use Rattle.meaning_grounds.specs.Alike.{configuration_of}
 use Rattle.just_run.specs.Passed.{file_fault, name_fault, word_fault}
 use Rattle.just_run.specs.Plain.{fault_of}
@@ -46,11 +46,11 @@ abbrev pub asked_of : Action → Positional → Config → Asked
 asked_of action words config = record { action = action; words = words; config = config }
 
 module _ (asked : Asked) (root : Text) (left : Left) (result : Result Outcome Fault) where
-  -- the words break a rule of what is asked for that the fault names, unless memory ran out; or they break none, and a fault is of no rule, and what the words of a run invoke runs
+  -- the words break a rule of what is asked for that the fault names, unless memory ran out; or they break none, a fault is of no rule, and what is asked for is done by what is defined
   pub data TellsWords (w : World) (defined : Definitions) : Type 0 where
     broken : (fault : WordFault) → result ≡ Err (word_fault fault) → BreaksNamed defined asked.words.arguments asked.action fault → TellsWords w defined
     clear : MeansNamed defined asked.words.arguments asked.action → IfErr result IsOfNoRule
-        → (asked.action ≡ actions.Run → RunsNamed (configuration_of asked.config root w.expansion) defined asked.words.arguments left result) → TellsWords w defined
+        → GoesNamed (configuration_of asked.config root w.expansion) defined asked.words.arguments left result asked.action → TellsWords w defined
 
   -- so it is by what the world defines
   pub record TellsDefined (w : World) : Type 0 where
@@ -75,8 +75,8 @@ pub data AnswersSources (given : Text → Given) (i : Inputs) (asked : Asked) (l
 
 -- ---- by places
 
--- the words break a rule of what is asked for that the fault names, unless memory ran out; or they break none, and a fault is of no rule, and the calls that the words of a run invoke run
+-- the words break a rule of what is asked for that the fault names, unless memory ran out; or they break none, a fault is of no rule, and what is asked for is done
 pub data TellsPlaced (compilation : Compilation) (analysis : Analysis) (asked : Asked) (root : Text) (left : Left) (result : Result Outcome Fault) : Type 0 where
   broken : (fault : WordFault) → result ≡ Err (word_fault fault) → BreaksPlaced compilation analysis asked.words.arguments asked.action fault → TellsPlaced compilation analysis asked root left result
   clear : MeansPlaced compilation analysis asked.words.arguments asked.action → IfErr result IsOfNoRule
-      → (asked.action ≡ actions.Run → RunsInvoked compilation analysis asked.config root asked.words.arguments left.before left.behind left.exhausted result) → TellsPlaced compilation analysis asked root left result
+      → GoesPlaced compilation analysis asked.config root asked.words.arguments left result asked.action → TellsPlaced compilation analysis asked root left result

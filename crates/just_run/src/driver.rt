@@ -16,6 +16,7 @@ ghost use Rattle.run_plain.specs.Setup.{setup_of};
 ghost use Rattle.run_plain.specs.Stages.{IsRead, IsRoot};
 ghost use Rattle.just_run.specs.Drives.{Drives};
 ghost use Rattle.just_run.specs.Early.{IsEarly, IsLate};
+ghost use Rattle.just_run.specs.Formatted.{InEachFormatted};
 ghost use Rattle.just_run.specs.Plain.{IsPlain, AnswersPlain, IsWay};
 ghost use Rattle.just_run.specs.Plans.{IsKeptBy, Plans};
 ghost use Rattle.run_requests.specs.Requests.{IsText};
@@ -27,12 +28,9 @@ ghost use Rattle.just_host.specs.Kinds.{Only};
 ghost use Rattle.just_host.specs.declared.entry.Entry.{Entry};
 ghost use Rattle.just_run.specs.Kinds.{AsksFor, MayAdd};
 ghost use Rattle.run_tasks.specs.Kinds as tasks;
-ghost use Rattle.run_tasks.specs.declared.task.Task.TheVariants as tasks_of;
-ghost use Rattle.run_prepared.specs.Runs.{RunsCalls};
+ghost use Rattle.run_prepared.specs.Performed.{PerformsTask};
 ghost use Rattle.just_run.specs.Named.{left_of};
-ghost use Rattle.just_run.specs.Ran.{EndsRun};
-ghost use Rattle.analyze_calls.specs.declared.call.Call.{Call};
-ghost use Rattle.std.specs.Global.{Vec};
+ghost use Rattle.just_run.specs.Ran.{EndsTask};
 
 use crate::fault::Fault;
 use crate::outcome::Outcome;
@@ -43,6 +41,7 @@ use just_modules::{Compilation, Compiler, Parsed};
 use just_resolve::{Analysis, Analyzer, number_variables};
 use just_value::Positional;
 use justfile_syntax::Expander;
+use justfile_syntax::file_law::file_law;
 use justfile_syntax::plain_files::Ast as PlainAst;
 use run_plain::{Root, read_root, run_file};
 use run_prepared::perform_task;
@@ -67,8 +66,8 @@ fn drive_task<'src, H: RunHost + Drop, O: Out>(
     ensures unfailed { WriteFails (O.failed out.old) result (O.failed out.new) }
     ensures late { IfErr result IsLate }
     ensures asks { tasks.AsksFor task.entry config.now.dry_run H.goes host.old host.new }
-    // Where calls run, it is answered how their run over what is known of the justfile ended.
-    ensures runs { (calls : Vec Call) → task.entry ≡ tasks_of.Run calls → EndsRun host.new.exhausted result (RunsCalls compilation.now analysis.now config.now root.now calls host.old.entries host.new.entries) }
+    // It is answered, and written, how the task over what is known of the justfile ended.
+    ensures ends { EndsTask (left_of host.old (O.written out.old) (O.failed out.old) host.new (O.written out.new) (O.failed out.new)) result task.entry (PerformsTask compilation.now analysis.now config.now root.now task.entry host.old.entries host.new.entries) }
 {
     let performed = perform_task(alloc, compilation, analysis, config, root, host, task)?;
     write_performed(performed, out)
@@ -92,7 +91,7 @@ fn drive_analysis<'src, H: RunHost + Drop, O: Out>(
     ensures early { IfErr result (λ fault. IsEarly fault host.old (O.written out.old) host.new (O.written out.new)) }
     ensures silent { IsText action → host.new ≡ host.old }
     ensures asks { AsksFor action config.now.dry_run H.goes host.old host.new }
-    ensures words { analysis.now.modules.now ≡ compilation.now.modules.items → AllByName compilation.now → TellsPlaced compilation.now analysis.now (asked_of action words.now config.now) root.now (left_of host.old host.new) result }
+    ensures words { analysis.now.modules.now ≡ compilation.now.modules.items → AllByName compilation.now → TellsPlaced compilation.now analysis.now (asked_of action words.now config.now) root.now (left_of host.old (O.written out.old) (O.failed out.old) host.new (O.written out.new) (O.failed out.new)) result }
 {
     let words = words.arguments.as_slice();
     let request = request_of(alloc, compilation, analysis, action, words)?;
@@ -138,7 +137,7 @@ fn drive_modules<'src, H: RunHost + Drop, O: Out>(
     ensures early { IfErr result (λ fault. IsEarly fault host.old (O.written out.old) host.new (O.written out.new)) }
     ensures silent { IsText action → host.new ≡ host.old }
     ensures asks { AsksFor action config.now.dry_run H.goes host.old host.new }
-    ensures names { (source : Given) (w : World) → StandsFor source w → IsResolvable w compilation.now → TellsNames (asked_of action words.now config.now) root.now (left_of host.old host.new) result w }
+    ensures names { (source : Given) (w : World) → StandsFor source w → IsResolvable w compilation.now → TellsNames (asked_of action words.now config.now) root.now (left_of host.old (O.written out.old) (O.failed out.old) host.new (O.written out.new) (O.failed out.new)) result w }
 {
     let overrides = words.overrides.as_slice();
     match Analyzer::analyze(alloc, compilation, config, overrides) {
@@ -190,7 +189,7 @@ fn drive_compilation<'src, H: RunHost + Drop, O: Out>(
     ensures early { IfErr result (λ fault. IsEarly fault host.old (O.written out.old) host.new (O.written out.new)) }
     ensures silent { IsText action → host.new ≡ host.old }
     ensures asks { AsksFor action config.now.dry_run H.goes host.old host.new }
-    ensures names { AllByName compilation.entry → (source : Given) (w : World) → StandsFor source w → IsMeantWhole w compilation.entry → TellsNames (asked_of action words.now config.now) root.now (left_of host.old host.new) result w }
+    ensures names { AllByName compilation.entry → (source : Given) (w : World) → StandsFor source w → IsMeantWhole w compilation.entry → TellsNames (asked_of action words.now config.now) root.now (left_of host.old (O.written out.old) (O.failed out.old) host.new (O.written out.new) (O.failed out.new)) result w }
 {
     match number_variables(alloc, &mut compilation) {
         Ok(()) => {
@@ -222,7 +221,7 @@ fn drive_files<'src, E: Expander, H: RunHost + Drop, O: Out>(
     ensures early { IfErr result (λ fault. IsEarly fault host.old (O.written out.old) host.new (O.written out.new)) }
     ensures silent { IsText action → host.new ≡ host.old }
     ensures asks { AsksFor action config.now.dry_run H.goes host.old host.new }
-    ensures sources { (start : Numbers) → length constant_rows ≤ start.bindings → IsRootRead sources.now (E.expansion expander.now) config.now.version start path.now parsed.entry → InEachWorld config.now.os config.now.unstable sources.now (E.expansion expander.now) config.now.version path.now (TellsSources (asked_of action words.now config.now) path.now (left_of host.old host.new) result) }
+    ensures sources { (start : Numbers) → length constant_rows ≤ start.bindings → IsRootRead sources.now (E.expansion expander.now) config.now.version start path.now parsed.entry → InEachWorld config.now.os config.now.unstable sources.now (E.expansion expander.now) config.now.version path.now (TellsSources (asked_of action words.now config.now) path.now (left_of host.old (O.written out.old) (O.failed out.old) host.new (O.written out.new) (O.failed out.new)) result) }
 {
     match Compiler::compile_parsed(alloc, config, expander, sources, path, parsed) {
         Ok(compilation) => drive_compilation(
@@ -306,7 +305,7 @@ fn drive_root<'src, E: Expander, H: RunHost + Drop, O: Out>(
     ensures early { (i : Inputs) → i.words ≡ words.now → IsRoot i root.entry.path.now (option_map shape_of root.entry.plain) → IfErr result (λ fault. IsEarly fault host.old (O.written out.old) host.new (O.written out.new)) }
     ensures silent { IsText action → host.new ≡ host.old }
     ensures asks { AsksFor action config.now.dry_run H.goes host.old host.new }
-    ensures sources { ((action ≡ Run) ⊎ (action ≡ Plan) → root.entry.plain ≡ None) → (start : Numbers) → length constant_rows ≤ start.bindings → IsRootRead sources.now (E.expansion expander.now) config.now.version start root.entry.path.now (record { ast = root.entry.file; numerator = root.entry.numerator }) → InEachWorld config.now.os config.now.unstable sources.now (E.expansion expander.now) config.now.version root.entry.path.now (TellsSources (asked_of action words.now config.now) root.entry.path.now (left_of host.old host.new) result) }
+    ensures sources { ((action ≡ Run) ⊎ (action ≡ Plan) → root.entry.plain ≡ None) → (start : Numbers) → length constant_rows ≤ start.bindings → IsRootRead sources.now (E.expansion expander.now) config.now.version start root.entry.path.now (record { ast = root.entry.file; numerator = root.entry.numerator }) → InEachWorld config.now.os config.now.unstable sources.now (E.expansion expander.now) config.now.version root.entry.path.now (TellsSources (asked_of action words.now config.now) root.entry.path.now (left_of host.old (O.written out.old) (O.failed out.old) host.new (O.written out.new) (O.failed out.new)) result) }
 {
     let Root {
         path,
@@ -353,7 +352,7 @@ fn drive_words<'src, E: Expander, H: RunHost + Drop, O: Out>(
     // Whatever is asked for: a fault that is none of a run or of the output names a rule that is broken; then nothing was asked, handed over or written.
     ensures early { IfErr result (λ fault. IsEarly fault host.old (O.written out.old) host.new (O.written out.new)) }
     // Where all files are looked at, the call is refused by a rule of files, modules, definitions, names or words exactly where one is broken, and else a run goes by what is defined by name.
-    ensures sources { LooksAtAll action (inputs_of (reader_of (E.expansion expander.now) config.now.version) sources.now roots.now words.now) → AnswersSources (given_of sources.now config.now.os config.now.unstable (E.expansion expander.now) config.now.version) (inputs_of (reader_of (E.expansion expander.now) config.now.version) sources.now roots.now words.now) (asked_of action (inputs_of (reader_of (E.expansion expander.now) config.now.version) sources.now roots.now words.now).words config.now) (left_of host.old host.new) result }
+    ensures sources { LooksAtAll action (inputs_of (reader_of (E.expansion expander.now) config.now.version) sources.now roots.now words.now) → AnswersSources (given_of sources.now config.now.os config.now.unstable (E.expansion expander.now) config.now.version) (inputs_of (reader_of (E.expansion expander.now) config.now.version) sources.now roots.now words.now) (asked_of action (inputs_of (reader_of (E.expansion expander.now) config.now.version) sources.now roots.now words.now).words config.now) (left_of host.old (O.written out.old) (O.failed out.old) host.new (O.written out.new) (O.failed out.new)) result }
     // Where the text of the root file or the list of recipes is asked for, nothing is asked and nothing handed over.
     ensures silent { IsText action → host.new ≡ host.old }
     // Where the call is refused nothing is written, unless the output takes no more, or a run fails whose plan is written.
@@ -402,8 +401,11 @@ pub fn drive<'src, E: Expander, H: RunHost + Drop, O: Out>(
     host: &mut Recorded<H>,
     out: &mut O,
 ) -> Result<Outcome, Fault<'src>>
-    ensures { Drives H.goes (inputs_of (reader_of (E.expansion expander.now) config.now.version) sources.now roots.now words.now) (given_of sources.now config.now.os config.now.unstable (E.expansion expander.now) config.now.version) config.now action (record { host = host.old; written = O.written out.old; failed = O.failed out.old }) result (record { host = host.new; written = O.written out.new; failed = O.failed out.new }) }
+    ensures drives { Drives H.goes (inputs_of (reader_of (E.expansion expander.now) config.now.version) sources.now roots.now words.now) (given_of sources.now config.now.os config.now.unstable (E.expansion expander.now) config.now.version) config.now action (record { host = host.old; written = O.written out.old; failed = O.failed out.old }) result (record { host = host.new; written = O.written out.new; failed = O.failed out.new }) }
+    // Where some of the files stand in their formatted text instead, the answer is one of that call.
+    ensures formatted { InEachFormatted (E.expansion expander.now) config.now.version sources.now (λ other. Drives H.goes (inputs_of (reader_of (E.expansion expander.now) config.now.version) other roots.now words.now) (given_of other config.now.os config.now.unstable (E.expansion expander.now) config.now.version) config.now action (record { host = host.old; written = O.written out.old; failed = O.failed out.old }) result (record { host = host.new; written = O.written out.new; failed = O.failed out.new })) }
 {
+    file_law();
     drive_words(
         alloc,
         config,
@@ -435,8 +437,11 @@ pub fn drive_and_leak<'src, E: Expander, H: RunHost + Drop, O: Out>(
     host: &mut Recorded<H>,
     out: &mut O,
 ) -> Result<Outcome, Fault<'src>>
-    ensures { Drives H.goes (inputs_of (reader_of (E.expansion expander.now) config.now.version) sources.now roots.now words.now) (given_of sources.now config.now.os config.now.unstable (E.expansion expander.now) config.now.version) config.now action (record { host = host.old; written = O.written out.old; failed = O.failed out.old }) result (record { host = host.new; written = O.written out.new; failed = O.failed out.new }) }
+    ensures drives { Drives H.goes (inputs_of (reader_of (E.expansion expander.now) config.now.version) sources.now roots.now words.now) (given_of sources.now config.now.os config.now.unstable (E.expansion expander.now) config.now.version) config.now action (record { host = host.old; written = O.written out.old; failed = O.failed out.old }) result (record { host = host.new; written = O.written out.new; failed = O.failed out.new }) }
+    // Where some of the files stand in their formatted text instead, the answer is one of that call.
+    ensures formatted { InEachFormatted (E.expansion expander.now) config.now.version sources.now (λ other. Drives H.goes (inputs_of (reader_of (E.expansion expander.now) config.now.version) other roots.now words.now) (given_of other config.now.os config.now.unstable (E.expansion expander.now) config.now.version) config.now action (record { host = host.old; written = O.written out.old; failed = O.failed out.old }) result (record { host = host.new; written = O.written out.new; failed = O.failed out.new })) }
 {
+    file_law();
     drive_words(
         alloc,
         config,

@@ -1,5 +1,5 @@
 //! What a run would hand over, as it is written.
-ghost use Rattle.std.specs.Prelude.{◌≡◌, ℕ, Err, false, IfErr, IfSome, List, true};
+ghost use Rattle.std.specs.Prelude.{◌≡◌, ◌⊎◌, ℕ, [], Err, false, IfErr, IfSome, IsSome, List, OnOk, true};
 ghost use Rattle.std.specs.String.{string_bytes};
 ghost use Rattle.justfile_syntax.specs.PlainShapes.{shape_of};
 ghost use Rattle.just_host.specs.Follows.{Follows, questions};
@@ -8,6 +8,11 @@ ghost use Rattle.run_plain.specs.Drives.{verdict};
 ghost use Rattle.run_plain.specs.Inputs.{Inputs};
 ghost use Rattle.run_plain.specs.Stages.{IsRead};
 ghost use Rattle.run_plan.specs.Plans.{plan_text};
+ghost use Rattle.run_prepared.specs.Performed.{PerformsTask};
+ghost use Rattle.run_tasks.specs.declared.task.Task.TheVariants as tasks;
+ghost use Rattle.just_run.specs.Named.{left_of};
+ghost use Rattle.just_run.specs.Ran.{PlansTask, WasSent, plan_answer};
+ghost use Rattle.just_run.specs.declared.fault.Fault.TheVariants.{OutOfMemory, Write};
 ghost use Rattle.just_run.specs.Plain.{fault_of};
 ghost use Rattle.just_run.specs.Plans as spec;
 ghost use Rattle.just_run.specs.Plans.{IsEnd, IsKeptBy, IsPlanned, IsSent, IsWrittenPlan, Plans};
@@ -32,7 +37,8 @@ use std::alloc::Global;
 
 /// The text of what was planned; none where memory is or was wanting.
 fn text_of<H>(alloc: Global, planned: &Recorded<H>) -> Option<String>
-    ensures { IfSome result (λ text. string_bytes text ≡ plan_text planned.now.entries) }
+    ensures text { IfSome result (λ text. string_bytes text ≡ plan_text planned.now.entries) }
+    ensures sufficed { IfSome result (λ text. planned.now.exhausted ≡ false) }
 {
     if planned.exhausted() {
         return None;
@@ -45,7 +51,8 @@ fn text_of<H>(alloc: Global, planned: &Recorded<H>) -> Option<String>
 
 /// What is answered where what was planned ended so.
 fn ended<'src>(performed: Result<Performed, TaskFault<'src>>) -> Result<Outcome, Fault<'src>>
-    ensures { IsEnd result }
+    ensures end { IsEnd result }
+    ensures told { result ≡ plan_answer performed.entry }
 {
     match performed {
         Ok(_) => Ok(Outcome::Planned),
@@ -56,6 +63,8 @@ fn ended<'src>(performed: Result<Performed, TaskFault<'src>>) -> Result<Outcome,
 /// Writes the text.
 fn send<'src, O: Out>(text: Option<String>, out: &mut O) -> Result<(), Fault<'src>>
     ensures sent { (plan : List ℕ) → IfSome text (λ written. string_bytes written ≡ plan) → IsSent (O.written out.old) plan result (O.written out.new) }
+    ensures there { OnOk result (IsSome text) }
+    ensures failed { IfErr result (λ fault. (fault ≡ Write) ⊎ (fault ≡ OutOfMemory)) }
     ensures unfailed { WriteFails (O.failed out.old) result (O.failed out.new) }
 {
     let Some(text) = text else {
@@ -72,6 +81,7 @@ fn write_plan<'src, O: Out>(
     out: &mut O,
 ) -> Result<Outcome, Fault<'src>>
     ensures planned { (plan : List ℕ) → IsEnd ended.entry → IfSome text (λ written. string_bytes written ≡ plan) → IsWrittenPlan (O.written out.old) plan result (O.written out.new) }
+    ensures sent { WasSent text ended.entry result }
     ensures unfailed { IsEnd ended.entry → WriteFails (O.failed out.old) result (O.failed out.new) }
 {
     let sent = send(text, out);
@@ -92,6 +102,8 @@ pub(crate) fn drive_plan<'src, H: RunHost + Drop, O: Out>(
     out: &mut O,
 ) -> Result<Outcome, Fault<'src>>
     ensures planned { IsPlanned H.goes host.old (O.written out.old) result host.new (O.written out.new) }
+    // What is planned is the run of the calls over what is known of the justfile, and how it ended is answered.
+    ensures ends { PlansTask (left_of host.old (O.written out.old) (O.failed out.old) host.new (O.written out.new) (O.failed out.new)) result (tasks.Run calls) (PerformsTask compilation.now analysis.now config.now root.now (tasks.Run calls) []) }
     ensures unfailed { WriteFails (O.failed out.old) result (O.failed out.new) }
 {
     let mut planned = Recorded::new(alloc, Planning { caller: host });

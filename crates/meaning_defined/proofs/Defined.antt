@@ -1,5 +1,5 @@
 -- The definitions of an analysis.
-use Rattle.std.proofs.Common.{◌≡◌, ◌∙◌, sym, ap, subst, refl, ℕ, zero, suc, List, [], ◌∷◌, length, Some, slice_get, arith, codes}
+use Rattle.std.proofs.Common.{◌≡◌, ◌∙◌, sym, ap, subst, refl, map, ℕ, zero, suc, List, [], ◌∷◌, length, Option, Some, None, slice_get, arith, codes}
 use Rattle.std.proofs.lemmas.List.{length-map}
 use Rattle.just_value.specs.declared.positional.Override.{Override}
 use Rattle.modules_compilation.specs.declared.compilation.Compilation.{Compilation}
@@ -10,7 +10,10 @@ use Rattle.meaning_worlds.specs.Given.{Text, World}
 use Rattle.meaning_overriding.specs.Texts.{overrides_of}
 use Rattle.meaning_calls.specs.Named.{Definitions}
 use Rattle.just_meaning.specs.Defining.{AreDefined}
-use Rattle.meaning_resolved.specs.Definitions.{definitions_of}
+use Rattle.std.specs.List.{filter_map}
+use Rattle.meaning_resolved.specs.Definitions.{definitions_of, function_of, key_at, node_of, place_of, rows_of, shape_at}
+use Rattle.resolve_recipes.specs.Named.{text_at}
+use Rattle.std.specs.Option.{option_and_then}
 use Rattle.meaning_settings.specs.Settled.{AllSettle}
 use Rattle.meaning_resolved.proofs.Leading.{modules_stand, paths_lead}
 use Rattle.meaning_resolved.proofs.Own.{paths_are_own, places_have_paths}
@@ -38,7 +41,7 @@ use Rattle.just_meaning.specs.Menus.{menu_of}
 use Rattle.just_meaning.specs.Rows.{truth_set}
 use Rattle.meaning_menus.specs.Named.{name_at}
 use Rattle.meaning_names.specs.Names.{AreSingle, HasNode, IsOfWorld}
-use Rattle.meaning_worlds.specs.Modules.{root}
+use Rattle.meaning_worlds.specs.Modules.{IsModule, root}
 use Rattle.meaning_resolved.specs.Definitions.{row_of, sets_of}
 use Rattle.meaning_resolved.proofs.Leading.{root_path}
 use Rattle.meaning_menus.specs.Targets.{IsNamedTarget}
@@ -47,7 +50,7 @@ use Rattle.modules_compilation.specs.Modulepaths.{path_in}
 use Rattle.modules_compilation.specs.declared.module_node.ModuleNode.{ModuleNode}
 use Rattle.resolve_analysis.specs.Lists.{kept_by, kept_in}
 use Rattle.meaning_defined.specs.Defined.{AnalysesAreDefined}
-use Rattle.meaning_defined.proofs.Worded.{breaks_named, invokes_named, means_named}
+use Rattle.meaning_defined.proofs.Worded.{breaks_named, invokes_named, means_named, targets_named}
 
 -- an element of as many others stands at a place where one stands
 there_too : {X Y : Type 0} (xs : List X) (ys : List Y) (k : ℕ) (x : X) → length ys ≡ length xs → slice_get xs k ≡ Some x → (y : Y) × (slice_get ys k ≡ Some y)
@@ -76,6 +79,20 @@ module _ (w : World) (compilation : Compilation) (is : IsResolvable w compilatio
   world : IsWorldOf w compilation
   world = record { of = is.numbered.of; single = is.numbered.single; settings = is.numbered.settings }
 
+  -- where there is no module there is no node
+  no_node : (path : List Text) → ((own : Text) → IsModule w path own → ⊥) → (place : Option ℕ) → place_of compilation path ≡ place → (node : Option ModuleNode) → option_and_then (slice_get compilation.modules.items) place ≡ node → node ≡ None
+  no_node path none place at None e = refl
+  no_node path none None at (Some node) e = absurd (cc e)
+  no_node path none (Some k) at (Some node) e =
+      absurd (none node.source.now ((modules_stand w compilation is.numbered.of is.numbered.single path node.source.now).1 (record { k = k; node = node; found = at; here = e; is = refl })))
+
+  nowhere : (path : List Text) → ((own : Text) → IsModule w path own → ⊥) → (defined.names path ≡ []) × (defined.functions path ≡ [])
+  nowhere path none =
+      let e : node_of compilation path ≡ None = no_node path none (place_of compilation path) refl (node_of compilation path) refl in (
+        ap (λ node. map (text_at compilation) (rows_of (λ (n : ModuleNode). n.assignments.items) node)) e,
+        ap (λ node. filter_map (λ place. function_of (key_at compilation place) (shape_at compilation place)) (rows_of (λ (n : ModuleNode). n.functions.items) node)) e,
+      )
+
   are_defined : AreDefined w (overrides_of given) base working defined
   are_defined = record {
     tree = trees_have_modules w compilation is.numbered.of is.numbered.single;
@@ -88,6 +105,7 @@ module _ (w : World) (compilation : Compilation) (is : IsResolvable w compilatio
     overrides = overrides_stand w compilation is.numbered.of is.numbered.single (overrides_of given);
     functions = functions_stand w compilation is.numbered.of is.numbered.single (overrides_of given);
     modules = rows_stand modules_stand paths_lead w compilation is.numbered.of is.numbered.single is.numbered.settings (overrides_of given) analysis.values.value.settings.items known.is_known.values_are.settings.settled.many settled base working;
+    nowhere = nowhere;
   }
 
   -- as many as there are modules
@@ -136,5 +154,6 @@ analyses_are_defined w compilation is given base analysis known working words = 
   are = are_defined w compilation is given base analysis known working;
   breaks = breaks_named compilation analysis (defined w compilation is given base analysis known working) words (menus_are w compilation is given base analysis known working words) (target_is w compilation is given base analysis known working);
   means = means_named compilation analysis (defined w compilation is given base analysis known working) words (menus_are w compilation is given base analysis known working words) (target_is w compilation is given base analysis known working);
+  targets = targets_named compilation analysis (defined w compilation is given base analysis known working) words (menus_are w compilation is given base analysis known working words) (target_is w compilation is given base analysis known working) (paths_are_own w compilation is.numbered.of is.numbered.single [] 0 refl);
   invokes = invokes_named compilation analysis (defined w compilation is given base analysis known working) words (menus_are w compilation is given base analysis known working words) (target_is w compilation is given base analysis known working);
 }

@@ -8,6 +8,8 @@ use Rattle.analyze_words.specs.declared.menu.Menus.{Menus}
 use Rattle.justfile_analyzer.specs.MenusOf.{AreMenusOf}
 use Rattle.justfile_analyzer.specs.Targets.{target_of}
 use Rattle.justfile_analyzer.specs.declared.target.EvaluationTarget.{EvaluationTarget}
+use Rattle.justfile_analyzer.specs.declared.target.EvaluationTarget.TheVariants.{Module}
+use Rattle.std.proofs.lemmas.Option.{same_Some}
 use Rattle.modules_compilation.specs.Modulepaths.{path_in}
 use Rattle.modules_compilation.specs.declared.compilation.Compilation.{Compilation}
 use Rattle.resolve_analysis.specs.declared.analysis.Analysis.{Analysis}
@@ -21,7 +23,7 @@ use Rattle.just_meaning.specs.Actions as asked
 use Rattle.just_meaning.specs.Menus.{menu_of}
 use Rattle.meaning_menus.specs.Named.{name_at}
 use Rattle.meaning_menus.specs.Targets.{IsNamedTarget}
-use Rattle.run_requests.specs.Words.{BreaksAt, BreaksNamed, BreaksPlaced, BreaksValuesAt, InvokesAt, IsRefusedFor, MeansNamed, MeansPlaced, NamesValuesAt, call_of, extra, unknown}
+use Rattle.run_requests.specs.Words.{BreaksAt, BreaksNamed, BreaksPlaced, BreaksValuesAt, InvokesAt, IsRefusedFor, MeansNamed, MeansPlaced, NamesValuesAt, call_of, extra, unknown, values_of}
 use Rattle.meaning_defined.specs.Defined.{named_call}
 use Rattle.run_requests.specs.declared.action.Action.{Action}
 use Rattle.run_requests.specs.declared.action.Action.TheVariants.{Command, Dump, Evaluate, Format, List as ListAction, Plan, Run}
@@ -71,6 +73,29 @@ module _ (compilation : Compilation) (analysis : Analysis) (defined : Definition
   refused_values : (fault : WordFault) → IsRefusedFor (BreaksValuesAt compilation.modules.items analysis.variables.lists.items words) fault → IsRefusedFor (BreaksEvaluate defined words) fault
   refused_values fault refused = λ rest.
       let r = refused rest in (r.0, (r.1.0, breaks_values words r.0 refl r.1.1))
+
+  -- what is named by places is named by paths and names
+  abbrev IsNamed : List (List ℕ) → EvaluationTarget → Type 0
+  IsNamed texts target = (named : Target) × (target_named defined texts ≡ Some named) × IsNamedTarget compilation analysis.variables.lists.items (Some target) (Some named)
+
+  one_named : (target : EvaluationTarget) (named : Option Target) → IsNamedTarget compilation analysis.variables.lists.items (Some target) named → (other : Target) × (named ≡ Some other) × IsNamedTarget compilation analysis.variables.lists.items (Some target) (Some other)
+  one_named target None is = absurd (no_target target is)
+    where
+      no_target : (target : EvaluationTarget) → IsNamedTarget compilation analysis.variables.lists.items (Some target) None → ⊥
+      no_target target is = is
+  one_named target (Some other) is = (other, refl, is)
+
+  named_values : path_in compilation.modules.items 0 ≡ [] → (texts : List (List ℕ)) (target : EvaluationTarget) → values_of compilation.modules.items analysis.variables.lists.items texts ≡ Some target → IsNamed texts target
+  named_values root [] target is =
+      let same : Module 0 ≡ target = same_Some (Module 0) target is in
+      subst (IsNamed []) same (of_module [], refl, sym root)
+  named_values root (word ∷ []) target is =
+      one_named target (target_named defined (word ∷ [])) (subst (λ t. IsNamedTarget compilation analysis.variables.lists.items t (target_named defined (word ∷ []))) is (target_is word))
+  named_values root (word ∷ other ∷ texts) target is = absurd (cc is)
+
+  pub targets_named : path_in compilation.modules.items 0 ≡ [] → (target : EvaluationTarget) → values_of compilation.modules.items analysis.variables.lists.items words ≡ Some target
+      → (named : Target) × (target_named defined words ≡ Some named) × IsNamedTarget compilation analysis.variables.lists.items (Some target) (Some named)
+  targets_named root target is = named_values root words target is
 
   names_values : (texts : List (List ℕ)) → NamesValuesAt compilation.modules.items analysis.variables.lists.items texts → (target : Target) × (target_named defined texts ≡ Some target)
   names_values [] named = (of_module [], refl)

@@ -1,5 +1,5 @@
 -- What is known of a resolved justfile by places is what its world defines by paths and names.
-use Rattle.std.specs.Prelude.{◌≡◌, ℕ, List, map}
+use Rattle.std.specs.Prelude.{◌≡◌, ℕ, List, Some, map}
 use Rattle.analyze_calls.specs.Calls.{CallRow}
 use Rattle.analyze_words.specs.declared.fault.WordFault.{WordFault}
 use Rattle.just_value.specs.declared.positional.Override.{Override}
@@ -14,9 +14,13 @@ use Rattle.meaning_overriding.specs.Texts.{overrides_of}
 use Rattle.meaning_runs.specs.Invokes.{Invoke}
 use Rattle.meaning_calls.specs.Named.{Definitions, RecipeName}
 use Rattle.just_meaning.specs.Defining.{AreDefined}
+use Rattle.just_meaning.specs.Actions.{Target}
+use Rattle.just_meaning.specs.Actions.{target_of as values_named}
 use Rattle.just_meaning.specs.Menus.{menu_of}
+use Rattle.justfile_analyzer.specs.declared.target.EvaluationTarget.{EvaluationTarget}
 use Rattle.meaning_menus.specs.Named.{name_at}
-use Rattle.run_requests.specs.Words.{BreaksNamed, BreaksPlaced, InvokesAt, MeansNamed, MeansPlaced}
+use Rattle.meaning_menus.specs.Targets.{IsNamedTarget}
+use Rattle.run_requests.specs.Words.{BreaksNamed, BreaksPlaced, InvokesAt, MeansNamed, MeansPlaced, values_of}
 use Rattle.run_requests.specs.declared.action.Action.{Action}
 
 -- a call by the path and the name of its recipe
@@ -31,6 +35,8 @@ pub record IsDefinedBy (w : World) (compilation : Compilation) (given : List Ove
   pub are : AreDefined w (overrides_of given) base working defined
   pub breaks : (action : Action) (fault : WordFault) → BreaksPlaced compilation analysis words action fault → BreaksNamed defined words action fault
   pub means : (action : Action) → MeansPlaced compilation analysis words action → MeansNamed defined words action
+  pub targets : (target : EvaluationTarget) → values_of compilation.modules.items analysis.variables.lists.items words ≡ Some target
+      → (named : Target) × (values_named defined words ≡ Some named) × IsNamedTarget compilation analysis.variables.lists.items (Some target) (Some named)
   pub invokes : (calls : List CallRow) → InvokesAt compilation analysis.table.value analysis.values.value.settings.items words calls → Invoke (menu_of defined) words (map (named_call compilation analysis) calls)
 
 -- so it is of each analysis of a justfile, in each world that the justfile stands for

@@ -40,9 +40,9 @@ use Rattle.meaning_worlds.proofs.Places.{contains_cases, contains_first, contain
 use Rattle.meaning_names.specs.Names.{nodes, views}
 use Rattle.meaning_names.proofs.Found.{there_within}
 use Rattle.meaning_overriding.specs.Texts.{overrides_of}
-use Rattle.meaning_calls.specs.Named.{Definitions, RecipeName, VariableName, paths_of}
+use Rattle.meaning_calls.specs.Named.{Definitions, VariableName, paths_of}
 use Rattle.meaning_calls.specs.Scopes.{Configuration}
-use Rattle.just_meaning.specs.Opening.{Held, IsOpened, Opened, OpensAll, OpensOne}
+use Rattle.just_meaning.specs.Opening.{Held, Opened, OpensAll, OpensOne}
 use Rattle.just_meaning.specs.Opening as named
 use Rattle.meaning_menus.specs.Named.{name_at}
 use Rattle.meaning_resolved.specs.Definitions.{all_modules, definitions_of}
@@ -53,7 +53,7 @@ use Rattle.meaning_views.specs.Known.{IsSeenAt}
 use Rattle.meaning_views.specs.Read.{AreReadFrom}
 use Rattle.meaning_views.proofs.Evaluated.{running_are_read}
 use Rattle.meaning_views.specs.Recipes.{AreBoundIn, IsConstantOrRead}
-use Rattle.meaning_opened.specs.Opened.{AreReady, IsTaskOf, OpenByNames}
+use Rattle.meaning_opened.specs.Opened.{AreReady, IsTaskOf, OpenByNames, OpensFor}
 use Rattle.meaning_opened.proofs.Opening.{defined_by}
 use Rattle.meaning_opened.proofs.Opens.{IsOpenedSo, MayOpen, opens_one, viewed}
 use Rattle.meaning_opened.proofs.Order.{AreOnce, IsOpeningOrder, one_index, opening_order_is}
@@ -369,11 +369,12 @@ module _ (w : World) (compilation : Compilation) (given : List Override) (base :
   abbrev by_base : Text → Definitions
   by_base b = definitions_of compilation w.expansion (overrides_of given) settled.settle b (string_bytes context.config.now.working_directory)
 
-  abbrev called : List RecipeName
-  called = map (name_at compilation analysis.table.value) (called_by task)
+  -- which variables open for the task
+  abbrev open_in : Definitions → VariableName → Type 0
+  open_in definitions = OpensFor definitions context.config.now.no_dependencies (name_at compilation analysis.table.value) task
 
   abbrev Open : VariableName → Type 0
-  Open = IsOpened defined context.config.now.no_dependencies called
+  Open = open_in defined
 
   -- modules that open by places open by names
   pub open_by_names : ((k : ℕ) (view : ModuleView) (at : slice_get modules k ≡ Some view) (has : HasPathTo k (path_of k)) → MayOpen w compilation given base analysis settled task context modules opens t k view at (path_of k) has Open)
@@ -390,7 +391,7 @@ module _ (w : World) (compilation : Compilation) (given : List Override) (base :
           (t.prepared.order_is ∙ ap (λ ms. opening_from (length ms) ms (0 ∷ [])) t.known.modules_are)
 
       named_so : (r : Result (List Opened) OpeningFailure) → OpensAll configuration defined Open (map path_of context.opening_order.now) old new r
-          → OpensAll configuration (by_base base) (IsOpened (by_base base) context.config.now.no_dependencies called) (paths_of (all_modules compilation)) old new r
+          → OpensAll configuration (by_base base) (open_in (by_base base)) (paths_of (all_modules compilation)) old new r
       named_so r h =
-          subst (λ paths. OpensAll configuration (by_base base) (IsOpened (by_base base) context.config.now.no_dependencies called) paths old new r) order.paths
-          (subst (λ b. OpensAll configuration (by_base b) (IsOpened (by_base b) context.config.now.no_dependencies called) (map path_of context.opening_order.now) old new r) (sym t.base_is) h)
+          subst (λ paths. OpensAll configuration (by_base base) (open_in (by_base base)) paths old new r) order.paths
+          (subst (λ b. OpensAll configuration (by_base b) (open_in (by_base b)) (map path_of context.opening_order.now) old new r) (sym t.base_is) h)

@@ -98,9 +98,6 @@ module _ (w : World) (compilation : Compilation) (given : List Override) (base :
   abbrev n : IsNumberedWorld w compilation
   n = t.resolvable.numbered
 
-  abbrev called : List RecipeName
-  called = map (name_at compilation analysis.table.value) (called_by task)
-
   abbrev none_left_out : Bool
   none_left_out = context.config.now.no_dependencies
 
@@ -111,7 +108,7 @@ module _ (w : World) (compilation : Compilation) (given : List Override) (base :
   Open = IsOpened (defined_by w compilation t.resolvable.numbered given base analysis t.known settled context.config.now) context.config.now.no_dependencies (map (name_at compilation analysis.table.value) (called_by task))
 
   abbrev v : IsViewOf compilation.modules.items analysis.variables analysis.values.value k (seen view)
-  v = ordering.v w compilation given base analysis settled task context modules opens t k view at path has called
+  v = ordering.v w compilation given base analysis settled task context modules opens t k view at path has
 
   abbrev node : ModuleNode
   node = v.node
@@ -123,28 +120,28 @@ module _ (w : World) (compilation : Compilation) (given : List Override) (base :
   assignments = v.lists.assignments.items
 
   kept_are : variables_in assignments ≡ variables_at compilation node.assignments.items
-  kept_are = ordering.kept_are w compilation given base analysis settled task context modules opens t k view at path has called
+  kept_are = ordering.kept_are w compilation given base analysis settled task context modules opens t k view at path has
 
   abbrev home : ModuleReads
-  home = (ordering.reads_here w compilation given base analysis settled task context modules opens t k view at path has called).0
+  home = (ordering.reads_here w compilation given base analysis settled task context modules opens t k view at path has).0
 
   home_there : slice_get analysis.variables.reads.items k ≡ Some home
-  home_there = (ordering.reads_here w compilation given base analysis settled task context modules opens t k view at path has called).1
+  home_there = (ordering.reads_here w compilation given base analysis settled task context modules opens t k view at path has).1
 
   abbrev graph : List (List ℕ)
   graph = rows home.graph.items
 
   reads_are : IsReads analysis.values.value.overrides lists home
-  reads_are = ordering.reads_are w compilation given base analysis settled task context modules opens t k view at path has called
+  reads_are = ordering.reads_are w compilation given base analysis settled task context modules opens t k view at path has
 
   graph_is : IsGraphOf compilation node graph
-  graph_is = ordering.graph_is w compilation given base analysis settled task context modules opens t k view at path has called
+  graph_is = ordering.graph_is w compilation given base analysis settled task context modules opens t k view at path has
 
   graph_few : length graph ≤ 2 ^ 64
-  graph_few = ordering.graph_few w compilation given base analysis settled task context modules opens t k view at path has called
+  graph_few = ordering.graph_few w compilation given base analysis settled task context modules opens t k view at path has
 
   graph_many : length assignments ≤ length graph
-  graph_many = ordering.graph_many w compilation given base analysis settled task context modules opens t k view at path has called
+  graph_many = ordering.graph_many w compilation given base analysis settled task context modules opens t k view at path has
 
   resolver_is : IsResolverOf (kept_by compilation node) home.resolver
   resolver_is = subst (λ x. IsResolverOf x home.resolver) (kept_here compilation base given analysis t.known k node lists v.here v.kept) reads_are.resolver
@@ -383,7 +380,7 @@ module _ (w : World) (compilation : Compilation) (given : List Override) (base :
     wanted_open asks lent c = by_lazy view.settings.now.lazy refl
       where
         listed : Contains assignments lent
-        listed = subst (λ l. Contains l lent) (ordering.listed_are w compilation given base analysis settled task context modules opens t k view at path has called) c
+        listed = subst (λ l. Contains l lent) (ordering.listed_are w compilation given base analysis settled task context modules opens t k view at path has) c
 
         settings_lazy : view.settings.now.lazy ≡ true → is_lazy settings ≡ true
         settings_lazy lazy = any_true (λ (s : Settings). s.lazy) settings v.settings (contains_at settings k v.settings v.set) (ap (λ (s : Settings). s.lazy) settings_are ∙ lazy)
@@ -395,4 +392,7 @@ module _ (w : World) (compilation : Compilation) (given : List Override) (base :
 
         by_lazy : (b : Bool) → view.settings.now.lazy ≡ b → (reads (if view.settings.now.lazy then opens.wanted else None) (number_of lent) ≡ true) ↔ Open (named path (name_of lent))
         by_lazy true e = subst (λ (b : Bool). (reads (if b then opens.wanted else None) (number_of lent) ≡ true) ↔ Open (named path (name_of lent))) (sym e) (by_wanted opens.wanted e wants)
-        by_lazy false e = ordering.all_open w compilation given base analysis settled task context modules opens t k view at path has called e lent c
+        by_lazy false e =
+            ordering.all_open w compilation given base analysis settled task context modules opens t k view at path has Open
+            (λ x row same there. opening.not_lazy there (ap (λ p. module_says (defined.inside p) (λ (m : ModuleRow). m.lazy)) same ∙ ordering.row_not_lazy w compilation given base analysis settled task context modules opens t k view at path has e))
+            (ordering.all_read w compilation given base analysis settled task context modules opens t k view at path has e) lent c

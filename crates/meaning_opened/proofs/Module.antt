@@ -1,14 +1,20 @@
 -- The variables that a module keeps: their numbers, their rows and what is given for them.
-use Rattle.std.proofs.Common.{◌≡◌, refl, sym, ◌∙◌, ap, subst, Bool, List, [], ◌∷◌, map, length, Option, Some, None, ℕ, ◌≤◌}
-use Rattle.std.specs.Prelude.{Contains, String, slice_get}
+use Rattle.std.proofs.Common.{◌≡◌, refl, sym, ◌∙◌, ap, subst, Bool, true, false, List, [], ◌∷◌, map, length, Option, Some, None, ℕ, ◌≤◌}
+use Rattle.std.specs.Prelude.{Contains, ◌||◌, String, codes, slice_get}
 use Rattle.std.specs.BTreeMap.{BTreeMap}
+use Rattle.std.specs.List.{list_any}
 use Rattle.std.specs.Option.{option_map, option_or}
 use Rattle.std.proofs.lemmas.List.Elements.{All-contains}
 use Rattle.std.proofs.lemmas.Option.{none-some, same_Some}
 use Rattle.just_text.specs.Tokens.{lexeme}
 use Rattle.just_value.specs.Constants.{constant_rows}
 use Rattle.just_value.specs.declared.positional.Override.{Override}
-use Rattle.tree_attribute_sets.specs.Sets.{shapes_in}
+use Rattle.tree_attributes.specs.declared.attribute.AttributeKind.{AttributeKind}
+use Rattle.tree_attributes.specs.declared.attribute.AttributeKind.TheVariants.{Private}
+use Rattle.tree_attribute_sets.specs.Order.{item_shape as attribute_item_shape}
+use Rattle.tree_attribute_sets.specs.Sets.{is_of, items_of as attributes_in, shapes_in}
+use Rattle.tree_attribute_sets.specs.declared.attribute_item.AttributeItem.{AttributeItem}
+use Rattle.tree_expressions.specs.Cutting.{begins}
 use Rattle.tree_expressions.specs.Shape.{shape_of}
 use Rattle.tree_expressions.specs.declared.expression.Expression.{Expression}
 use Rattle.tree_items.specs.Contexts.{last_named}
@@ -41,6 +47,7 @@ use Rattle.meaning_worlds.specs.Given.{Text, World}
 use Rattle.meaning_worlds.specs.Keeping.{KeepsAt, a_variable}
 use Rattle.meaning_worlds.proofs.Places.{contains_at, contains_first, place_of}
 use Rattle.meaning_rules.specs.Overriding.{IsOverriddenBy}
+use Rattle.meaning_rules.specs.Rules.{has}
 use Rattle.meaning_names.specs.Names.{HasNode, nodes, views}
 use Rattle.meaning_names.proofs.Found.{mapped}
 use Rattle.meaning_names.proofs.Modules.{module_at, one_module}
@@ -48,7 +55,7 @@ use Rattle.meaning_overriding.specs.Texts.{IsGivenBy, overrides_of}
 use Rattle.meaning_overriding.proofs.Texts.{given_texts_override}
 use Rattle.meaning_reading.specs.Meant.{AreSeenCooked, IsNumberedWorld}
 use Rattle.meaning_reading.specs.Places.{IsItemOf}
-use Rattle.meaning_reading.proofs.Bindings.{above_constants, bound_in}
+use Rattle.meaning_reading.proofs.Bindings.{above_constants, bound_in, own_item}
 use Rattle.meaning_reading.proofs.Kept.{IsKept}
 use Rattle.meaning_reading.proofs.Module.{is_node, variable_kept, variable_once, variables}
 use Rattle.meaning_reading.proofs.Numbers.{number_of as number_meant}
@@ -75,6 +82,17 @@ cooked_there w compilation n place item there s c = by_file (slice_get compilati
     by_file (Some file) is e =
         let cooked = All-contains (AreSeenCooked (from_file file.key.now w.expansion)) file.ast.items.items item (n.cooked place.file file is) (contains_at file.ast.items.items place.item item e) in
         subst (λ o. IsCooked (from_file (key_of o) w.expansion) s.expression) (sym is) (All-contains (λ (s : Seen). IsCooked (from_file file.key.now w.expansion) s.expression) (seen_in item) s cooked c)
+
+-- whether there is an attribute of a kind, by places and by shapes
+attribute_there : (kind : AttributeKind) (items : List AttributeItem) → list_any (is_of kind) items ≡ has kind (map attribute_item_shape items)
+attribute_there kind [] = refl
+attribute_there kind (item ∷ items) = ap (λ b. is_of kind item || b) (attribute_there kind items)
+
+or_turned : (a b : Bool) → (a || b) ≡ (b || a)
+or_turned true true = refl
+or_turned true false = refl
+or_turned false true = refl
+or_turned false false = refl
 
 module _ (w : World) (compilation : Compilation) (n : IsNumberedWorld w compilation) (k : ℕ) (node : ModuleNode) (here : HasNode w compilation k node) (path : List Text) (has : HasPath w (views w compilation) (nodes w compilation) k path)
     (assignments : List AssignmentRef) (kept : variables_in assignments ≡ variables_at compilation node.assignments.items) where
@@ -185,6 +203,7 @@ module _ (w : World) (compilation : Compilation) (n : IsNumberedWorld w compilat
     pub value : row.value ≡ shape_of lent.assignment.now.value
     pub export : row.export ≡ lent.assignment.now.export
     pub eager : row.eager ≡ lent.assignment.now.eager
+    pub private : row.private ≡ lent.assignment.now.private
 
   module _ (given : List Override) where
     pub variable_row : (lent : AssignmentRef) (c : Contains assignments lent) → HasVariableRow lent (key_at compilation (stands lent c).place)
@@ -215,6 +234,12 @@ module _ (w : World) (compilation : Compilation) (n : IsNumberedWorld w compilat
           value = refl;
           export = refl;
           eager = refl;
+          private =
+              let own = own_item w compilation n s.place (Assignment lent.assignment.now) s.is_kept.there in
+              let attributes = attributes_in lent.assignment.now.attributes in
+              ap (λ b. b || begins (name_of lent) (codes "_")) (sym (attribute_there Private attributes))
+              ∙ or_turned (list_any (is_of Private) attributes) (begins (name_of lent) (codes "_"))
+              ∙ sym own.private;
         }
 
     -- its override by its name is that of its number

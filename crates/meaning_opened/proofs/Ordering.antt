@@ -30,6 +30,7 @@ use Rattle.meaning_reading.proofs.Chains.{places_many}
 use Rattle.meaning_calls.specs.Named.{Definitions, ModuleRow, RecipeName, VariableName, VariableRow}
 use Rattle.just_meaning.specs.Opening.{IsOpened, IsOrder, module_says, named}
 use Rattle.just_meaning.specs.Opening as opening
+use Rattle.just_meaning.specs.Reading.{VariableReads}
 use Rattle.meaning_settings.specs.Settled.{AllSettle}
 use Rattle.meaning_opened.specs.Opened.{IsTaskOf}
 use Rattle.meaning_opened.proofs.Filled.{read_names}
@@ -38,12 +39,12 @@ use Rattle.meaning_opened.proofs.Opening.{defined_by}
 use Rattle.meaning_opened.proofs.Opens.{row_of_view, viewed}
 use Rattle.meaning_opened.proofs.Orders.{AreOpenedBy, names_in_order}
 use Rattle.meaning_opened.proofs.Graphs.{count_same, defines, reads_by_place}
-use Rattle.meaning_opened.proofs.Requests.{HasRow, IsViewOf, listed_in, ordered_in, view_parts}
+use Rattle.meaning_opened.proofs.Requests.{IsViewOf, listed_in, ordered_in, view_parts}
 use Rattle.meaning_opened.proofs.Values.{name_of, number_of}
 use Rattle.meaning_opened.proofs.Views.{kept_here, variables_here}
 
 -- what opens has a row
-opened_row : (defined : Definitions) (no_dependencies : Bool) (invoked : List RecipeName) (x : VariableName) → IsOpened defined no_dependencies invoked x → (row : VariableRow) × (defined.variable x ≡ Some row)
+pub opened_row : (defined : Definitions) (no_dependencies : Bool) (invoked : List RecipeName) (x : VariableName) → IsOpened defined no_dependencies invoked x → (row : VariableRow) × (defined.variable x ≡ Some row)
 opened_row defined no_dependencies invoked x (opening.not_lazy {row} e lazy) = (row, e)
 opened_row defined no_dependencies invoked x (opening.eager {row} e is) = (row, e)
 opened_row defined no_dependencies invoked x (opening.exported {row} e is) = (row, e)
@@ -52,12 +53,9 @@ opened_row defined no_dependencies invoked x (opening.by_variable {row} e opened
 
 module _ (w : World) (compilation : Compilation) (given : List Override) (base : Text) (analysis : Analysis) (settled : AllSettle w (overrides_of given) compilation analysis.values.value.settings.items)
     (task : Task) (context : TaskContext) (modules : List ModuleView) (opens : Opens) (t : IsTaskOf w compilation given base analysis settled task context modules opens)
-    (k : ℕ) (view : ModuleView) (at : slice_get modules k ≡ Some view) (path : List Text) (has : HasPath w (views w compilation) (nodes w compilation) k path) (called : List RecipeName) where
+    (k : ℕ) (view : ModuleView) (at : slice_get modules k ≡ Some view) (path : List Text) (has : HasPath w (views w compilation) (nodes w compilation) k path) where
   abbrev defined : Definitions
   defined = defined_by w compilation t.resolvable.numbered given base analysis t.known settled context.config.now
-
-  abbrev Open : VariableName → Type 0
-  Open = IsOpened (defined_by w compilation t.resolvable.numbered given base analysis t.known settled context.config.now) context.config.now.no_dependencies called
 
   pub v : IsViewOf compilation.modules.items analysis.variables analysis.values.value k (seen view)
   v = view_parts compilation.modules.items analysis.variables analysis.values.value k (seen view) (viewed w compilation given base analysis settled task context modules opens t k view at path has)
@@ -113,33 +111,47 @@ module _ (w : World) (compilation : Compilation) (given : List Override) (base :
   order_are : view.evaluation_order.now ≡ v.order.items
   order_are = ordered_in compilation.modules.items analysis.variables analysis.values.value k (seen view) v
 
-  -- where the variables that are read are those that open, their names are an order of these
-  pub order_here : ((lent : AssignmentRef) → Contains view.assignments.now lent → (is_wanted opens view (number_of lent) ≡ true) ↔ Open (named path (name_of lent)))
-      → IsOrder (defined_by w compilation t.resolvable.numbered given base analysis t.known settled context.config.now) Open path (read_names (is_wanted opens view) (ordered view.assignments.now view.evaluation_order.now))
-  order_here opens_is =
-      subst (IsOrder defined Open path) (ap₂ (λ l order. read_names (is_wanted opens view) (ordered l order)) (sym listed_are) (sym order_are))
-      (names_in_order assignments graph v.order.items order_is graph_many (is_wanted opens view) (kept.one_by_name w compilation t.resolvable.numbered k v.node v.here path has assignments kept_are) defined path Open by)
-    where
-      by : AreOpenedBy assignments graph (is_wanted opens view) defined path Open
-      by = record {
-        is = λ lent c. opens_is lent (subst (λ l. Contains l lent) (sym listed_are) c);
-        variables = λ name h.
-            let r = opened_row defined context.config.now.no_dependencies called (named path name) h in
-            defines w compilation t.resolvable.numbered k v.node v.here path has given assignments kept_are name r.0 r.1;
-        defines = defines w compilation t.resolvable.numbered k v.node v.here path has given assignments kept_are;
-        closed = λ name other row h free there reads. opening.by_variable there h refl free reads;
-        reads = λ i j lent other e f read free reads.
-            reads_by_place w compilation t.resolvable.numbered k v.node v.here path has given assignments kept_are graph graph_is graph_few defined (λ name. refl) refl i j lent other e f reads;
-      }
+  module _ (Open : VariableName → Type 0) where
+    -- what opens has a row, and so does what it reads, and that opens
+    pub record AreClosed : Type 0 where
+      pub row : (x : VariableName) → Open x → (row : VariableRow) × (defined.variable x ≡ Some row)
+      pub closed : (x y : VariableName) (row : VariableRow) → defined.variable x ≡ Some row → Open y → y.path ≡ x.path → defined.override y ≡ None → VariableReads defined y x.name → Open x
 
-  -- all variables open of a module that is not lazy
-  pub all_open : view.settings.now.lazy ≡ false → (lent : AssignmentRef) → Contains view.assignments.now lent → (is_wanted opens view (number_of lent) ≡ true) ↔ Open (named path (name_of lent))
-  all_open lazy lent c = (λ read. opened, λ h. ap (λ b. reads_if (if b then opens.wanted else None) (number_of lent)) lazy)
-    where
-      row : HasRow w (overrides_of given) compilation analysis.values.value settled context.config.now k path view
-      row = row_of_view w compilation given base analysis settled task context modules opens t k view at path has
+    -- where the variables that are read are those that open, their names are an order of these
+    pub order_here : AreClosed → ((lent : AssignmentRef) → Contains view.assignments.now lent → (is_wanted opens view (number_of lent) ≡ true) ↔ Open (named path (name_of lent)))
+        → IsOrder (defined_by w compilation t.resolvable.numbered given base analysis t.known settled context.config.now) Open path (read_names (is_wanted opens view) (ordered view.assignments.now view.evaluation_order.now))
+    order_here closed opens_is =
+        subst (IsOrder defined Open path) (ap₂ (λ l order. read_names (is_wanted opens view) (ordered l order)) (sym listed_are) (sym order_are))
+        (names_in_order assignments graph v.order.items order_is graph_many (is_wanted opens view) (kept.one_by_name w compilation t.resolvable.numbered k v.node v.here path has assignments kept_are) defined path Open by)
+      where
+        by : AreOpenedBy assignments graph (is_wanted opens view) defined path Open
+        by = record {
+          is = λ lent c. opens_is lent (subst (λ l. Contains l lent) (sym listed_are) c);
+          variables = λ name h.
+              let r = closed.row (named path name) h in
+              defines w compilation t.resolvable.numbered k v.node v.here path has given assignments kept_are name r.0 r.1;
+          defines = defines w compilation t.resolvable.numbered k v.node v.here path has given assignments kept_are;
+          closed = λ name other row h free there reads. closed.closed (named path other) (named path name) row there h refl free reads;
+          reads = λ i j lent other e f read free reads.
+              reads_by_place w compilation t.resolvable.numbered k v.node v.here path has given assignments kept_are graph graph_is graph_few defined (λ name. refl) refl i j lent other e f reads;
+        }
 
-      opened : Open (named path (name_of lent))
-      opened =
-          let r = kept.variable_row w compilation t.resolvable.numbered k v.node v.here path has assignments kept_are given lent (subst (λ l. Contains l lent) listed_are c) in
-          opening.not_lazy r.is (ap (λ o. module_says o (λ (m : ModuleRow). m.lazy)) row.is ∙ row.lazy ∙ lazy)
+    -- where all variables of the module are read, they are those that open, where each that is defined opens
+    pub all_open : ((x : VariableName) (row : VariableRow) → x.path ≡ path → defined.variable x ≡ Some row → Open x) → ((number : ℕ) → is_wanted opens view number ≡ true)
+        → (lent : AssignmentRef) → Contains view.assignments.now lent → (is_wanted opens view (number_of lent) ≡ true) ↔ Open (named path (name_of lent))
+    all_open each all lent c = (λ read. opened, λ h. all (number_of lent))
+      where
+        opened : Open (named path (name_of lent))
+        opened =
+            let r = kept.variable_row w compilation t.resolvable.numbered k v.node v.here path has assignments kept_are given lent (subst (λ l. Contains l lent) listed_are c) in
+            each (named path (name_of lent)) r.row refl r.is
+
+  -- all variables are read of a module that is not lazy
+  pub all_read : view.settings.now.lazy ≡ false → (number : ℕ) → is_wanted opens view number ≡ true
+  all_read lazy number = ap (λ b. reads_if (if b then opens.wanted else None) number) lazy
+
+  -- and its row is not lazy
+  pub row_not_lazy : view.settings.now.lazy ≡ false → module_says (defined.inside path) (λ (m : ModuleRow). m.lazy) ≡ false
+  row_not_lazy lazy =
+      let row = row_of_view w compilation given base analysis settled task context modules opens t k view at path has in
+      ap (λ o. module_says o (λ (m : ModuleRow). m.lazy)) row.is ∙ row.lazy ∙ lazy

@@ -1,5 +1,5 @@
 -- Modules that open by places, and by names.
-use Rattle.std.specs.Prelude.{◌≡◌, ◌≢◌, ℕ, List, ◌∷◌, Some, Contains, map, length, slice_get, Result, Ok, Err}
+use Rattle.std.specs.Prelude.{◌≡◌, ◌≢◌, ℕ, Bool, List, ◌∷◌, Some, Contains, map, length, slice_get, Result, Ok, Err}
 use Rattle.std.specs.List.{All}
 use Rattle.std.specs.Option.{option_map}
 use Rattle.std.specs.String.{string_bytes}
@@ -24,14 +24,16 @@ use Rattle.analyze_calls.specs.Opening as placed
 use Rattle.analyze_calls.specs.declared.opening.Opening.{Opening as Opens}
 use Rattle.run_tasks.specs.Opened.{AreContexts, IsOpeningOf}
 use Rattle.run_tasks.specs.declared.task.Task.{Task}
+use Rattle.run_tasks.specs.declared.task.Task.TheVariants as tasks
 use Rattle.run_tasks.specs.declared.task.TaskContext.{TaskContext}
-use Rattle.run_prepared.specs.Runs.{IsPreparedFor}
+use Rattle.run_prepared.specs.Performed.{IsPreparedFor}
 use Rattle.run_prepared.specs.Wanted.{called_by}
 use Rattle.meaning_dialogues.specs.Faults.{memory}
 use Rattle.meaning_opening.specs.Requests.{OpeningFailure, opening}
 use Rattle.meaning_worlds.specs.Given.{Text, World}
 use Rattle.meaning_overriding.specs.Texts.{overrides_of}
-use Rattle.meaning_calls.specs.Named.{Definitions, paths_of}
+use Rattle.meaning_calls.specs.Named.{Definitions, RecipeName, VariableName, paths_of}
+use Rattle.just_meaning.specs.Actions.{IsKept}
 use Rattle.just_meaning.specs.Opening.{Held, IsOpened, Opened, OpensAll}
 use Rattle.meaning_resolved.specs.Definitions.{definitions_of}
 use Rattle.meaning_settings.specs.Settled.{AllSettle}
@@ -40,6 +42,12 @@ use Rattle.meaning_views.specs.Known.{IsSeenAt}
 use Rattle.meaning_views.specs.Read.{AreReadFrom}
 use Rattle.meaning_views.specs.Recipes.{AreBoundIn, IsConstantOrRead}
 use Rattle.meaning_grounds.specs.Alike.{AreOpenAlike, IsOpenAlike, configuration_of}
+
+-- Which variables open for a task: all that are defined, where values are asked for; else those that the recipes which it calls read, and those that open in any case.
+abbrev pub OpensFor : Definitions → Bool → (ℕ → RecipeName) → Task → VariableName → Type 0
+OpensFor defined no_dependencies name (tasks.Run calls) = IsOpened defined no_dependencies (map name (called_by (tasks.Run calls)))
+OpensFor defined no_dependencies name (tasks.Evaluate target) = IsKept defined
+OpensFor defined no_dependencies name (tasks.Command words) = IsOpened defined no_dependencies (map name (called_by (tasks.Command words)))
 
 module _ (w : World) (compilation : Compilation) (given : List Override) (base : Text) (analysis : Analysis) (settled : AllSettle w (overrides_of given) compilation analysis.values.value.settings.items) where
   -- What a task of a resolved justfile rests on: its configuration, and what is prepared for it.
@@ -57,9 +65,9 @@ module _ (w : World) (compilation : Compilation) (given : List Override) (base :
     abbrev pub defined : Definitions
     defined = definitions_of compilation w.expansion (overrides_of given) settled.settle base (string_bytes context.config.now.working_directory)
 
-    -- modules open by names, for the recipes that the task calls
+    -- modules open by names, for the task
     abbrev pub OpensNamed : List Entry → List Entry → Result (List Opened) OpeningFailure → Type 0
-    OpensNamed = OpensAll (configuration_of context.config.now context.root.now w.expansion) defined (IsOpened defined context.config.now.no_dependencies (map (name_at compilation analysis.table.value) (called_by task))) (paths_of defined.modules)
+    OpensNamed = OpensAll (configuration_of context.config.now context.root.now w.expansion) defined (OpensFor defined context.config.now.no_dependencies (name_at compilation analysis.table.value) task) (paths_of defined.modules)
 
     -- What a run over modules that are open rests on besides: their frames are sorted by numbers, what is held by names is of their variables, they have the task's configuration,
     -- variables are wanted that recipes read which run, and in the frames the constants are bound, and the variables that are wanted.

@@ -1,7 +1,7 @@
 //! Modules that open by places, and by names.
-ghost use Rattle.meaning_opened.specs.Laws.{CallsOpenByNames};
+ghost use Rattle.meaning_opened.specs.Laws.{TasksOpenByNames};
 
-/// Where calls run, modules open by names as they open by places.
-pub fn calls_open_by_names()
-    ensures { CallsOpenByNames }
+/// For any task, modules open by names as they open by places.
+pub fn tasks_open_by_names()
+    ensures { TasksOpenByNames }
 {}

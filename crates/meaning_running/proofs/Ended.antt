@@ -4,7 +4,7 @@ use Rattle.std.specs.Prelude.{Contains, IfSome}
 use Rattle.std.specs.List.{AllByRecursion}
 use Rattle.analyze_calls.specs.Calls.{CallRow, row_of, rows}
 use Rattle.analyze_calls.specs.declared.call.Call.{Call}
-use Rattle.run_tasks.specs.Opened.{end_of}
+use Rattle.run_tasks.specs.Performed.{end_of}
 use Rattle.meaning_runs.specs.Failures.{Failure}
 use Rattle.meaning_worlds.proofs.Places.{contains_first, contains_later}
 use Rattle.just_meaning.specs.Runs.{Outcome}

@@ -1,3 +1,10 @@
 pub mod Written
 pub mod Ended
+pub mod Modules
+pub mod Values
+pub mod Jobs
+pub mod Opened
 pub mod Running
+pub mod Telling
+pub mod Commanding
+pub mod There

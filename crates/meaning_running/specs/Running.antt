@@ -1,5 +1,6 @@
--- Calls that run by places, from the opening of modules on, and by names.
-use Rattle.std.specs.Prelude.{◌≢◌, ℕ, List, map}
+-- Tasks that are done by places, from the opening of modules on, and by names.
+use Rattle.std.specs.Prelude.{◌≡◌, ◌≢◌, ℕ, Bool, List, [], Some, map}
+use Rattle.std.specs.Borrow.{Bor}
 use Rattle.std.specs.Global.{Vec}
 use Rattle.std.specs.String.{string_bytes}
 use Rattle.just_host.specs.declared.config.Config.{Config}
@@ -11,20 +12,28 @@ use Rattle.just_resolve.specs.Analysis.{IsAnalysis}
 use Rattle.just_resolve.specs.Rules.{IsResolvable}
 use Rattle.analyze_calls.specs.Calls.{rows}
 use Rattle.analyze_calls.specs.declared.call.Call.{Call}
-use Rattle.run_tasks.specs.Opened.{RunEnd}
-use Rattle.run_tasks.specs.Opened as ends
-use Rattle.run_prepared.specs.Runs.{RunsCalls}
+use Rattle.justfile_analyzer.specs.declared.target.EvaluationTarget.{EvaluationTarget}
+use Rattle.run_tasks.specs.Performed.{RunEnd, TaskEnd, ends_as, told}
+use Rattle.run_tasks.specs.Performed as ends
+use Rattle.run_tasks.specs.declared.task.Task.TheVariants.{Command, Evaluate, Run}
+use Rattle.run_prepared.specs.Performed.{PerformsTask}
 use Rattle.meaning_dialogues.specs.Faults.{memory}
 use Rattle.meaning_opening.specs.Requests.{opening}
 use Rattle.meaning_runs.specs.Tallies.{Tally}
-use Rattle.meaning_worlds.specs.Given.{Given, World}
+use Rattle.meaning_worlds.specs.Given.{Given, Text, World}
 use Rattle.meaning_worlds.specs.Standing.{StandsFor}
 use Rattle.meaning_overriding.specs.Texts.{overrides_of}
+use Rattle.just_meaning.specs.Actions.{ActionEnd, CommandGoes, EvaluateGoes, Target, command_failed, done, target_of, writing}
+use Rattle.just_meaning.specs.Actions as actions
 use Rattle.just_meaning.specs.Runs.{Outcome, Runs, failed, not_opened, ran}
 use Rattle.meaning_settings.specs.Settled.{AllSettle}
 use Rattle.meaning_menus.specs.Calls.{CallsAreThere}
+use Rattle.meaning_menus.specs.Targets.{IsNamedTarget}
 use Rattle.meaning_grounds.specs.Alike.{configuration_of}
 use Rattle.meaning_steps.specs.Steps.{IsTold, defined, named}
+use Rattle.meaning_running.specs.Told.{IsThere}
+
+-- ---- ends
 
 -- how a run by names ends where it ends so by places
 abbrev pub outcome_of : {Rule : Type 0} → RunEnd → Outcome Rule
@@ -32,11 +41,26 @@ outcome_of (ends.not_opened failure) = not_opened failure
 outcome_of (ends.failed failure) = failed failure
 outcome_of ends.ran = ran
 
+-- how an action by names that opens modules ends where its task ends so, and its text is written or not
+abbrev pub action_end : Bool → TaskEnd → ActionEnd
+action_end writes (ends_as (ends.not_opened failure)) = actions.not_opened failure
+action_end writes (ends_as (ends.failed failure)) = command_failed failure
+action_end writes (ends_as ends.ran) = done
+action_end writes (told text) = writing writes text
+action_end writes (ends.command_failed failure) = command_failed failure
+
 -- an end but that memory ran out
 abbrev pub IsToldEnd : RunEnd → Type 0
 IsToldEnd (ends.not_opened failure) = failure ≢ opening memory
 IsToldEnd (ends.failed failure) = IsTold failure
 IsToldEnd ends.ran = Unit {0}
+
+abbrev pub IsToldTask : TaskEnd → Type 0
+IsToldTask (ends_as end) = IsToldEnd end
+IsToldTask (told text) = Unit {0}
+IsToldTask (ends.command_failed failure) = Unit {0}
+
+-- ---- calls
 
 module _ (w : World) (compilation : Compilation) (given : List Override) (analysis : Analysis) (settled : AllSettle w (overrides_of given) compilation analysis.values.value.settings.items) (calls : Vec Call) where
   -- the calls run by names, with a tally that begins at nothing
@@ -49,5 +73,25 @@ abbrev pub RunsCalledAreNamed : Type 0 → Type 0
 RunsCalledAreNamed Rule = (source : Given) (w : World) (compilation : Compilation) → StandsFor source w → IsResolvable w compilation
     → (given : List Override) (config : Config) (analysis : Analysis) → IsAnalysis compilation (string_bytes config.base) given analysis → (settled : AllSettle w (overrides_of given) compilation analysis.values.value.settings.items)
     → (root : List ℕ) (calls : Vec Call) → CallsAreThere analysis.table.value (rows calls.items)
-    → (old new : List Entry) (end : RunEnd) → IsToldEnd end → RunsCalls compilation analysis config root calls old new end
+    → (old new : List Entry) (end : RunEnd) → IsToldEnd end → PerformsTask compilation analysis config root (Run calls) old new (ends_as end)
     → RunsNamed w compilation given analysis settled calls Rule config root old new end
+
+-- ---- values and the command
+
+-- Values of an analyzed justfile, in a world that arguments stand for, are told by names as they are told by places, from the opening of modules on, unless memory runs out.
+abbrev pub EvaluationsAreNamed : Type 0
+EvaluationsAreNamed = (source : Given) (w : World) (compilation : Compilation) → StandsFor source w → IsResolvable w compilation
+    → (given : List Override) (config : Config) (analysis : Analysis) → IsAnalysis compilation (string_bytes config.base) given analysis → (settled : AllSettle w (overrides_of given) compilation analysis.values.value.settings.items)
+    → (root : List ℕ) (target : EvaluationTarget) → IsThere compilation target
+    → (words : List Text) (t : Target) → IsNamedTarget compilation analysis.variables.lists.items (Some target) (Some t)
+    → target_of (defined w compilation given (string_bytes config.base) analysis settled config root) words ≡ Some t
+    → (writes : Bool) (old new : List Entry) (end : TaskEnd) → IsToldTask end → PerformsTask compilation analysis config root (Evaluate target) old new end
+    → EvaluateGoes (configuration_of config root w.expansion) (defined w compilation given (string_bytes config.base) analysis settled config root) writes words old new (action_end writes end)
+
+-- One or more words are handed over by names as one command as they are by places, from the opening of modules on, unless memory runs out.
+abbrev pub CommandsAreNamed : Type 0
+CommandsAreNamed = (source : Given) (w : World) (compilation : Compilation) → StandsFor source w → IsResolvable w compilation
+    → (given : List Override) (config : Config) (analysis : Analysis) → IsAnalysis compilation (string_bytes config.base) given analysis → (settled : AllSettle w (overrides_of given) compilation analysis.values.value.settings.items)
+    → (root : List ℕ) (words : Bor (List Text)) → words.now ≢ []
+    → (writes : Bool) (old new : List Entry) (end : TaskEnd) → IsToldTask end → PerformsTask compilation analysis config root (Command words) old new end
+    → CommandGoes (configuration_of config root w.expansion) (defined w compilation given (string_bytes config.base) analysis settled config root) words.now old new (action_end writes end)

@@ -1,4 +1,4 @@
-//! Runs of calls in a resolved justfile, from their opening on, by places and by names.
+//! Tasks of a resolved justfile, from their opening on, by places and by names.
 #![tactic(auto)]
 
 pub mod law;

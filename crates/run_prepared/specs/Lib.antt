@@ -1,4 +1,4 @@
 pub mod Order
 pub mod Planned
 pub mod Wanted
-pub mod Runs
+pub mod Performed

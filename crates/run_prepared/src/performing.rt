@@ -1,12 +1,9 @@
 //! The task, with all that it needs.
 ghost use Rattle.std.specs.Prelude.{◌≡◌, IfOk, List, option_map};
-ghost use Rattle.std.specs.Global.{Vec};
-ghost use Rattle.analyze_calls.specs.declared.call.Call.{Call};
+ghost use Rattle.run_prepared.specs.Performed.{IsPreparedFor, PerformsIn, PerformsOver, PerformsTask};
 ghost use Rattle.run_prepared.specs.Planned.{ArePlanned};
-ghost use Rattle.run_prepared.specs.Runs.{IsPreparedFor, RunsCalls, RunsIn, RunsOver};
 ghost use Rattle.run_tasks.specs.Kinds.{AsksFor};
-ghost use Rattle.run_tasks.specs.Opened.{IfEnded};
-ghost use Rattle.run_tasks.specs.declared.task.Task.TheVariants.{Run};
+ghost use Rattle.run_tasks.specs.Performed.{IfPerformed};
 
 use crate::order::opening_order;
 use crate::planned::plan;
@@ -86,7 +83,7 @@ fn perform_planned<'l, 'src, H: RunHost + Drop>(
     task: Task,
 ) -> Result<Performed, TaskFault<'src>>
     ensures asks { AsksFor task.entry context.now.config.now.dry_run H.goes host.old host.new }
-    ensures runs { (calls : Vec Call) → task.entry ≡ Run calls → IfEnded host.new.exhausted result (RunsOver context.now modules.now recipes.old calls.items host.old.entries host.new.entries) }
+    ensures performs { IfPerformed task.entry host.new.exhausted result (PerformsOver context.now modules.now recipes.old task.entry host.old.entries host.new.entries) }
 {
     let mut tally = Tally::new();
     perform(alloc, host, context, modules, &*recipes, task, &mut tally)
@@ -103,7 +100,7 @@ fn perform_over<'src, H: RunHost + Drop>(
     task: Task,
 ) -> Result<Performed, TaskFault<'src>>
     ensures asks { AsksFor task.entry context.now.config.now.dry_run H.goes host.old host.new }
-    ensures runs { (calls : Vec Call) → task.entry ≡ Run calls → IfEnded host.new.exhausted result (λ end. (planned : List Planned) × ArePlanned compilation.now recipes.now planned × RunsOver context.now modules.now planned calls.items host.old.entries host.new.entries end) }
+    ensures performs { IfPerformed task.entry host.new.exhausted result (λ end. (planned : List Planned) × ArePlanned compilation.now recipes.now planned × PerformsOver context.now modules.now planned task.entry host.old.entries host.new.entries end) }
 {
     let mut recipes = plan(alloc, &*compilation, &*recipes)?;
     let recipes = recipes.as_mut_slice();
@@ -120,7 +117,7 @@ fn perform_prepared<'src, H: RunHost + Drop>(
     task: Task,
 ) -> Result<Performed, TaskFault<'src>>
     ensures asks { AsksFor task.entry context.now.config.now.dry_run H.goes host.old host.new }
-    ensures runs { (calls : Vec Call) → task.entry ≡ Run calls → IfEnded host.new.exhausted result (RunsIn compilation.now analysis.now context.now calls.items host.old.entries host.new.entries) }
+    ensures performs { IfPerformed task.entry host.new.exhausted result (PerformsIn compilation.now analysis.now context.now task.entry host.old.entries host.new.entries) }
 {
     let values = &analysis.values;
     let views = views(alloc, analysis.modules, &analysis.variables, values)?;
@@ -152,8 +149,8 @@ pub fn perform_task<'src, H: RunHost + Drop>(
     task: Task,
 ) -> Result<Performed, TaskFault<'src>>
     ensures asks { AsksFor task.entry config.now.dry_run H.goes host.old host.new }
-    // Where calls run and memory suffices, they run over what is known of the justfile.
-    ensures runs { (calls : Vec Call) → task.entry ≡ Run calls → IfEnded host.new.exhausted result (RunsCalls compilation.now analysis.now config.now root.now calls host.old.entries host.new.entries) }
+    // Where memory suffices, the task is done over what is known of the justfile.
+    ensures performs { IfPerformed task.entry host.new.exhausted result (PerformsTask compilation.now analysis.now config.now root.now task.entry host.old.entries host.new.entries) }
 {
     let prepared = prepare(alloc, analysis, &task, config.no_dependencies)?;
     let overrides = &analysis.values.overrides;

@@ -2,3 +2,4 @@ pub mod Added
 pub mod Sentences
 pub mod Standing
 pub mod Ending
+pub mod Doing

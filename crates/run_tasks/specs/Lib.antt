@@ -3,3 +3,4 @@ pub mod Faulted
 pub mod Kinds
 pub mod Tasks
 pub mod Opened
+pub mod Performed

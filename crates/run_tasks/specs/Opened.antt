@@ -1,29 +1,12 @@
--- What recipes rest on once modules are open, and a run over them.
-use Rattle.std.specs.Prelude.{◌≡◌, ◌≢◌, ◌<◌, ℕ, suc, nat_eq, if◌then◌else◌, Bool, false, List, [], ◌∷◌, map, Option, Some, None, Result, Ok, Err, length, get_or}
-use Rattle.just_host.specs.declared.entry.Entry.{Entry}
+-- What recipes rest on once modules are open.
+use Rattle.std.specs.Prelude.{◌≡◌, ◌<◌, ℕ, suc, nat_eq, if◌then◌else◌, List, [], ◌∷◌, map, Option, Some, None, length, get_or}
 use Rattle.just_value.specs.Constants.{constant_rows}
 use Rattle.just_value.specs.Frames.{BindsRows, ByNumber}
 use Rattle.evaluate_context.specs.Environment.{variable}
 use Rattle.evaluate_context.specs.declared.context.ExecutionContext.{ExecutionContext}
 use Rattle.evaluate_context.specs.declared.context.ModuleView.{ModuleView}
-use Rattle.evaluate_context.specs.Refusals.{fault_of}
-use Rattle.justfile_evaluator.specs.Ended.{failure_of}
-use Rattle.meaning_dialogues.specs.Faults.{memory}
-use Rattle.meaning_opening.specs.Requests.{OpeningFailure, dotenv, opening}
-use Rattle.meaning_runs.specs.Failures.{Failure, evaluation}
-use Rattle.meaning_runs.specs.Tallies.{Tally}
-use Rattle.analyze_calls.specs.Calls.{CallRow}
-use Rattle.analyze_calls.specs.Opening.{OpenedRow, OpensAll}
-use Rattle.analyze_calls.specs.declared.fault.OpeningFault.TheVariants as openings
+use Rattle.analyze_calls.specs.Opening.{OpenedRow}
 use Rattle.analyze_calls.specs.declared.opening.Opening.{Opening as Opens}
-use Rattle.analyze_calls.specs.declared.plan.Planned.{Planned}
-use Rattle.analyze_calls.specs.declared.plan.Runner.{Runner}
-use Rattle.analyze_runs.specs.Rest.{HasRun}
-use Rattle.analyze_runs.specs.Steps.{parts}
-use Rattle.run_tasks.specs.declared.fault.TaskFault.{TaskFault}
-use Rattle.run_tasks.specs.declared.fault.TaskFault.TheVariants.{Opening, Run, Command}
-use Rattle.run_tasks.specs.declared.task.Performed.{Performed}
-use Rattle.run_tasks.specs.declared.task.Performed.TheVariants.{Ran, Evaluated}
 use Rattle.run_tasks.specs.declared.task.TaskContext.{TaskContext}
 
 -- ---- contexts
@@ -60,51 +43,6 @@ module _ (context : TaskContext) where
     pub constants : BindsRows constant_rows opens.constants.now.own
     pub alone : opens.constants.now.outer ≡ []
     pub sorted : ByNumber opens.constants.now.own
-
--- ---- a run
-
--- how a run ends: its opening was refused, a recipe failed, or it ran
-pub data RunEnd : Type 0 where
-  not_opened : OpeningFailure → RunEnd
-  failed : Failure → RunEnd
-  ran : RunEnd
-
-abbrev pub end_of : Option Failure → RunEnd
-end_of None = ran
-end_of (Some failure) = failed failure
-
--- the calls run over these recipes and contexts, with nothing done at first
-pub data RunsIn (recipes : List Planned) (contexts : List ExecutionContext) (calls : List CallRow) (old : List Entry) (t : Tally) (new : List Entry) (t' : Tally) : RunEnd → Type 0 where
-  runs_in : {failure : Option Failure} (runner : Runner) → runner.recipes.now ≡ recipes → runner.contexts.now ≡ contexts → HasRun (parts runner) calls old t new t' failure
-      → RunsIn recipes contexts calls old t new t' (end_of failure)
-
-module _ (context : TaskContext) (modules : List ModuleView) (recipes : List Planned) (calls : List CallRow) where
-  -- the calls run over what is open
-  pub record RunsOpened (rows : List OpenedRow) (old : List Entry) (t : Tally) (new : List Entry) (t' : Tally) (end : RunEnd) : Type 0 where
-    pub contexts : List ExecutionContext
-    pub are : AreContexts context rows 0 modules contexts
-    pub runs : RunsIn recipes contexts calls old t new t' end
-
-  -- modules open in their order, and then the calls run over what is open
-  pub data RunsFrom (opens : Opens) (old : List Entry) (t : Tally) (new : List Entry) : Tally → RunEnd → Type 0 where
-    refused : {failure : OpeningFailure} → OpensAll opens modules context.opening_order.now old new (Err failure) → RunsFrom opens old t new t (not_opened failure)
-    opened : {mid : List Entry} {rows : List OpenedRow} {t' : Tally} {end : RunEnd} → OpensAll opens modules context.opening_order.now old mid (Ok rows) → RunsOpened rows mid t new t' end → RunsFrom opens old t new t' end
-
-  -- the same, with the constants of the language around all modules
-  pub record Runs (old : List Entry) (t : Tally) (new : List Entry) (t' : Tally) (end : RunEnd) : Type 0 where
-    pub opens : Opens
-    pub is : IsOpeningOf context opens
-    pub runs : RunsFrom opens old t new t' end
-
--- P holds of how it ended, where memory sufficed
-abbrev pub IfEnded : Bool → Result Performed TaskFault → (RunEnd → Type 0) → Type 0
-IfEnded exhausted (Ok Ran) P = exhausted ≡ false → P ran
-IfEnded exhausted (Ok (Evaluated text)) P = ⊥
-IfEnded exhausted (Err (Opening openings.OutOfMemory)) P = Unit {0}
-IfEnded exhausted (Err (Opening (openings.Dotenv fault))) P = P (not_opened (dotenv fault))
-IfEnded exhausted (Err (Opening (openings.Opening error))) P = P (not_opened (opening (fault_of error)))
-IfEnded exhausted (Err (Run fault)) P = exhausted ≡ false → failure_of fault ≢ evaluation memory → P (failed (failure_of fault))
-IfEnded exhausted (Err (Command fault)) P = ⊥
 
 -- ---- where modules stand among those that are open
 

@@ -5,15 +5,14 @@ ghost use Rattle.std.specs.List.{All};
 ghost use Rattle.analyze_calls.specs.Asked.{AsksIn};
 ghost use Rattle.run_tasks.specs.Kinds.{AsksFor, AsksOver, AsksRoot};
 ghost use Rattle.std.specs.Prelude.{[], ℕ, List};
-ghost use Rattle.std.specs.Global.{Vec};
 ghost use Rattle.just_value.specs.Constants.{constant_rows};
 ghost use Rattle.just_value.specs.Frames.{BindsRows, ByNumber};
 ghost use Rattle.analyze_calls.specs.Calls.{rows};
 ghost use Rattle.analyze_calls.specs.Opening.{opened_rows};
-ghost use Rattle.analyze_calls.specs.declared.call.Call.{Call};
 ghost use Rattle.analyze_runs.specs.Tallies.{tally_of};
-ghost use Rattle.run_tasks.specs.Opened.{AreContexts, ArePositions, IfEnded, IsOpeningOf, Runs, RunsIn, RunsOpened};
-ghost use Rattle.run_tasks.specs.declared.task.Task.TheVariants.{Run};
+ghost use Rattle.run_tasks.specs.Opened.{AreContexts, ArePositions, IsOpeningOf};
+ghost use Rattle.run_tasks.specs.Performed.{Fits, IfEnds, IfPerformed, IfRunEnd, Performs, PerformsIn, PerformsOpened, RunsIn};
+ghost use Rattle.run_tasks.specs.declared.task.Task.TheVariants as tasks;
 ghost use Rattle.run_tasks.specs.Tasks as spec;
 ghost use Rattle.run_tasks.specs.Tasks.{CommandsIn, Does, IsEvaluated};
 
@@ -83,7 +82,8 @@ fn run<'a, 'src, H: RunHost + Drop>(
     tally: &mut Tally,
 ) -> Result<Performed, TaskFault<'src>>
     ensures asks { AsksIn contexts.now H.goes host.old host.new }
-    ensures runs { IfEnded host.new.exhausted result (RunsIn recipes.now contexts.now (rows calls.items) host.old.entries (tally_of tally.old) host.new.entries (tally_of tally.new)) }
+    ensures fits { Fits (tasks.Run calls) result }
+    ensures performs { IfEnds host.new.exhausted result (λ end. IfRunEnd end (RunsIn recipes.now contexts.now (rows calls.items) host.old.entries (tally_of tally.old) host.new.entries (tally_of tally.new))) }
 {
     let runner = Runner { recipes, contexts };
     run_calls(alloc, host, &runner, calls, tally)?;
@@ -176,7 +176,7 @@ fn perform_in<'a, 'src, H: RunHost + Drop>(
 ) -> Result<Performed, TaskFault<'src>>
     ensures does { Does H.goes contexts.now task.entry host.old result host.new }
     ensures asks { AsksOver contexts.now task.entry H.goes host.old host.new }
-    ensures runs { (calls : Vec Call) → task.entry ≡ Run calls → IfEnded host.new.exhausted result (RunsIn recipes.now contexts.now (rows calls.items) host.old.entries (tally_of tally.old) host.new.entries (tally_of tally.new)) }
+    ensures performs { IfPerformed task.entry host.new.exhausted result (PerformsIn recipes.now contexts.now task.entry host.old.entries (tally_of tally.old) host.new.entries (tally_of tally.new)) }
 {
     match task {
         Task::Run(calls) => run(alloc, host, recipes, contexts, calls, tally),
@@ -197,7 +197,7 @@ fn perform_opened<'a, 'src, H: RunHost + Drop>(
     tally: &mut Tally,
 ) -> Result<Performed, TaskFault<'src>>
     ensures asks { AsksFor task.entry context.now.config.now.dry_run H.goes host.old host.new }
-    ensures runs { (calls : Vec Call) → task.entry ≡ Run calls → IfEnded host.new.exhausted result (RunsOpened context.now modules.now recipes.now (rows calls.items) (opened_rows opened.now) host.old.entries (tally_of tally.old) host.new.entries (tally_of tally.new)) }
+    ensures performs { IfPerformed task.entry host.new.exhausted result (PerformsOpened context.now modules.now recipes.now task.entry (opened_rows opened.now) host.old.entries (tally_of tally.old) host.new.entries (tally_of tally.new)) }
 {
     let contexts = contexts(alloc, context, modules, opened)?;
     perform_in(alloc, host, recipes, contexts.as_slice(), task, tally)
@@ -231,7 +231,7 @@ fn perform_inside<'src, H: RunHost + Drop>(
     tally: &mut Tally,
 ) -> Result<Performed, TaskFault<'src>>
     ensures asks { AsksFor task.entry context.now.config.now.dry_run H.goes host.old host.new }
-    ensures runs { BindsRows constant_rows constants.now.own → constants.now.outer ≡ [] → ByNumber constants.now.own → (calls : Vec Call) → task.entry ≡ Run calls → IfEnded host.new.exhausted result (Runs context.now modules.now recipes.now (rows calls.items) host.old.entries (tally_of tally.old) host.new.entries (tally_of tally.new)) }
+    ensures performs { BindsRows constant_rows constants.now.own → constants.now.outer ≡ [] → ByNumber constants.now.own → IfPerformed task.entry host.new.exhausted result (Performs context.now modules.now recipes.now task.entry host.old.entries (tally_of tally.old) host.new.entries (tally_of tally.new)) }
 {
     let opening = opening_of(&*context, &*constants);
     let opened = open_modules(alloc, host, &opening, modules, context.opening_order)?;
@@ -266,8 +266,8 @@ pub fn perform<'src, H: RunHost + Drop>(
 ) -> Result<Performed, TaskFault<'src>>
     // The record has grown by just what was asked, and the host went along by it.
     ensures asks { AsksFor task.entry context.now.config.now.dry_run H.goes host.old host.new }
-    // Where calls run and memory suffices, the modules open, and then the calls run over what is open, up to the first failure.
-    ensures runs { (calls : Vec Call) → task.entry ≡ Run calls → IfEnded host.new.exhausted result (Runs context.now modules.now recipes.now (rows calls.items) host.old.entries (tally_of tally.old) host.new.entries (tally_of tally.new)) }
+    // Where memory suffices, the modules open, and then the task is done over what is open: calls run up to the first failure, values are told, or a command is handed over.
+    ensures performs { IfPerformed task.entry host.new.exhausted result (Performs context.now modules.now recipes.now task.entry host.old.entries (tally_of tally.old) host.new.entries (tally_of tally.new)) }
 {
     let constants = Scope::root(alloc)?;
     perform_inside(

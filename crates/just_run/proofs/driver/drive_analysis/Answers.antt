@@ -8,8 +8,7 @@ use Rattle.run_requests.proofs.Asked.{asked_means}
 use Rattle.just_run.proofs.Early.{late_are_unruled, planned_is_unruled}
 use Rattle.run_requests.specs.declared.request.Request.TheVariants as requests
 use Rattle.just_run.proofs.Added.{for_task, questions_asked}
-use Rattle.just_run.specs.Ran.{none, runs}
-use Rattle.just_run.proofs.Ran.{no_plan_of_run, task_of_run, text_of_run}
+use Rattle.just_run.specs.Ran.{does, plans, tells}
 use Rattle.just_run.proofs.driver.drive_analysis.Goals as goal
 
 pub returns-in-Task-clause-asks : goal.returns-in-Task-clause-asks
@@ -32,18 +31,18 @@ returns-in-Task-clause-words g c = λ same all.
     let asked = (subst (λ words. IsAskedFor c.args.compilation.now c.args.analysis.now words c.args.action c.in_ok-request.request) c.as_slice-words.ensures (c.in_ok-request.ensures.meant same all)) in
     clear (asked_means c.args.compilation.now c.args.analysis.now c.args.words.now.arguments c.args.action c.in_ok-request.request asked)
     (late_are_unruled c.drive_task.result c.drive_task.ensures.late)
-    (λ run. let so = subst (IsAskedFor c.args.compilation.now c.args.analysis.now c.args.words.now.arguments c.args.action) c.in-Task.is asked in let task = task_of_run c.args.compilation.now c.args.analysis.now c.args.words.now.arguments c.args.action c.in-Task.task run so in runs task.0 task.2 (c.drive_task.ensures.runs task.0 task.1))
+    (does c.in-Task.task (subst (IsAskedFor c.args.compilation.now c.args.analysis.now c.args.words.now.arguments c.args.action) c.in-Task.is asked) c.drive_task.ensures.ends)
 
 pub returns-in-Plan-clause-words : goal.returns-in-Plan-clause-words
 returns-in-Plan-clause-words g c = λ same all.
     let asked = (subst (λ words. IsAskedFor c.args.compilation.now c.args.analysis.now words c.args.action c.in_ok-request.request) c.as_slice-words.ensures (c.in_ok-request.ensures.meant same all)) in
     clear (asked_means c.args.compilation.now c.args.analysis.now c.args.words.now.arguments c.args.action c.in_ok-request.request asked)
     (planned_is_unruled g.H.Host.goes c.args.host.now (g.O.Out.written c.args.out.now) c.drive_plan.result c.drive_plan.new.host (g.O.Out.written c.drive_plan.new.out) c.drive_plan.ensures.planned)
-    (λ run. let so = subst (IsAskedFor c.args.compilation.now c.args.analysis.now c.args.words.now.arguments c.args.action) c.in-Plan.is asked in absurd (no_plan_of_run c.args.compilation.now c.args.analysis.now c.args.words.now.arguments c.args.action c.in-Plan.calls run so))
+    (plans c.in-Plan.calls (subst (IsAskedFor c.args.compilation.now c.args.analysis.now c.args.words.now.arguments c.args.action) c.in-Plan.is asked) c.drive_plan.ensures.ends)
 
 pub returns-in-Text-clause-words : goal.returns-in-Text-clause-words
 returns-in-Text-clause-words g c = λ same all.
     let asked = (subst (λ words. IsAskedFor c.args.compilation.now c.args.analysis.now words c.args.action c.in_ok-request.request) c.as_slice-words.ensures (c.in_ok-request.ensures.meant same all)) in
     clear (asked_means c.args.compilation.now c.args.analysis.now c.args.words.now.arguments c.args.action c.in_ok-request.request asked)
     c.tell.ensures.unruled
-    (λ run. let so = subst (IsAskedFor c.args.compilation.now c.args.analysis.now c.args.words.now.arguments c.args.action) c.in-Text.is asked in none (text_of_run c.args.compilation.now c.args.analysis.now c.args.words.now.arguments c.args.action c.in-Text.text run so) refl)
+    (tells c.in-Text.text (subst (IsAskedFor c.args.compilation.now c.args.analysis.now c.args.words.now.arguments c.args.action) c.in-Text.is asked) refl (λ list. (_, c.tell.ensures.listed list)))

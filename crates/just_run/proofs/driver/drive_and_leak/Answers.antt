@@ -1,7 +1,8 @@
+use Rattle.just_run.proofs.Formatted.{formatted_drives}
 use Rattle.just_run.proofs.driver.drive_and_leak.Goals as goal
 
-pub returns : goal.returns
-returns g c = record {
+pub returns-clause-drives : goal.returns-clause-drives
+returns-clause-drives g c = record {
   plain = c.drive_words.ensures.plain;
   early = c.drive_words.ensures.early;
   sources = c.drive_words.ensures.sources;
@@ -12,3 +13,7 @@ returns g c = record {
   unwritten = c.drive_words.ensures.unwritten;
   asked = c.drive_words.ensures.asked;
 }
+
+pub returns-clause-formatted : goal.returns-clause-formatted
+returns-clause-formatted g c = λ other formats.
+    formatted_drives c.file_law.ensures.texts c.file_law.ensures.faults (g.E.Expander.expansion c.args.expander.now) c.args.sources.now other c.args.roots.now c.args.words.now c.args.config.now formats g.H.Host.goes c.args.action _ c.drive_words.result _ (returns-clause-drives g c)

@@ -15,10 +15,10 @@ returns-in_err-performed-clause-unfailed g c =
     let p = err_from_is_err_and c.from_residual.result c.from_residual.ensures.1 in
     rw (p.1, p.2) (no_write_fails (g.O.Out.failed c.args.out.now) (task_fault c.in_err-performed.field-0.0) (of_run_is_no_write (task_fault c.in_err-performed.field-0.0) (task_is_of_run c.in_err-performed.field-0.0)))
 
-pub returns-in_err-performed-clause-runs : goal.returns-in_err-performed-clause-runs
-returns-in_err-performed-clause-runs g c = λ calls is.
+pub returns-in_err-performed-clause-ends : goal.returns-in_err-performed-clause-ends
+returns-in_err-performed-clause-ends g c =
     let p = err_from_is_err_and c.from_residual.result c.from_residual.ensures.1 in
-    rw (p.1, p.2) (ends_ill _ _ _ c.in_err-performed.field-0.0 refl (c.in_err-performed.ensures.runs calls is))
+    rw (p.1, p.2) (ends_ill _ _ _ _ c.in_err-performed.field-0.0 refl refl c.in_err-performed.ensures.performs)
 
-pub returns-clause-runs : goal.returns-clause-runs
-returns-clause-runs g c = λ calls is. ends_well _ _ _ c.in_ok-performed.performed c.write_performed.ensures.ran (c.in_ok-performed.ensures.runs calls is)
+pub returns-clause-ends : goal.returns-clause-ends
+returns-clause-ends g c = ends_well _ _ _ _ c.in_ok-performed.performed c.write_performed.ensures.ran c.write_performed.ensures.wrote c.in_ok-performed.ensures.performs

@@ -76,4 +76,4 @@ returns-in_err-root-clause-sources g c = λ all.
 pub returns-clause-sources : goal.returns-clause-sources
 returns-clause-sources g c = rw (sym c.in_ok-words.ensures) (λ all.
     told_of_root c.args.sources.now c.args.roots.now c.in_ok-words.words (g.E.Expander.expansion c.args.expander.now) c.args.config.now.version c.args.config.now.os c.args.config.now.unstable (asked_of c.args.action c.in_ok-words.words c.args.config.now) c.in_ok-root.root.path.now c.in_ok-root.root.file c.in_ok-root.root.numerator c.in_ok-root.root.plain
-    (left_of c.args.host.now c.drive_root.new.host) c.drive_root.result c.in_ok-root.ensures.read c.in_ok-root.ensures.ok all c.drive_root.ensures.sources)
+    (left_of c.args.host.now (g.O.Out.written c.args.out.now) (g.O.Out.failed c.args.out.now) c.drive_root.new.host (g.O.Out.written c.drive_root.new.out) (g.O.Out.failed c.drive_root.new.out)) c.drive_root.result c.in_ok-root.ensures.read c.in_ok-root.ensures.ok all c.drive_root.ensures.sources)

@@ -9,3 +9,6 @@ returns-then-is_refused-clause-unfailed g c = rw c.from-fault.ensures (no_write_
 
 pub returns-clause-unfailed : goal.returns-clause-unfailed
 returns-clause-unfailed g c = c.write_plan.ensures.unfailed (rw c.from-fault.ensures (failed_is_of_run c.args.fault (sym c.breaks_rule-is_refused.ensures ∙ c.if-is_refused.false)))
+
+pub returns-clause-failed : goal.returns-clause-failed
+returns-clause-failed g c = λ whole plan sent. c.write_plan.ensures.planned plan (rw c.from-fault.ensures (failed_is_of_run c.args.fault whole)) sent

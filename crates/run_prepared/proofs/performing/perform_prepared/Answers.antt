@@ -5,6 +5,6 @@ use Rattle.resolve_analysis.specs.declared.recipes.RecipeTable.{RecipeTable}
 use Rattle.run_prepared.proofs.Running.{views_so}
 use Rattle.run_prepared.proofs.performing.perform_prepared.Goals as goal
 
-pub returns-clause-runs : goal.returns-clause-runs
-returns-clause-runs g c = λ calls is.
-    views_so _ c.as_slice.result.now calls.items _ _ _ _ _ c.args.analysis.now c.as_slice-recipes.result.now (c.as_slice-recipes.ensures.value ∙ ap (λ (t : RecipeTable). t.recipes.items) c.deref-2.ensures) (ap (map seen) c.as_slice.ensures.value ∙ c.in_ok-views.ensures ∙ ap (λ values. views_of c.args.analysis.now.modules.now c.args.analysis.now.variables values (length c.args.analysis.now.modules.now)) c.deref.ensures) (c.perform_over.ensures.runs calls is)
+pub returns-clause-performs : goal.returns-clause-performs
+returns-clause-performs g c =
+    views_so _ c.as_slice.result.now _ _ _ _ _ _ c.args.analysis.now c.as_slice-recipes.result.now (c.as_slice-recipes.ensures.value ∙ ap (λ (t : RecipeTable). t.recipes.items) c.deref-2.ensures) (ap (map seen) c.as_slice.ensures.value ∙ c.in_ok-views.ensures ∙ ap (λ values. views_of c.args.analysis.now.modules.now c.args.analysis.now.variables values (length c.args.analysis.now.modules.now)) c.deref.ensures) c.perform_over.ensures.performs

@@ -1,13 +1,13 @@
 -- With what is prepared.
-use Rattle.std.proofs.Common.{ap, ◌∙◌}
+use Rattle.std.proofs.Common.{ap, ◌∙◌, refl}
 use Rattle.resolve_analysis.specs.declared.known_values.KnownValues.{KnownValues}
-use Rattle.run_tasks.proofs.Ending.{ended_so}
+use Rattle.run_tasks.proofs.Ending.{performed_so}
 use Rattle.run_prepared.proofs.Running.{prepared_so}
 use Rattle.run_prepared.proofs.performing.perform_task.Goals as goal
 
-pub returns-clause-runs : goal.returns-clause-runs
-returns-clause-runs g c = λ calls is.
+pub returns-clause-performs : goal.returns-clause-performs
+returns-clause-performs g c =
     let e = c.context_of-context.ensures in
     let prepared = c.in_ok-prepared.ensures in
     let there = c.deref.ensures in
-    ended_so c.perform_prepared.new.host.exhausted c.perform_prepared.result _ _ (λ end runs. record { context = c.context_of-context.result; is = record { config_is = e.config; overrides = e.overrides ∙ ap (λ (v : KnownValues). v.overrides) there; root_is = e.root; prepared = prepared_so c.args.analysis.now c.args.task _ c.args.config.now.no_dependencies _ _ _ _ is e.order e.wanted prepared }; runs = runs }) (c.perform_prepared.ensures.runs calls is)
+    performed_so c.args.task c.perform_prepared.new.host.exhausted c.perform_prepared.result _ _ (λ end performs. record { context = c.context_of-context.result; is = record { config_is = e.config; overrides = e.overrides ∙ ap (λ (v : KnownValues). v.overrides) there; root_is = e.root; prepared = prepared_so c.args.analysis.now c.args.task _ c.args.config.now.no_dependencies _ _ _ _ refl e.order e.wanted prepared }; performs = performs }) c.perform_prepared.ensures.performs

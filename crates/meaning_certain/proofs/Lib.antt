@@ -1,0 +1,10 @@
+pub mod Dialogues
+pub mod Tasks
+pub mod Functions
+pub mod Binding
+pub mod Bodies
+pub mod Going
+pub mod Calls
+pub mod Names
+pub mod Openings
+pub mod Runs

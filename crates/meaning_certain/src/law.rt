@@ -1,0 +1,17 @@
+//! Openings and runs that don't end with `internal`.
+ghost use Rattle.meaning_certain.specs.Certain.{OpeningsAreCertain, RunsAreCertain, RunsEndCertainly};
+
+/// No opening ends with `internal` where each name that a variable reads or calls stands for something.
+pub fn openings_are_certain()
+    ensures { OpeningsAreCertain }
+{}
+
+/// No run of calls ends with `internal` where each name that their recipes read or call stands for something, and what they read was opened.
+pub fn runs_are_certain()
+    ensures { RunsAreCertain }
+{}
+
+/// No run from its opening on ends with `internal` where each name that is read or called stands for something, and each call has a group for each parameter.
+pub fn runs_end_certainly<Rule>()
+    ensures { RunsEndCertainly Rule }
+{}

@@ -1,0 +1,12 @@
+pub mod Tasks
+pub mod Passing
+pub mod Going
+pub mod Dialogues
+pub mod Held
+pub mod Sides
+pub mod Filling
+pub mod Ones
+pub mod Exported
+pub mod Openings
+pub mod Runs
+pub mod Actions

@@ -1,0 +1,10 @@
+pub mod Lists
+pub mod Expressions
+pub mod Parts
+pub mod Kept
+pub mod Settings
+pub mod Rows
+pub mod Invoked
+pub mod Reached
+pub mod Known
+pub mod Ordered

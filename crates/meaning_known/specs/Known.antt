@@ -1,0 +1,58 @@
+-- What a world that breaks no rule says of what is defined by name: each name that is read or called is known, and words invoke recipes that are there.
+use Rattle.std.specs.Prelude.{◌≡◌, ℕ, Bool, List, Some, length, Contains}
+use Rattle.std.specs.List.{AllByRecursion}
+use Rattle.tree_attributes.specs.Attributes.{AttributeShape}
+use Rattle.tree_attribute_sets.specs.Order.{in_order}
+use Rattle.tree_items.specs.Files.{recipe_item}
+use Rattle.tree_items.specs.Recipes.{RecipeShape}
+use Rattle.meaning_worlds.specs.Given.{Given, Text, World, Overrides}
+use Rattle.meaning_worlds.specs.Sources.{AreSaid, Has, Reached}
+use Rattle.meaning_worlds.specs.Standing.{StandsFor}
+use Rattle.meaning_worlds.specs.Modules.{IsModule, IsReadingOrder}
+use Rattle.meaning_rules.specs.Rules.{Rule, Broken}
+use Rattle.meaning_runs.specs.Invokes.{Invoke}
+use Rattle.meaning_calls.specs.Named.{RecipeName, RecipeRow, ModuleRow, Definitions, paths_of}
+use Rattle.meaning_calls.specs.Groups.{parameters_of}
+use Rattle.just_meaning.specs.Defining.{AreDefined}
+use Rattle.just_meaning.specs.Menus.{menu_of}
+use Rattle.just_meaning.specs.Opening.{IsReached, IsOpened}
+use Rattle.meaning_agreement.specs.Opened.{AreListed}
+use Rattle.meaning_certain.specs.Certain.{AreCertain, AreCertainVariables}
+
+-- the world breaks no rule, with these overrides
+abbrev pub BreaksNoRule : World → Overrides → Type 0
+BreaksNoRule w o = (rule : Rule) → Broken w o rule → ⊥
+
+-- The files of a world are read: each that is reached says something, and the files of each module have an order.
+pub record IsRead (w : World) : Type 0 where
+  pub said : AreSaid w
+  pub orders : (path : List Text) (own : Text) → IsModule w path own → (files : List Text) × IsReadingOrder w own files
+
+-- the attributes of each recipe stand in their order
+abbrev pub AreInOrder : World → Type 0
+AreInOrder w = (key : Text) (place : ℕ) (attributes : List AttributeShape) (r : RecipeShape) → Reached w key → Has w key place (recipe_item attributes r) → in_order attributes ≡ attributes
+
+-- each module of the tree has a row
+abbrev pub HaveRows : Definitions → Type 0
+HaveRows defined = (path : List Text) → Contains (paths_of defined.modules) path → (row : ModuleRow) × (defined.inside path ≡ Some row)
+
+-- a recipe of the name is there
+abbrev pub HasRecipe : Definitions → RecipeName → Type 0
+HasRecipe defined r = (row : RecipeRow) × (defined.recipe r ≡ Some row)
+
+-- What invoked recipes that are there reach, and what opens for them, has names that are known, where no rule is broken; modules with a row are in the tree, and the names of variables are listed.
+abbrev pub DefinedAreKnown : Type 0
+DefinedAreKnown = (w : World) (o : Overrides) → BreaksNoRule w o → IsRead w → AreInOrder w → (base working : Text) (defined : Definitions) → AreDefined w o base working defined → HaveRows defined
+    → (leaves_out : Bool) (invoked : List RecipeName) → ((r : RecipeName) → Contains invoked r → HasRecipe defined r)
+    → AreCertain defined (IsReached defined leaves_out invoked) × AreCertainVariables defined (IsOpened defined leaves_out invoked)
+    × ((path : List Text) (row : ModuleRow) → defined.inside path ≡ Some row → Contains (paths_of defined.modules) path) × AreListed defined
+
+-- Words invoke recipes that are there, with a group for each parameter, where no rule is broken.
+abbrev pub InvokedAreKnown : Type 0
+InvokedAreKnown = (w : World) (o : Overrides) → BreaksNoRule w o → IsRead w → (base working : Text) (defined : Definitions) → AreDefined w o base working defined
+    → (words : List Text) (invocations : List (RecipeName × List (List Text))) → Invoke (menu_of defined) words invocations
+    → AllByRecursion (λ i. HasRecipe defined i.0 × (length i.1 ≡ length (parameters_of (defined.recipe i.0)))) invocations
+
+-- The attributes of each recipe stand in their order where files say what texts say.
+abbrev pub WorldsAreInOrder : Type 0
+WorldsAreInOrder = (given : Given) (w : World) → StandsFor given w → AreInOrder w

@@ -1,0 +1,2 @@
+pub mod Reformatted
+pub mod Plain

@@ -1,0 +1,4 @@
+//! Files of which some stand in their formatted text: what calls over them say is the same.
+#![tactic(auto)]
+
+pub mod law;

@@ -1,0 +1,4 @@
+//! What is defined by name is one.
+#![tactic(auto)]
+
+pub mod law;
