@@ -1,5 +1,6 @@
 -- What is told by places is told by what is defined.
-use Rattle.std.proofs.Common.{◌≡◌, ◌≢◌, ◌∙◌, inl, inr, ap, map, refl, sym, subst, ℕ, Bool, true, false, List, [], ◌∷◌, Some, Result, Ok, Err}
+use Rattle.std.specs.Prelude.{Contains}
+use Rattle.std.proofs.Common.{◌≡◌, ◌≢◌, ◌∙◌, ◌⊎◌, length, inl, inr, ap, map, refl, sym, subst, ℕ, Bool, true, false, List, [], ◌∷◌, Some, Result, Ok, Err}
 use Rattle.std.specs.Borrow.{Bor}
 use Rattle.std.specs.Global.{Vec}
 use Rattle.std.specs.String.{string_bytes}
@@ -31,13 +32,13 @@ use Rattle.run_requests.specs.declared.request.Request.TheVariants as requests
 use Rattle.run_requests.specs.declared.request.RootText.{RootText}
 use Rattle.run_requests.specs.declared.request.RootText.TheVariants as texts
 use Rattle.meaning_dialogues.specs.Faults.{memory}
-use Rattle.meaning_runs.specs.Failures.{Failure, Next, evaluation, next_by}
+use Rattle.meaning_opening.specs.Requests.{dotenv, opening}
+use Rattle.meaning_runs.specs.Failures.{Failure, Next, by_code, by_signal, evaluation, next_by, not_confirmed, not_started}
 use Rattle.meaning_runs.specs.Tallies.{Tally}
 use Rattle.meaning_menus.specs.Calls.{CallsAreThere}
 use Rattle.meaning_calls.specs.Calling.{without_next}
-use Rattle.meaning_calls.specs.Named.{Call as NamedCall, Definitions}
+use Rattle.meaning_calls.specs.Named.{Call as NamedCall, Definitions, RecipeName}
 use Rattle.meaning_calls.specs.Scopes.{Configuration}
-use Rattle.meaning_worlds.specs.Given.{Given, World}
 use Rattle.meaning_worlds.specs.Standing.{StandsFor}
 use Rattle.meaning_grounds.specs.Alike.{configuration_of}
 use Rattle.meaning_menus.specs.Named.{name_at}
@@ -47,6 +48,25 @@ use Rattle.just_meaning.specs.Actions.{ActionEnd, CommandGoes, EvaluateGoes}
 use Rattle.just_meaning.specs.Actions as actions
 use Rattle.just_meaning.specs.Actions.{target_of as values_named}
 use Rattle.just_meaning.specs.Runs.{Runs, call_in}
+use Rattle.just_meaning.specs.Runs as run_ends
+use Rattle.just_meaning.specs.Defining.{AreDefined}
+use Rattle.just_meaning.specs.Menus.{menu_of}
+use Rattle.just_modules.specs.Worlds as files
+use Rattle.just_resolve.specs.Rules as names
+use Rattle.meaning_rules.specs.Rules.{is_of_sources}
+use Rattle.meaning_runs.specs.Invokes.{Invoke}
+use Rattle.meaning_calls.specs.Groups.{parameters_of}
+use Rattle.meaning_dialogues.specs.Faults.{Fault as EvaluationFault}
+use Rattle.meaning_overriding.specs.Texts.{overrides_of}
+use Rattle.meaning_soundness.specs.Endings.{is_internal}
+use Rattle.meaning_worlds.specs.Given.{Given, Overrides, Text, World}
+use Rattle.meaning_worlds.proofs.Places.{contains_cases, contains_none}
+use Rattle.meaning_certain.proofs.Runs.{runs_end_certainly}
+use Rattle.meaning_known.specs.Known.{BreaksNoRule, HasRecipe, HaveRows, IsRead}
+use Rattle.meaning_known.proofs.Invoked.{invoked_are_known}
+use Rattle.meaning_known.proofs.Known.{defined_are_known}
+use Rattle.meaning_known.proofs.Ordered.{worlds_are_in_order}
+use Rattle.std.specs.List.{AllByRecursion}
 use Rattle.meaning_defined.specs.Defined.{IsDefinedBy, named_call}
 use Rattle.meaning_defined.proofs.Calls.{words_invoke_recipes}
 use Rattle.meaning_running.specs.Running.{IsToldEnd, IsToldTask, action_end, outcome_of}
@@ -58,7 +78,7 @@ use Rattle.meaning_running.specs.Told.{IsThere}
 use Rattle.meaning_names.specs.Names.{AreSingle, IsOfWorld}
 use Rattle.resolve_analysis.specs.declared.module_lists.ModuleLists.{ModuleLists}
 use Rattle.std.proofs.lemmas.Option.{same_Some}
-use Rattle.just_run.specs.Named.{End, GoesNamed, IfCommanded, IfRan, IfTold, IsListed, Left, PlansNamed, RunsBetween, RunsNamed, as_run}
+use Rattle.just_run.specs.Named.{End, GoesNamed, IsCertainEnd, IfCommanded, IfRan, IfTold, IsListed, Left, PlansNamed, RunsBetween, RunsNamed, as_run}
 use Rattle.just_run.specs.Named as named
 use Rattle.just_run.specs.Passed.{task_fault}
 use Rattle.just_run.specs.Ran.{Answers, EndsTask, GoesPlaced, PlanEnds, PlansTask, does, plan_answer, plans, tells, unwritten, written}
@@ -172,8 +192,56 @@ module _ (w : World) (compilation : Compilation) (is : IsOfWorld w compilation) 
 
 -- ---- what is told
 
-module _ (source : Given) (w : World) (stands : StandsFor source w) (compilation : Compilation) (resolvable : IsResolvable w compilation) (asked : Asked) (root : List ℕ) (left : Left) (result : Result Outcome Fault) (analysis : Analysis)
-    (known : IsAnalysis compilation (string_bytes asked.config.base) asked.words.overrides analysis) where
+module _ (source : Given) (w : World) (stands : StandsFor source w) (clear_of_files : files.BreaksNone w) (o : Overrides) (clear_of_names : names.BreaksNone w o) where
+  -- no rule is broken
+  no_rule : BreaksNoRule w o
+  no_rule rule breach = by_kind (is_of_sources rule) refl
+    where
+      by_kind : (b : Bool) → is_of_sources rule ≡ b → ⊥
+      by_kind true e = clear_of_files o rule e breach
+      by_kind false e = clear_of_names rule e breach
+
+  module _ (base working : Text) (defined : Definitions) (are : AreDefined w o base working defined) (read : IsRead w) (rows_there : HaveRows defined) where
+    -- how a run ends that ends with no `internal`
+    certain_end : (end : End) → ((fault : EvaluationFault) → (end ≡ run_ends.failed (evaluation fault)) ⊎ (end ≡ run_ends.not_opened (opening fault)) → is_internal fault ≡ false) → IsCertainEnd end
+    certain_end (run_ends.broken rule) certain = tt
+    certain_end (run_ends.broken_word rule) certain = tt
+    certain_end run_ends.listed certain = tt
+    certain_end run_ends.unwritten certain = tt
+    certain_end (run_ends.not_opened (dotenv fault)) certain = tt
+    certain_end (run_ends.not_opened (opening fault)) certain = certain fault (inr refl)
+    certain_end (run_ends.failed (by_code name code)) certain = tt
+    certain_end (run_ends.failed (by_signal name signal)) certain = tt
+    certain_end (run_ends.failed (not_started name)) certain = tt
+    certain_end (run_ends.failed (not_confirmed name)) certain = tt
+    certain_end (run_ends.failed (evaluation fault)) certain = certain fault (inl refl)
+    certain_end run_ends.ran certain = tt
+
+    -- the invocations of words fit
+    fitting : (invocations : List (RecipeName × List (List (List ℕ)))) → AllByRecursion (λ i. HasRecipe defined i.0 × (length i.1 ≡ length (parameters_of (defined.recipe i.0)))) invocations
+        → AllByRecursion (λ (call : NamedCall). length call.groups ≡ length (parameters_of (defined.recipe call.recipe))) (map call_in invocations)
+    fitting [] all = tt
+    fitting (i ∷ others) all = (all.0.1, fitting others all.1)
+
+    there : (invocations : List (RecipeName × List (List (List ℕ)))) → AllByRecursion (λ i. HasRecipe defined i.0 × (length i.1 ≡ length (parameters_of (defined.recipe i.0)))) invocations
+        → (r : RecipeName) → Contains (map (λ (call : NamedCall). call.recipe) (map call_in invocations)) r → HasRecipe defined r
+    there [] all r c = absurd (contains_none [] r refl c)
+    there (i ∷ others) all r c = by_case (contains_cases i.0 (map (λ (call : NamedCall). call.recipe) (map call_in others)) r c) (there others all.1)
+      where
+        by_case : (i.0 ≡ r) ⊎ Contains (map (λ (call : NamedCall). call.recipe) (map call_in others)) r → ((r : RecipeName) → Contains (map (λ (call : NamedCall). call.recipe) (map call_in others)) r → HasRecipe defined r) → HasRecipe defined r
+        by_case (inl same) later = subst (HasRecipe defined) same all.0.0
+        by_case (inr more) later = later r more
+
+    -- no run of what words invoke ends with `internal`
+    certain_run : (c : Configuration) (words : List (List ℕ)) (invocations : List (RecipeName × List (List (List ℕ)))) → Invoke (menu_of defined) words invocations → (old new : List Entry) (t : Tally) (end : End)
+        → Runs c defined (map call_in invocations) old (record { calls = 0; entered = 0 }) new t end → IsCertainEnd end
+    certain_run c words invocations invoke old new t end run =
+        let all = invoked_are_known w o no_rule read base working defined are words invocations invoke in
+        let known = defined_are_known w o no_rule read (worlds_are_in_order source w stands) base working defined are rows_there c.no_dependencies (map (λ (call : NamedCall). call.recipe) (map call_in invocations)) (there invocations all) in
+        certain_end end (λ fault is. runs_end_certainly c defined (map call_in invocations) old new (record { calls = 0; entered = 0 }) t end fault known.0 known.1 known.2 (fitting invocations all) run is)
+
+module _ (source : Given) (w : World) (stands : StandsFor source w) (clear_of_files : files.BreaksNone w) (compilation : Compilation) (resolvable : IsResolvable w compilation) (asked : Asked) (root : List ℕ) (left : Left) (result : Result Outcome Fault) (analysis : Analysis)
+    (clear_of_names : names.BreaksNone w (overrides_of asked.words.overrides)) (known : IsAnalysis compilation (string_bytes asked.config.base) asked.words.overrides analysis) where
   abbrev Defined : Type 0
   Defined = IsDefinedBy w compilation asked.words.overrides (string_bytes asked.config.base) (string_bytes asked.config.working_directory) analysis asked.words.arguments
 
@@ -204,11 +272,15 @@ module _ (source : Given) (w : World) (stands : StandsFor source w) (compilation
     Goes old new calls = RunsBetween configuration d.defined asked.words.arguments left result old new (map (named_call compilation analysis) (rows calls.items))
 
     -- calls that run by places run by their names
-    named_run : (calls : Vec Call) → CallsAreThere analysis.table.value (rows calls.items) → (old new : List Entry) (end : RunEnd) → IsToldEnd end → Performs (of_task.Run calls) old new (ends_as end) → Goes old new calls (outcome_of end)
-    named_run calls there old new end told goes =
-        let r = calls_run_named ⊥ source w compilation stands resolvable asked.words.overrides asked.config analysis known d.settled root calls there old new end told goes in
-        subst (λ (q : Definitions × List NamedCall). (t : Tally) × Runs {Rule = ⊥} configuration q.0 q.1 old (record { calls = 0; entered = 0 }) new t (outcome_of end))
-        (λ i. (sym d.is i, sym (named_calls (rows calls.items)) i)) r
+    named_run : (calls : Vec Call) → Invokes calls → (old new : List Entry) (end : RunEnd) → IsToldEnd end → Performs (of_task.Run calls) old new (ends_as end) → Goes old new calls (outcome_of end)
+    named_run calls invokes old new end told goes =
+        let r = calls_run_named ⊥ source w compilation stands resolvable asked.words.overrides asked.config analysis known d.settled root calls (calls_there calls invokes) old new end told goes in
+        let run = subst (λ (q : Definitions × List NamedCall). (t : Tally) × Runs {Rule = ⊥} configuration q.0 q.1 old (record { calls = 0; entered = 0 }) new t (outcome_of end))
+        (λ i. (sym d.is i, sym (named_calls (rows calls.items)) i)) r in (
+          certain_run source w stands clear_of_files (overrides_of asked.words.overrides) clear_of_names (string_bytes asked.config.base) (string_bytes asked.config.working_directory) d.defined d.are d.read d.rows
+              configuration asked.words.arguments (map (named_call compilation analysis) (rows calls.items)) (d.invokes (rows calls.items) invokes) old new run.0 (outcome_of end) run.1,
+          run,
+        )
 
     -- ---- runs
 
@@ -217,7 +289,7 @@ module _ (source : Given) (w : World) (stands : StandsFor source w) (compilation
         let told = run_told left result calls ends.performed ends.ended.0 ends.answers in
         named.runs _ (d.invokes (rows calls.items) invokes)
         (subst (λ r. IfRan left.exhausted r (Goes left.before left.behind calls)) (sym told.0)
-        (ended_so left.exhausted calls (Performs (of_task.Run calls) left.before left.behind) (Goes left.before left.behind calls) (λ end so goes. named_run calls (calls_there calls invokes) left.before left.behind end so goes) ends.performed ends.ended))
+        (ended_so left.exhausted calls (Performs (of_task.Run calls) left.before left.behind) (Goes left.before left.behind calls) (λ end so goes. named_run calls invokes left.before left.behind end so goes) ends.performed ends.ended))
         told.1
 
     run_so : (task : Task) → AskedFor requested.Run (requests.Task task) → EndsTask left result task (Performs task left.before left.behind) → RunsNamed configuration d.defined asked.words.arguments left result
@@ -235,7 +307,7 @@ module _ (source : Given) (w : World) (stands : StandsFor source w) (compilation
     plan_ran : (calls : Vec Call) → Invokes calls → (entries : List Entry) (performed : Result Performed TaskFault) → PlanEnds result (of_task.Run calls) performed (Performs (of_task.Run calls) [] entries) → IfRan false (as_run result) (Goes [] entries calls)
     plan_ran calls invokes entries performed (written is goes) =
         subst (λ r. IfRan false r (Goes [] entries calls)) (sym (ap as_run is ∙ planned_told performed))
-        (ended_so false calls (Performs (of_task.Run calls) [] entries) (Goes [] entries calls) (λ end so goes. named_run calls (calls_there calls invokes) [] entries end so goes) performed goes)
+        (ended_so false calls (Performs (of_task.Run calls) [] entries) (Goes [] entries calls) (λ end so goes. named_run calls invokes [] entries end so goes) performed goes)
     plan_ran calls invokes entries performed (unwritten (inl is)) = subst (λ r. IfRan false r (Goes [] entries calls)) (sym (ap as_run is)) tt
     plan_ran calls invokes entries performed (unwritten (inr is)) = subst (λ r. IfRan false r (Goes [] entries calls)) (sym (ap as_run is)) tt
 

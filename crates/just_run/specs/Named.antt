@@ -7,6 +7,7 @@ use Rattle.just_host.specs.Record.{Record}
 use Rattle.just_host.specs.declared.entry.Entry.{Entry}
 use Rattle.evaluate_context.specs.Refusals.{fault_of}
 use Rattle.meaning_dialogues.specs.Faults.{memory}
+use Rattle.meaning_soundness.specs.Endings.{is_internal}
 use Rattle.meaning_opening.specs.Requests.{dotenv, opening}
 use Rattle.meaning_runs.specs.Failures.{by_code, by_signal, evaluation, next_by, not_confirmed, not_started}
 use Rattle.tree_items.specs.Lines.{no_sigils}
@@ -50,6 +51,21 @@ left_of old written failed new writes fails = record {
 -- how a run ended, without rules
 abbrev pub End : Type 0
 End = named.Outcome ⊥
+
+-- it ends with no evaluation of what a justfile doesn't meet whose names are known
+abbrev pub IsCertainEnd : End → Type 0
+IsCertainEnd (named.broken rule) = Unit {0}
+IsCertainEnd (named.broken_word rule) = Unit {0}
+IsCertainEnd named.listed = Unit {0}
+IsCertainEnd named.unwritten = Unit {0}
+IsCertainEnd (named.not_opened (dotenv fault)) = Unit {0}
+IsCertainEnd (named.not_opened (opening fault)) = is_internal fault ≡ false
+IsCertainEnd (named.failed (by_code name code)) = Unit {0}
+IsCertainEnd (named.failed (by_signal name signal)) = Unit {0}
+IsCertainEnd (named.failed (not_started name)) = Unit {0}
+IsCertainEnd (named.failed (not_confirmed name)) = Unit {0}
+IsCertainEnd (named.failed (evaluation fault)) = is_internal fault ≡ false
+IsCertainEnd named.ran = Unit {0}
 
 -- P holds of how a run ended that is answered so, where memory sufficed
 abbrev pub IfRan : Bool → Result Outcome Fault → (End → Type 0) → Type 0
@@ -136,9 +152,9 @@ abbrev pub IsListed : Left → Result Outcome Fault → Type 0
 IsListed left result = (text : List ℕ) × Writes left.sent text outcomes.Listed result left.sends
 
 module _ (c : Configuration) (defined : Definitions) (words : List (List ℕ)) (left : Left) (result : Result Outcome Fault) where
-  -- modules open, and the invocations run over what was opened, with nothing done at first, from one record to another
+  -- modules open, and the invocations run over what was opened, with nothing done at first, from one record to another; no evaluation ends with `internal`
   abbrev pub RunsBetween : List Entry → List Entry → List (RecipeName × List (List (List ℕ))) → End → Type 0
-  RunsBetween old new invocations end = (t : Tally) × Runs c defined (map call_in invocations) old (record { calls = 0; entered = 0 }) new t end
+  RunsBetween old new invocations end = IsCertainEnd end × ((t : Tally) × Runs c defined (map call_in invocations) old (record { calls = 0; entered = 0 }) new t end)
 
   abbrev pub RunsTo : List (RecipeName × List (List (List ℕ))) → End → Type 0
   RunsTo = RunsBetween left.before left.behind

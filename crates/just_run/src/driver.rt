@@ -5,7 +5,7 @@ ghost use Rattle.justfile_syntax.specs.PlainShapes.{shape_of};
 ghost use Rattle.modules_sources.specs.Loaded.{IsRootRead};
 ghost use Rattle.meaning_files.specs.Views.{given_of};
 ghost use Rattle.just_value.specs.Constants.{constant_rows};
-ghost use Rattle.just_modules.specs.Worlds.{InEachWorld};
+ghost use Rattle.just_modules.specs.Worlds.{BreaksNone, InEachWorld};
 ghost use Rattle.just_resolve.specs.Rules.{IsResolvable};
 ghost use Rattle.meaning_names.specs.Meant.{IsMeantWhole};
 ghost use Rattle.meaning_worlds.specs.Given.{Given, World};
@@ -137,7 +137,7 @@ fn drive_modules<'src, H: RunHost + Drop, O: Out>(
     ensures early { IfErr result (λ fault. IsEarly fault host.old (O.written out.old) host.new (O.written out.new)) }
     ensures silent { IsText action → host.new ≡ host.old }
     ensures asks { AsksFor action config.now.dry_run H.goes host.old host.new }
-    ensures names { (source : Given) (w : World) → StandsFor source w → IsResolvable w compilation.now → TellsNames (asked_of action words.now config.now) root.now (left_of host.old (O.written out.old) (O.failed out.old) host.new (O.written out.new) (O.failed out.new)) result w }
+    ensures names { (source : Given) (w : World) → StandsFor source w → BreaksNone w → IsResolvable w compilation.now → TellsNames (asked_of action words.now config.now) root.now (left_of host.old (O.written out.old) (O.failed out.old) host.new (O.written out.new) (O.failed out.new)) result w }
 {
     let overrides = words.overrides.as_slice();
     match Analyzer::analyze(alloc, compilation, config, overrides) {
@@ -189,7 +189,7 @@ fn drive_compilation<'src, H: RunHost + Drop, O: Out>(
     ensures early { IfErr result (λ fault. IsEarly fault host.old (O.written out.old) host.new (O.written out.new)) }
     ensures silent { IsText action → host.new ≡ host.old }
     ensures asks { AsksFor action config.now.dry_run H.goes host.old host.new }
-    ensures names { AllByName compilation.entry → (source : Given) (w : World) → StandsFor source w → IsMeantWhole w compilation.entry → TellsNames (asked_of action words.now config.now) root.now (left_of host.old (O.written out.old) (O.failed out.old) host.new (O.written out.new) (O.failed out.new)) result w }
+    ensures names { AllByName compilation.entry → (source : Given) (w : World) → StandsFor source w → BreaksNone w → IsMeantWhole w compilation.entry → TellsNames (asked_of action words.now config.now) root.now (left_of host.old (O.written out.old) (O.failed out.old) host.new (O.written out.new) (O.failed out.new)) result w }
 {
     match number_variables(alloc, &mut compilation) {
         Ok(()) => {

@@ -11,6 +11,12 @@ use Rattle.meaning_overriding.specs.Texts.{overrides_of}
 use Rattle.meaning_calls.specs.Named.{Definitions}
 use Rattle.just_meaning.specs.Defining.{AreDefined}
 use Rattle.std.specs.List.{filter_map}
+use Rattle.meaning_known.specs.Known.{HaveRows, IsRead}
+use Rattle.meaning_names.proofs.Modules.{modules_are_nodes, reached_are_said}
+use Rattle.meaning_names.proofs.Named.{node_is}
+use Rattle.meaning_resolved.specs.Modules.{IsPlaced}
+use Rattle.meaning_worlds.specs.Modules.{IsReadingOrder}
+use Rattle.meaning_calls.specs.Named.{ModuleRow}
 use Rattle.meaning_resolved.specs.Definitions.{definitions_of, function_of, key_at, node_of, place_of, rows_of, shape_at}
 use Rattle.resolve_recipes.specs.Named.{text_at}
 use Rattle.std.specs.Option.{option_and_then}
@@ -42,6 +48,12 @@ use Rattle.just_meaning.specs.Rows.{truth_set}
 use Rattle.meaning_menus.specs.Named.{name_at}
 use Rattle.meaning_names.specs.Names.{AreSingle, HasNode, IsOfWorld}
 use Rattle.meaning_worlds.specs.Modules.{IsModule, root}
+use Rattle.meaning_known.specs.Known.{HaveRows, IsRead}
+use Rattle.meaning_names.proofs.Modules.{modules_are_nodes, reached_are_said}
+use Rattle.meaning_names.proofs.Named.{node_is}
+use Rattle.meaning_resolved.specs.Modules.{IsPlaced}
+use Rattle.meaning_worlds.specs.Modules.{IsReadingOrder}
+use Rattle.meaning_calls.specs.Named.{ModuleRow}
 use Rattle.meaning_resolved.specs.Definitions.{row_of, sets_of}
 use Rattle.meaning_resolved.proofs.Leading.{root_path}
 use Rattle.meaning_menus.specs.Targets.{IsNamedTarget}
@@ -92,6 +104,30 @@ module _ (w : World) (compilation : Compilation) (is : IsResolvable w compilatio
         ap (λ node. map (text_at compilation) (rows_of (λ (n : ModuleNode). n.assignments.items) node)) e,
         ap (λ node. filter_map (λ place. function_of (key_at compilation place) (shape_at compilation place)) (rows_of (λ (n : ModuleNode). n.functions.items) node)) e,
       )
+
+  -- an order of the files of a module by another name
+  ordered : {own other : Text} {files : List Text} → IsReadingOrder w own files → own ≡ other → (all : List Text) × IsReadingOrder w other all
+  ordered {files = files} order same = (files, subst (λ o. IsReadingOrder w o files) same order)
+
+  -- the files of a module have an order, and those that are reached say something
+  read : IsRead w
+  read = record {
+    said = reached_are_said w compilation is.numbered.of is.numbered.single;
+    orders = λ path own m.
+        let n = modules_are_nodes w compilation is.numbered.of is.numbered.single path own m in
+        let files = node_is w compilation is.numbered.of n.0 n.1 n.2 in
+        ordered files.own_files.order n.4;
+  }
+
+  -- a module of the tree has a row
+  row_there : (path : List Text) (own : Text) → IsPlaced w compilation path own → (row : ModuleRow) × (defined.inside path ≡ Some row)
+  row_there path own p =
+      (_, ap (λ place. option_and_then (λ k. row_of compilation settled.settle base working path k (slice_get compilation.modules.items k)) place) p.found ∙ ap (row_of compilation settled.settle base working path p.k) p.here)
+
+  rows : HaveRows defined
+  rows = λ path c.
+      let m = (trees_have_modules w compilation is.numbered.of is.numbered.single path).0 c in
+      row_there path m.0 ((modules_stand w compilation is.numbered.of is.numbered.single path m.0).0 m.1)
 
   are_defined : AreDefined w (overrides_of given) base working defined
   are_defined = record {
@@ -152,6 +188,8 @@ analyses_are_defined w compilation is given base analysis known working words = 
   defined = defined w compilation is given base analysis known working;
   is = refl;
   are = are_defined w compilation is given base analysis known working;
+  read = read w compilation is given base analysis known working;
+  rows = rows w compilation is given base analysis known working;
   breaks = breaks_named compilation analysis (defined w compilation is given base analysis known working) words (menus_are w compilation is given base analysis known working words) (target_is w compilation is given base analysis known working);
   means = means_named compilation analysis (defined w compilation is given base analysis known working) words (menus_are w compilation is given base analysis known working words) (target_is w compilation is given base analysis known working);
   targets = targets_named compilation analysis (defined w compilation is given base analysis known working) words (menus_are w compilation is given base analysis known working words) (target_is w compilation is given base analysis known working) (paths_are_own w compilation is.numbered.of is.numbered.single [] 0 refl);

@@ -18,6 +18,7 @@ use Rattle.just_meaning.specs.Actions.{Target}
 use Rattle.just_meaning.specs.Actions.{target_of as values_named}
 use Rattle.just_meaning.specs.Menus.{menu_of}
 use Rattle.justfile_analyzer.specs.declared.target.EvaluationTarget.{EvaluationTarget}
+use Rattle.meaning_known.specs.Known.{HaveRows, IsRead}
 use Rattle.meaning_menus.specs.Named.{name_at}
 use Rattle.meaning_menus.specs.Targets.{IsNamedTarget}
 use Rattle.run_requests.specs.Words.{BreaksNamed, BreaksPlaced, InvokesAt, MeansNamed, MeansPlaced, values_of}
@@ -33,6 +34,8 @@ pub record IsDefinedBy (w : World) (compilation : Compilation) (given : List Ove
   pub defined : Definitions
   pub is : defined ≡ definitions_of compilation w.expansion (overrides_of given) settled.settle base working
   pub are : AreDefined w (overrides_of given) base working defined
+  pub read : IsRead w
+  pub rows : HaveRows defined
   pub breaks : (action : Action) (fault : WordFault) → BreaksPlaced compilation analysis words action fault → BreaksNamed defined words action fault
   pub means : (action : Action) → MeansPlaced compilation analysis words action → MeansNamed defined words action
   pub targets : (target : EvaluationTarget) → values_of compilation.modules.items analysis.variables.lists.items words ≡ Some target
