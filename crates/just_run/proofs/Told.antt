@@ -376,4 +376,4 @@ module _ (source : Given) (w : World) (stands : StandsFor source w) (clear_of_fi
 
   -- where the justfile's analysis has what is defined in the world
   pub told_defined : Defined → TellsPlaced compilation analysis asked root left result → TellsDefined asked root left result w
-  told_defined d told = record { defined = d.defined; are = d.are; words = told_words d told }
+  told_defined d told = record { defined = d.defined; are = d.are; read = d.read; rows = d.rows; words = told_words d told }

@@ -25,6 +25,7 @@ use Rattle.just_run.specs.Early.{IsOfNoRule}
 use Rattle.just_run.specs.Named.{GoesNamed, Left}
 use Rattle.just_run.specs.Ran.{GoesPlaced}
 use Rattle.meaning_grounds.specs.Alike.{configuration_of}
+use Rattle.meaning_known.specs.Known.{HaveRows, IsRead}
 use Rattle.just_run.specs.Passed.{file_fault, name_fault, word_fault}
 use Rattle.just_run.specs.Plain.{fault_of}
 use Rattle.just_run.specs.declared.fault.Fault.{Fault}
@@ -52,10 +53,12 @@ module _ (asked : Asked) (root : Text) (left : Left) (result : Result Outcome Fa
     clear : MeansNamed defined asked.words.arguments asked.action → IfErr result IsOfNoRule
         → GoesNamed (configuration_of asked.config root w.expansion) defined asked.words.arguments left result asked.action → TellsWords w defined
 
-  -- so it is by what the world defines
+  -- so it is by what the world defines, whose files are read and whose modules have rows
   pub record TellsDefined (w : World) : Type 0 where
     pub defined : Definitions
     pub are : AreDefined w (overrides_of asked.words.overrides) (string_bytes asked.config.base) (string_bytes asked.config.working_directory) defined
+    pub read : IsRead w
+    pub rows : HaveRows defined
     pub words : TellsWords w defined
 
   -- the world breaks a rule of names that the fault names, unless memory ran out; or it breaks none, and so it is of rules of words
