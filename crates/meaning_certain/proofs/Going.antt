@@ -6,12 +6,13 @@ use Rattle.meaning_runs.specs.Failures.{Failure}
 use Rattle.meaning_runs.specs.Parts.{Parts}
 use Rattle.meaning_runs.specs.Tallies.{Tally}
 use Rattle.meaning_runs.specs.Goes.{Goes, over, again, entered, not_begun, prior_failed, not_ended, subsequent_failed}
-use Rattle.meaning_certain.proofs.Tasks.{FailsWell, ResultsIn}
+use Rattle.meaning_certain.specs.Certain.{IsCertainFailure}
+use Rattle.meaning_certain.proofs.Tasks.{ResultsIn}
 
 -- no failure, or one that is no `internal`
 abbrev pub NoneFails : Option Failure → Type 0
 NoneFails None = Unit {0}
-NoneFails (Some failure) = FailsWell failure
+NoneFails (Some failure) = IsCertainFailure failure
 
 module _ {Call Bound : Type 0} (Kind : Call → Type 0) (Fits : Call → Bound → Type 0) (p : Parts Call Bound Entry Failure) where
   -- calls of the kind are bound to what fits and bring about calls of the kind, or fail with no `internal`

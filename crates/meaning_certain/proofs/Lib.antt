@@ -8,3 +8,4 @@ pub mod Calls
 pub mod Names
 pub mod Openings
 pub mod Runs
+pub mod Actions

@@ -1,6 +1,7 @@
 -- No opening ends with `internal` where what variables name stands for something; and what opens is held after it.
 use Rattle.std.proofs.Common.{◌≡◌, ℕ, List, [], ◌∷◌, ◌++◌, append-nil, append_assoc, map, Bool, true, false, cond, Option, Some, None, Result, Ok, Err, inr, refl, sym, ap, ◌∙◌, subst, arith}
 use Rattle.std.specs.Prelude.{Contains}
+use Rattle.std.proofs.lemmas.List.{map-append}
 use Rattle.std.proofs.lemmas.List.Elements.{Contains-append_right}
 use Rattle.std.proofs.lemmas.Map.Made.{Contains-tail}
 use Rattle.std.proofs.lemmas.Slice.Eq.{slice_eq-Decides, bytes_eq-Decides}
@@ -26,11 +27,6 @@ use Rattle.meaning_certain.specs.Certain.{AreCertainVariables, OpeningIsCertain}
 use Rattle.meaning_certain.proofs.Dialogues.{EndsWell, dialogue_ends}
 use Rattle.meaning_certain.proofs.Functions.{IsCertain, expression_proper}
 use Rattle.meaning_certain.proofs.Names.{IsReadIn, IsHeld, stands_read, named_held}
-
--- what is mapped of two lists, one after the other
-map_append : {A B : Type 0} (f : A → B) (xs ys : List A) → map f (xs ++ ys) ≡ map f xs ++ map f ys
-map_append f [] ys = refl
-map_append f (x ∷ xs) ys = ap (λ l. f x ∷ l) (map_append f xs ys)
 
 module _ (c : Configuration) (defined : Definitions) (Open : VariableName → Type 0) where
   -- ---- one variable
@@ -79,7 +75,7 @@ module _ (c : Configuration) (defined : Definitions) (Open : VariableName → Ty
     fills_well names order values earlier [] fault have are_names filled = elim filled [ ]
     fills_well names order values earlier (name ∷ later) fault have are_names (has_value value side goes others) =
         let h : Held = record { name = name; value = value } in
-        fills_well names order (values ++ h ∷ []) (earlier ++ name ∷ []) later fault (map_append (λ x. x.name) values (h ∷ []) ∙ ap (λ l. l ++ name ∷ []) have) (are_names ∙ sym (append_assoc earlier (name ∷ []) later)) others
+        fills_well names order (values ++ h ∷ []) (earlier ++ name ∷ []) later fault (map-append (λ x. x.name) values (h ∷ []) ∙ ap (λ l. l ++ name ∷ []) have) (are_names ∙ sym (append_assoc earlier (name ∷ []) later)) others
     fills_well names order values earlier (name ∷ later) {old = old} {new = new} fault have are_names (has_none {side = side} is goes) =
         let inside : Contains names name = subst (λ l. Contains l name) (sym are_names) (Contains-append_right earlier (name ∷ later) name (contains_first name later)) in
         dialogue_ends (Only values) Any (reading_in values) (λ place x h. (h.value, h.read)) (side_dialogue c (scene values) side) old new (Err fault)
@@ -117,7 +113,7 @@ module _ (c : Configuration) (defined : Definitions) (Open : VariableName → Ty
   fills_names vs [] values all = sym (append-nil (map (λ h. h.name) vs))
   fills_names vs (name ∷ names) values (has_value value side goes others) =
       let h : Held = record { name = name; value = value } in
-      fills_names (vs ++ h ∷ []) names values others ∙ (ap (λ l. l ++ names) (map_append (λ x. x.name) vs (h ∷ [])) ∙ append_assoc (map (λ x. x.name) vs) (name ∷ []) names)
+      fills_names (vs ++ h ∷ []) names values others ∙ (ap (λ l. l ++ names) (map-append (λ x. x.name) vs (h ∷ [])) ∙ append_assoc (map (λ x. x.name) vs) (name ∷ []) names)
 
   -- what opens in a module is held in it
   one_holds : {path : List (List ℕ)} {old new : List Entry} (o : Opened) → OpensOne c defined Open path old new (Ok o) → (o.path ≡ path) × ((name : List ℕ) → Open (named path name) → IsHeld o.values name)

@@ -1,28 +1,20 @@
 -- How tasks end whose parts end so.
-use Rattle.std.proofs.Common.{◌≡◌, List, false, Result, Ok, Err, sym, subst}
+use Rattle.std.proofs.Common.{List, Result, Ok, Err, sym, subst}
 use Rattle.just_host.specs.declared.entry.Entry.{Entry}
 use Rattle.just_host.specs.declared.host.Answer.{Answer}
 use Rattle.just_host.specs.declared.host.Status.{Status}
 use Rattle.just_host.specs.declared.host.Confirmation.{Confirmation}
 use Rattle.meaning_dialogues.specs.Dialogue.{Dialogue, Ends, Asks, Reads, Lookup, Variable, Reading}
 use Rattle.meaning_dialogues.specs.Evaluation.{Value}
-use Rattle.meaning_runs.specs.Failures.{Failure, by_code, by_signal, not_started, not_confirmed, evaluation}
+use Rattle.meaning_runs.specs.Failures.{Failure}
 use Rattle.meaning_runs.specs.Task.{Task, ends, asks, reads, shows, hands, confirms, ◌>>=◌, lift, TaskGoes}
-use Rattle.meaning_soundness.specs.Endings.{is_internal}
+use Rattle.meaning_certain.specs.Certain.{IsCertainFailure}
 use Rattle.meaning_certain.proofs.Dialogues.{EndsWell, IsRead, at_read}
 
--- no fault of an evaluation that is `internal`
-abbrev pub FailsWell : Failure → Type 0
-FailsWell (by_code name code) = Unit {0}
-FailsWell (by_signal name signal) = Unit {0}
-FailsWell (not_started name) = Unit {0}
-FailsWell (not_confirmed name) = Unit {0}
-FailsWell (evaluation fault) = is_internal fault ≡ false
-
--- a value of this kind, or such a failure
+-- a value of this kind, or a failure with another fault than `internal`
 abbrev pub ResultsIn : {A : Type 0} → (A → Type 0) → Result A Failure → Type 0
 ResultsIn Q (Ok a) = Q a
-ResultsIn Q (Err failure) = FailsWell failure
+ResultsIn Q (Err failure) = IsCertainFailure failure
 
 -- it reads only such variables, and so it ends, whatever comes back
 abbrev pub Certain : {A : Type 0} → (Lookup → Variable → Type 0) → (A → Type 0) → Task A → Type 0

@@ -1,4 +1,4 @@
--- When no opening and no run ends with `internal`: each name that is read or called stands for something, and calls are of recipes that are there.
+-- When no opening, no run, no evaluation of values and no handing over of a command ends with `internal`: each name that is read or called stands for something, and calls are of recipes that are there.
 use Rattle.std.specs.Prelude.{◌≡◌, ℕ, ◌⊎◌, ◌++◌, List, [], Bool, false, map, length, Some, None, Err, IsSome, Contains}
 use Rattle.std.specs.List.{AllByRecursion}
 use Rattle.tree_expressions.specs.Shape.{Shape}
@@ -7,14 +7,16 @@ use Rattle.evaluate_functions.specs.Names.{function_of}
 use Rattle.meaning_dialogues.specs.Faults.{Fault}
 use Rattle.meaning_dialogues.specs.Evaluation.{Value}
 use Rattle.meaning_rules.specs.Naming.{a_call, occurrences}
-use Rattle.meaning_opening.specs.Requests.{opening}
-use Rattle.meaning_runs.specs.Failures.{evaluation}
+use Rattle.meaning_opening.specs.Requests.{OpeningFailure, dotenv, opening}
+use Rattle.meaning_runs.specs.Failures.{Failure, by_code, by_signal, evaluation, not_confirmed, not_started}
 use Rattle.meaning_runs.specs.Tallies.{Tally}
 use Rattle.meaning_calls.specs.Named.{RecipeName, VariableName, Call, DependencyRow, RecipeRow, VariableRow, FunctionRow, ModuleRow, Definitions, paths_of}
 use Rattle.meaning_calls.specs.Scopes.{Configuration}
 use Rattle.meaning_calls.specs.Groups.{parameters_of}
 use Rattle.just_meaning.specs.Opening.{IsReached, IsOpened, Opened, OpensAll, named, held}
 use Rattle.just_meaning.specs.Reading.{Reaches, RecipeReads, VariableReads, expressions_in, function_row}
+use Rattle.just_meaning.specs.Actions.{ActionEnd, CommandGoes, EvaluateGoes, IsKept}
+use Rattle.just_meaning.specs.Actions as actions
 use Rattle.just_meaning.specs.Runs.{HasRun, Runs, Outcome, failed, not_opened, values_at}
 use Rattle.meaning_agreement.specs.Opened.{StandsFor, AreResolved}
 use Rattle.meaning_soundness.specs.Endings.{is_internal}
@@ -73,3 +75,35 @@ RunsEndCertainly Rule = (c : Configuration) (defined : Definitions) (calls : Lis
     → ((path : List (List ℕ)) (row : ModuleRow) → defined.inside path ≡ Some row → Contains (paths_of defined.modules) path)
     → AllByRecursion (λ call. length call.groups ≡ length (parameters_of (defined.recipe call.recipe))) calls
     → Runs c defined calls old t new t' outcome → (outcome ≡ failed (evaluation fault)) ⊎ (outcome ≡ not_opened (opening fault)) → is_internal fault ≡ false
+
+-- an opening that failed with another fault than `internal`
+abbrev pub IsCertainOpeningFailure : OpeningFailure → Type 0
+IsCertainOpeningFailure (dotenv fault) = Unit {0}
+IsCertainOpeningFailure (opening fault) = is_internal fault ≡ false
+
+-- a recipe or a command that failed with another fault than `internal`
+abbrev pub IsCertainFailure : Failure → Type 0
+IsCertainFailure (by_code name code) = Unit {0}
+IsCertainFailure (by_signal name signal) = Unit {0}
+IsCertainFailure (not_started name) = Unit {0}
+IsCertainFailure (not_confirmed name) = Unit {0}
+IsCertainFailure (evaluation fault) = is_internal fault ≡ false
+
+-- `--evaluate` or `--command` ended, and not with `internal`
+abbrev pub IsCertainActionEnd : ActionEnd → Type 0
+IsCertainActionEnd (actions.refused rule) = Unit {0}
+IsCertainActionEnd (actions.not_opened failure) = IsCertainOpeningFailure failure
+IsCertainActionEnd (actions.command_failed failure) = IsCertainFailure failure
+IsCertainActionEnd (actions.written text) = Unit {0}
+IsCertainActionEnd actions.unwritten = Unit {0}
+IsCertainActionEnd actions.done = Unit {0}
+
+-- No evaluation of values ends with `internal`, where all variables are so.
+abbrev pub EvaluationsEndCertainly : Type 0
+EvaluationsEndCertainly = (c : Configuration) (defined : Definitions) (writes : Bool) (words : List (List ℕ)) (old new : List Entry) (end : ActionEnd)
+    → AreCertainVariables defined (IsKept defined) → EvaluateGoes c defined writes words old new end → IsCertainActionEnd end
+
+-- No handing over of one command ends with `internal`, where all that opens without an invocation is so.
+abbrev pub CommandsEndCertainly : Type 0
+CommandsEndCertainly = (c : Configuration) (defined : Definitions) (words : List (List ℕ)) (old new : List Entry) (end : ActionEnd)
+    → AreCertainVariables defined (IsOpened defined c.no_dependencies []) → CommandGoes c defined words old new end → IsCertainActionEnd end

@@ -18,6 +18,7 @@ use Rattle.meaning_calls.specs.Groups.{parameters_of}
 use Rattle.just_meaning.specs.Menus.{slot_of, slots_in, meant_by, meaning_in, menu_of}
 use Rattle.just_meaning.specs.Defining.{named_from, IsDefault, by_attribute, by_place, AreDefined}
 use Rattle.meaning_known.specs.Known.{BreaksNoRule, IsRead, HasRecipe, InvokedAreKnown}
+use Rattle.meaning_known.proofs.Lists.{is_there}
 use Rattle.meaning_known.proofs.Kept.{alias_named}
 use Rattle.meaning_known.proofs.Rows.{none_breaks, no_path, recipe_at, recipe_there}
 
@@ -54,33 +55,25 @@ module _ (w : World) (o : Overrides) (unbroken : BreaksNoRule w o) (read : IsRea
 
   -- an alias stands for a recipe that is there
   alias_there : (r target : RecipeName) → defined.alias r ≡ Some target → HasRecipe defined target
-  alias_there r target e = by_row (defined.recipe target) refl
-    where
-      by_row : (row : Option RecipeRow) → defined.recipe target ≡ row → HasRecipe defined target
-      by_row (Some row) there = (row, there)
-      by_row None absent =
-          let a = (are.aliases r target).0 e in
-          let own = a.own in
-          let named : a.shape.name ≡ r.recipe = alias_named w.os a.attributes a.shape r.recipe a.kept.kept.defines.is in
-          let has : HasAlias w own a.shape = ((r.path, a.is), (a.attributes, subst (λ n. Keeps w own an_alias n (alias_item a.attributes a.shape)) (sym named) a.kept)) in
-          let absent' : defined.recipe (named_from r.path a.shape.target) ≡ None = ap defined.recipe (sym a.says) ∙ absent in
-          absurd (none_breaks w o unbroken read base working defined are (unknown_alias_target a.shape.name a.shape.target) (
-            own,
-            a.shape,
-            has,
-            refl,
-            refl,
-            no_path w o unbroken read base working defined are r.path own a.is a.shape.target absent',
-            λ m. none_breaks w o unbroken read base working defined are (module_as_recipe a.shape.target) (inr (own, a.shape, has, refl, m)),
-          ))
+  alias_there r target e = is_there (defined.recipe target) (λ absent.
+      let a = (are.aliases r target).0 e in
+      let own = a.own in
+      let named : a.shape.name ≡ r.recipe = alias_named w.os a.attributes a.shape r.recipe a.kept.kept.defines.is in
+      let has : HasAlias w own a.shape = ((r.path, a.is), (a.attributes, subst (λ n. Keeps w own an_alias n (alias_item a.attributes a.shape)) (sym named) a.kept)) in
+      let absent' : defined.recipe (named_from r.path a.shape.target) ≡ None = ap defined.recipe (sym a.says) ∙ absent in
+      none_breaks w o unbroken read base working defined are (unknown_alias_target a.shape.name a.shape.target) (
+        own,
+        a.shape,
+        has,
+        refl,
+        refl,
+        no_path w o unbroken read base working defined are r.path own a.is a.shape.target absent',
+        λ m. none_breaks w o unbroken read base working defined are (module_as_recipe a.shape.target) (inr (own, a.shape, has, refl, m)),
+      ))
 
   -- a recipe that its module defines is there
   defined_there : (r : RecipeName) (own : Text) → IsModule w r.path own → IsDefined w own a_recipe r.recipe → HasRecipe defined r
-  defined_there r own is d = by_row (defined.recipe r) refl
-    where
-      by_row : (row : Option RecipeRow) → defined.recipe r ≡ row → HasRecipe defined r
-      by_row (Some row) there = (row, there)
-      by_row None absent = absurd (recipe_there w o unbroken read base working defined are r.path own r.recipe is d absent)
+  defined_there r own is d = is_there (defined.recipe r) (λ absent. recipe_there w o unbroken read base working defined are r.path own r.recipe is d absent)
 
   -- a recipe that is kept is defined
   kept_defined : (own name key : Text) (place : ℕ) (attributes : List AttributeShape) (shape : RecipeShape) → KeepsAt w own a_recipe name key place (recipe_item attributes shape) → IsDefined w own a_recipe name

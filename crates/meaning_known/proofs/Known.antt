@@ -1,5 +1,5 @@
 -- What is reached and what opens has names that are known.
-use Rattle.std.proofs.Common.{◌≡◌, inl, inr, refl, sym, ◌∙◌, ap, subst, Bool, List, [], ◌∷◌, ◌++◌, map, Option, Some, None}
+use Rattle.std.proofs.Common.{◌≡◌, inl, inr, refl, sym, ◌∙◌, ap, subst, Bool, List, [], ◌∷◌, ◌++◌, map, Some, None}
 use Rattle.std.specs.Prelude.{Contains}
 use Rattle.std.proofs.lemmas.List.Elements.{Contains-append_cases, Contains-append_left, Contains-append_right}
 use Rattle.tree_items.specs.Files.{assignment_item, recipe_item}
@@ -13,14 +13,15 @@ use Rattle.meaning_rules.specs.Rules.{HasPart, looked, HasDependency, IsKeptReci
 use Rattle.meaning_rules.specs.Rules as rules
 use Rattle.meaning_calls.specs.Named.{RecipeName, VariableName, DependencyRow, RecipeRow, VariableRow, ModuleRow, Definitions, paths_of}
 use Rattle.just_meaning.specs.Opening.{IsReached, by_words, by_recipe, IsOpened}
+use Rattle.just_meaning.specs.Actions.{IsKept}
 use Rattle.just_meaning.specs.Defining.{named_from, AreDefined, IsVariableRow}
 use Rattle.meaning_agreement.specs.Opened.{AreListed}
 use Rattle.meaning_certain.specs.Certain.{AreCertain, AreCertainVariables}
-use Rattle.meaning_known.specs.Known.{BreaksNoRule, IsRead, AreInOrder, HaveRows, HasRecipe, DefinedAreKnown}
-use Rattle.meaning_known.proofs.Lists.{contains_mapped}
+use Rattle.meaning_known.specs.Known.{BreaksNoRule, IsRead, AreInOrder, HaveRows, HasRecipe, DefinedAreKnown, KeptAreKnown}
+use Rattle.meaning_known.proofs.Lists.{contains_mapped, is_there}
 use Rattle.meaning_known.proofs.Kept.{recipe_named}
 use Rattle.meaning_known.proofs.Rows.{none_breaks, no_path}
-use Rattle.meaning_known.proofs.Reached.{part_builtin, part_fits, part_stands, reached_part, recipe_part}
+use Rattle.meaning_known.proofs.Reached.{call_builtin, call_fits, read_stands, recipe_part}
 
 -- what a row depends on
 abbrev pub dependency_row : (DependencyShape → RecipeName) → DependencyShape → DependencyRow
@@ -36,63 +37,8 @@ dependency_of named' priors subsequents r c =
       | inr s ↦ let d = contains_mapped (dependency_row named') subsequents m.0 s in (d.0, Contains-append_right priors subsequents d.0 d.1, ap (λ (x : DependencyRow). x.on) d.2 ∙ m.2)
     ]
 
-module _ (w : World) (o : Overrides) (unbroken : BreaksNoRule w o) (read : IsRead w) (ordered : AreInOrder w) (base working : Text) (defined : Definitions) (are : AreDefined w o base working defined) (rows : HaveRows defined)
-    (leaves_out : Bool) (invoked : List RecipeName) (there : (r : RecipeName) → Contains invoked r → HasRecipe defined r) where
-  -- a recipe on which one depends is there
-  dependency_there : (r : RecipeName) (row : RecipeRow) → defined.recipe r ≡ Some row → (on : RecipeName) → Contains (map (λ (d : DependencyRow). d.on) (row.priors ++ row.subsequents)) on → HasRecipe defined on
-  dependency_there r row e on c = by_row (defined.recipe on) refl
-    where
-      by_row : (found : Option RecipeRow) → defined.recipe on ≡ found → HasRecipe defined on
-      by_row (Some found) is = (found, is)
-      by_row None absent =
-          let h = (are.recipes r row).0 e in
-          let own = h.own in
-          let name = h.shape.name in
-          let d = dependency_of (λ dependency. named_from r.path dependency.path) h.shape.priors h.shape.subsequents on
-          (subst (λ (x : RecipeRow). Contains (map (λ (d : DependencyRow). d.on) (x.priors ++ x.subsequents)) on) h.says c) in
-          let named : h.shape.name ≡ r.recipe = recipe_named w.os h.attributes h.shape r.recipe h.kept.defines.is in
-          let kept : KeepsAt w own a_recipe name h.key h.place (recipe_item h.attributes h.shape) = subst (λ n. KeepsAt w own a_recipe n h.key h.place (recipe_item h.attributes h.shape)) (sym named) h.kept in
-          let has : HasDependency w (IsKeptRecipe w) own name d.0 = record {
-            path = r.path;
-            is = h.is;
-            attributes = h.attributes;
-            recipe = h.shape;
-            there = record { key = h.key; place = h.place; kept = kept };
-            is_named = refl;
-            listed = d.1;
-          } in
-          let none : defined.recipe (named_from r.path d.0.path) ≡ None = ap defined.recipe d.2 ∙ absent in
-          let no_module : IsModulePath w own d.0.path → ⊥ = λ m. none_breaks w o unbroken read base working defined are (module_as_recipe d.0.path) (inl (of_kept has (rules.a_module m))) in
-          absurd (none_breaks w o unbroken read base working defined are (unknown_dependency name d.0.path)
-          (of_kept has (rules.unknown (no_path w o unbroken read base working defined are r.path own h.is d.0.path none) no_module)))
-
-  -- each recipe that is reached is there
-  reached_there : (r : RecipeName) → IsReached defined leaves_out invoked r → HasRecipe defined r
-  reached_there r (by_words c) = there r c
-  reached_there r (by_recipe {r = from} {row = row} no' reached is c) = dependency_there from row is r c
-
-  -- what is reached has names that are known
-  certain : AreCertain defined (IsReached defined leaves_out invoked)
-  certain = record {
-    resolved = record {
-      modules = λ r reached. let row = reached_there r reached in let h = (are.recipes r row.0).0 row.1 in rows r.path ((are.tree r.path).1 (h.own, h.is));
-      names = λ r name reached reads.
-          let h = (are.recipes r reads.row).0 reads.there in
-          let has = recipe_part w o ordered r reads.row h reads.e reads.hidden reads.stands in
-          let inner = reads.reads in
-          part_stands w o unbroken read base working defined are r.path h.own h.is (part inner.others inner.inner) name
-          (reached_part w o unbroken read base working defined are r.path h.own h.is reads.e inner.inner reads.hidden inner.others inner.reached has) inner.named inner.free;
-      fits = λ r row e hidden inner others name count f reached is stands goes occurs found.
-          let h = (are.recipes r row).0 is in
-          part_fits w o unbroken read base working defined are r.path h.own h.is (part others inner) name count f
-          (reached_part w o unbroken read base working defined are r.path h.own h.is e inner hidden others goes (recipe_part w o ordered r row h e hidden stands)) occurs found;
-    };
-    rows = reached_there;
-    builtin = λ r row e hidden inner others name count reached is stands goes occurs absent.
-        let h = (are.recipes r row).0 is in
-        part_builtin w o unbroken read base working defined are r.path h.own h.is (part others inner) name count
-        (reached_part w o unbroken read base working defined are r.path h.own h.is e inner hidden others goes (recipe_part w o ordered r row h e hidden stands)) occurs absent;
-  }
+module _ (w : World) (o : Overrides) (unbroken : BreaksNoRule w o) (read : IsRead w) (base working : Text) (defined : Definitions) (are : AreDefined w o base working defined) where
+  -- ---- variables
 
   -- the right side of a variable is a part
   variable_part : (x : VariableName) (row : VariableRow) (h : IsVariableRow w o x row) → HasPart w h.own (part [] row.value)
@@ -102,22 +48,18 @@ module _ (w : World) (o : Overrides) (unbroken : BreaksNoRule w o) (read : IsRea
     subst (λ (v : VariableRow). Contains (part [] h.shape.value ∷ []) (part [] v.value)) (sym h.says) (contains_first (part [] h.shape.value) []),
   )
 
-  -- and what opens
-  variables : AreCertainVariables defined (IsOpened defined leaves_out invoked)
-  variables = record {
+  -- variables of any kind have names that are known
+  variables : (Open : VariableName → Type 0) → AreCertainVariables defined Open
+  variables Open = record {
     names = λ x name opens over reads.
         let h = (are.variables x reads.row).0 reads.there in
-        let inner = reads.reads in
-        part_stands w o unbroken read base working defined are x.path h.own h.is (part inner.others inner.inner) name
-        (reached_part w o unbroken read base working defined are x.path h.own h.is reads.row.value inner.inner [] inner.others inner.reached (variable_part x reads.row h)) inner.named inner.free;
+        read_stands w o unbroken read base working defined are x.path h.own h.is reads.row.value [] (variable_part x reads.row h) name reads.reads;
     fits = λ x row inner others name count f opens over is goes occurs found.
         let h = (are.variables x row).0 is in
-        part_fits w o unbroken read base working defined are x.path h.own h.is (part others inner) name count f
-        (reached_part w o unbroken read base working defined are x.path h.own h.is row.value inner [] others goes (variable_part x row h)) occurs found;
+        call_fits w o unbroken read base working defined are x.path h.own h.is row.value [] (variable_part x row h) inner others name count goes occurs f found;
     builtin = λ x row inner others name count opens over is goes occurs absent.
         let h = (are.variables x row).0 is in
-        part_builtin w o unbroken read base working defined are x.path h.own h.is (part others inner) name count
-        (reached_part w o unbroken read base working defined are x.path h.own h.is row.value inner [] others goes (variable_part x row h)) occurs absent;
+        call_builtin w o unbroken read base working defined are x.path h.own h.is row.value [] (variable_part x row h) inner others name count goes occurs absent;
   }
 
   -- a module with a row is in the tree
@@ -132,10 +74,63 @@ module _ (w : World) (o : Overrides) (unbroken : BreaksNoRule w o) (read : IsRea
         ((are.names x.path h.own h.is).each x.name).1 (record { key = h.key; place = h.place; item = assignment_item h.attributes h.shape; defines = h.kept.defines });
   }
 
+  -- ---- recipes
+
+  module _ (ordered : AreInOrder w) (rows : HaveRows defined) (leaves_out : Bool) (invoked : List RecipeName) (there : (r : RecipeName) → Contains invoked r → HasRecipe defined r) where
+    -- a recipe on which one depends is there
+    dependency_there : (r : RecipeName) (row : RecipeRow) → defined.recipe r ≡ Some row → (on : RecipeName) → Contains (map (λ (d : DependencyRow). d.on) (row.priors ++ row.subsequents)) on → HasRecipe defined on
+    dependency_there r row e on c = is_there (defined.recipe on) (λ absent.
+        let h = (are.recipes r row).0 e in
+        let own = h.own in
+        let name = h.shape.name in
+        let d = dependency_of (λ dependency. named_from r.path dependency.path) h.shape.priors h.shape.subsequents on
+        (subst (λ (x : RecipeRow). Contains (map (λ (d : DependencyRow). d.on) (x.priors ++ x.subsequents)) on) h.says c) in
+        let named : h.shape.name ≡ r.recipe = recipe_named w.os h.attributes h.shape r.recipe h.kept.defines.is in
+        let kept : KeepsAt w own a_recipe name h.key h.place (recipe_item h.attributes h.shape) = subst (λ n. KeepsAt w own a_recipe n h.key h.place (recipe_item h.attributes h.shape)) (sym named) h.kept in
+        let has : HasDependency w (IsKeptRecipe w) own name d.0 = record {
+          path = r.path;
+          is = h.is;
+          attributes = h.attributes;
+          recipe = h.shape;
+          there = record { key = h.key; place = h.place; kept = kept };
+          is_named = refl;
+          listed = d.1;
+        } in
+        let none : defined.recipe (named_from r.path d.0.path) ≡ None = ap defined.recipe d.2 ∙ absent in
+        let no_module : IsModulePath w own d.0.path → ⊥ = λ m. none_breaks w o unbroken read base working defined are (module_as_recipe d.0.path) (inl (of_kept has (rules.a_module m))) in
+        none_breaks w o unbroken read base working defined are (unknown_dependency name d.0.path)
+        (of_kept has (rules.unknown (no_path w o unbroken read base working defined are r.path own h.is d.0.path none) no_module)))
+
+    -- each recipe that is reached is there
+    reached_there : (r : RecipeName) → IsReached defined leaves_out invoked r → HasRecipe defined r
+    reached_there r (by_words c) = there r c
+    reached_there r (by_recipe {r = from} {row = row} no' reached is c) = dependency_there from row is r c
+
+    -- what is reached has names that are known
+    certain : AreCertain defined (IsReached defined leaves_out invoked)
+    certain = record {
+      resolved = record {
+        modules = λ r reached. let row = reached_there r reached in let h = (are.recipes r row.0).0 row.1 in rows r.path ((are.tree r.path).1 (h.own, h.is));
+        names = λ r name reached reads.
+            let h = (are.recipes r reads.row).0 reads.there in
+            read_stands w o unbroken read base working defined are r.path h.own h.is reads.e reads.hidden (recipe_part w o ordered r reads.row h reads.e reads.hidden reads.stands) name reads.reads;
+        fits = λ r row e hidden inner others name count f reached is stands goes occurs found.
+            let h = (are.recipes r row).0 is in
+            call_fits w o unbroken read base working defined are r.path h.own h.is e hidden (recipe_part w o ordered r row h e hidden stands) inner others name count goes occurs f found;
+      };
+      rows = reached_there;
+      builtin = λ r row e hidden inner others name count reached is stands goes occurs absent.
+          let h = (are.recipes r row).0 is in
+          call_builtin w o unbroken read base working defined are r.path h.own h.is e hidden (recipe_part w o ordered r row h e hidden stands) inner others name count goes occurs absent;
+    }
+
 pub defined_are_known : DefinedAreKnown
 defined_are_known w o unbroken read ordered base working defined are rows leaves_out invoked there = (
-  certain w o unbroken read ordered base working defined are rows leaves_out invoked there,
-  variables w o unbroken read ordered base working defined are rows leaves_out invoked there,
-  in_tree w o unbroken read ordered base working defined are rows leaves_out invoked there,
-  listed w o unbroken read ordered base working defined are rows leaves_out invoked there,
+  certain w o unbroken read base working defined are ordered rows leaves_out invoked there,
+  variables w o unbroken read base working defined are (IsOpened defined leaves_out invoked),
+  in_tree w o unbroken read base working defined are,
+  listed w o unbroken read base working defined are,
 )
+
+pub kept_are_known : KeptAreKnown
+kept_are_known w o unbroken read base working defined are = (variables w o unbroken read base working defined are (IsKept defined), listed w o unbroken read base working defined are)

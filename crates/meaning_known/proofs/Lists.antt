@@ -1,5 +1,5 @@
--- Elements of lists that are made of others, searches in lists, and equal numbers.
-use Rattle.std.proofs.Common.{◌≡◌, ◌⊎◌, inl, inr, refl, sym, ap, subst, List, [], ◌∷◌, map, ℕ, zero, suc, arith}
+-- Elements of lists that are made of others, searches in lists, equal numbers, and what is there.
+use Rattle.std.proofs.Common.{◌≡◌, ◌⊎◌, inl, inr, refl, sym, ap, subst, List, [], ◌∷◌, map, ℕ, zero, suc, Option, Some, None, arith}
 use Rattle.std.specs.Prelude.{Contains}
 use Rattle.meaning_worlds.proofs.Places.{contains_cases, contains_first, contains_later, contains_none}
 
@@ -34,3 +34,8 @@ same_or_not (suc m) (suc n) = elim (same_or_not m n) [
   | inl e ↦ inl (ap suc e)
   | inr other ↦ inr (λ e. other (omega (arith, e)))
 ]
+
+-- what isn't absent is there
+pub is_there : {X : Type 0} (o : Option X) → (o ≡ None → ⊥) → (x : X) × (o ≡ Some x)
+is_there (Some x) present = (x, refl)
+is_there None present = absurd (present refl)

@@ -11,7 +11,6 @@ use Rattle.tree_items.specs.Files.{function_item, recipe_item}
 use Rattle.tree_items.specs.Recipes.{DependencyShape}
 use Rattle.just_value.specs.Constants.{constant_rows}
 use Rattle.evaluate_functions.specs.Names.{function_of}
-use Rattle.evaluate_functions.specs.declared.function.Function.{Function}
 use Rattle.evaluate_functions.specs.Arguments.{expected}
 use Rattle.meaning_worlds.specs.Given.{Text, World, Overrides}
 use Rattle.meaning_worlds.specs.Modules.{IsModule}
@@ -25,13 +24,13 @@ use Rattle.meaning_rules.specs.Rules.{HasPart, looked, undefined_variable, unkno
 use Rattle.meaning_rules.specs.Rules as rules
 use Rattle.meaning_calls.specs.Named.{RecipeName, RecipeRow, VariableRow, FunctionRow, Definitions}
 use Rattle.just_meaning.specs.Rows.{recipe_row}
-use Rattle.just_meaning.specs.Reading.{Reaches, itself, through, expressions_in, function_row}
+use Rattle.just_meaning.specs.Reading.{Reaches, itself, through, ReadsIn, expressions_in, function_row}
 use Rattle.just_meaning.specs.Opening.{named, text_named}
 use Rattle.just_meaning.specs.Defining.{named_from, AreDefined, IsRecipeRow}
 use Rattle.meaning_agreement.specs.Opened.{StandsFor, a_variable, a_constant}
 use Rattle.meaning_agreement.proofs.Names.{contains_any}
 use Rattle.meaning_known.specs.Known.{BreaksNoRule, IsRead, AreInOrder}
-use Rattle.meaning_known.proofs.Lists.{same_or_not}
+use Rattle.meaning_known.proofs.Lists.{is_there, same_or_not}
 use Rattle.meaning_known.proofs.Parts.{to_parts}
 use Rattle.meaning_known.proofs.Rows.{function_in, function_there, none_breaks, variable_there}
 
@@ -73,7 +72,7 @@ module _ (w : World) (o : Overrides) (unbroken : BreaksNoRule w o) (read : IsRea
       )
 
   -- what a part reaches is one
-  pub reached_part : (e inner : Shape) (hidden others : List Text) → Reaches (defined.functions path) e hidden inner others → Has (part hidden e) → Has (part others inner)
+  reached_part : (e inner : Shape) (hidden others : List Text) → Reaches (defined.functions path) e hidden inner others → Has (part hidden e) → Has (part others inner)
   reached_part e inner hidden others itself h = h
   reached_part e inner hidden others (through {name = name} {f = f} c there r) h = reached_part f.body inner f.parameters others r (function_part f (function_in name (defined.functions path) f there).0)
 
@@ -86,7 +85,7 @@ module _ (w : World) (o : Overrides) (unbroken : BreaksNoRule w o) (read : IsRea
       variable_there w o unbroken read base working defined are path h.own name h.overridden.names.is h.overridden.names.there absent
 
   -- a variable that a part names stands for something
-  pub part_stands : (p : Part) (name : Text) → Has p → Contains (occurrences p.said) (naming.a_variable name) → list_any (λ other. bytes_eq other name) p.sees ≡ false → StandsFor defined path name
+  part_stands : (p : Part) (name : Text) → Has p → Contains (occurrences p.said) (naming.a_variable name) → list_any (λ other. bytes_eq other name) p.sees ≡ false → StandsFor defined path name
   part_stands p name has occurs free = by_row (defined.variable (named path name)) refl
     where
       by_text : (text : Option Text) → text_named name constant_rows ≡ text → defined.variable (named path name) ≡ None → defined.override (named path name) ≡ None → StandsFor defined path name
@@ -110,7 +109,7 @@ module _ (w : World) (o : Overrides) (unbroken : BreaksNoRule w o) (read : IsRea
       by_row None e = by_override (defined.override (named path name)) refl e
 
   -- a call of a function of the module fits
-  pub part_fits : (p : Part) (name : Text) (count : ℕ) (f : FunctionRow) → Has p → Contains (occurrences p.said) (naming.a_call name count) → function_row name (defined.functions path) ≡ Some f → count ≡ length f.parameters
+  part_fits : (p : Part) (name : Text) (count : ℕ) (f : FunctionRow) → Has p → Contains (occurrences p.said) (naming.a_call name count) → function_row name (defined.functions path) ≡ Some f → count ≡ length f.parameters
   part_fits p name count f has occurs there =
       let i = function_in name (defined.functions path) f there in
       let h = ((are.functions path own is).each f).0 i.0 in
@@ -122,19 +121,33 @@ module _ (w : World) (o : Overrides) (unbroken : BreaksNoRule w o) (read : IsRea
       ]
 
   -- what it calls else is built in
-  pub part_builtin : (p : Part) (name : Text) (count : ℕ) → Has p → Contains (occurrences p.said) (naming.a_call name count) → function_row name (defined.functions path) ≡ None → IsSome (function_of name)
-  part_builtin p name count has occurs absent = by_test (function_of name) refl
-    where
-      by_test : (f : Option Function) → function_of name ≡ f → IsSome (function_of name)
-      by_test (Some f) e = subst IsSome (sym e) refl
-      by_test None e = absurd (none_breaks w o unbroken read base working defined are (unknown_function name) (
+  part_builtin : (p : Part) (name : Text) (count : ℕ) → Has p → Contains (occurrences p.said) (naming.a_call name count) → function_row name (defined.functions path) ≡ None → IsSome (function_of name)
+  part_builtin p name count has occurs absent =
+      let f = is_there (function_of name) (λ none. none_breaks w o unbroken read base working defined are (unknown_function name) (
         own,
         p,
         count,
         has,
         occurs,
-        ((λ d. function_there w o unbroken read base working defined are path own name is d absent), no_count name e),
-      ))
+        ((λ d. function_there w o unbroken read base working defined are path own name is d absent), no_count name none),
+      )) in
+      subst IsSome (sym f.1) refl
+
+  -- ---- what is reached
+
+  module _ (e : Shape) (hidden : List Text) (has : Has (part hidden e)) where
+    -- what an expression reads stands for something
+    pub read_stands : (name : Text) → ReadsIn (defined.functions path) e hidden name → StandsFor defined path name
+    read_stands name reads = part_stands (part reads.others reads.inner) name (reached_part e reads.inner hidden reads.others reads.reached has) reads.named reads.free
+
+    module _ (inner : Shape) (others : List Text) (name : Text) (count : ℕ) (goes : Reaches (defined.functions path) e hidden inner others) (occurs : Contains (occurrences inner) (naming.a_call name count)) where
+      -- a call that it reaches fits
+      pub call_fits : (f : FunctionRow) → function_row name (defined.functions path) ≡ Some f → count ≡ length f.parameters
+      call_fits f there = part_fits (part others inner) name count f (reached_part e inner hidden others goes has) occurs there
+
+      -- or it is of what is built in
+      pub call_builtin : function_row name (defined.functions path) ≡ None → IsSome (function_of name)
+      call_builtin absent = part_builtin (part others inner) name count (reached_part e inner hidden others goes has) occurs absent
 
 -- the expressions of a recipe are parts of it
 pub recipe_part : (w : World) (o : Overrides) (ordered : AreInOrder w) (r : RecipeName) (row : RecipeRow) (h : IsRecipeRow w o r row) (e : Shape) (hidden : List Text) → Contains (expressions_in row) (e, hidden) → HasPart w h.own (part hidden e)

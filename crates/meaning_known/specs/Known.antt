@@ -13,6 +13,7 @@ use Rattle.meaning_rules.specs.Rules.{Rule, Broken}
 use Rattle.meaning_runs.specs.Invokes.{Invoke}
 use Rattle.meaning_calls.specs.Named.{RecipeName, RecipeRow, ModuleRow, Definitions, paths_of}
 use Rattle.meaning_calls.specs.Groups.{parameters_of}
+use Rattle.just_meaning.specs.Actions.{IsKept}
 use Rattle.just_meaning.specs.Defining.{AreDefined}
 use Rattle.just_meaning.specs.Menus.{menu_of}
 use Rattle.just_meaning.specs.Opening.{IsReached, IsOpened}
@@ -46,6 +47,10 @@ DefinedAreKnown = (w : World) (o : Overrides) → BreaksNoRule w o → IsRead w 
     → (leaves_out : Bool) (invoked : List RecipeName) → ((r : RecipeName) → Contains invoked r → HasRecipe defined r)
     → AreCertain defined (IsReached defined leaves_out invoked) × AreCertainVariables defined (IsOpened defined leaves_out invoked)
     × ((path : List Text) (row : ModuleRow) → defined.inside path ≡ Some row → Contains (paths_of defined.modules) path) × AreListed defined
+
+-- All variables have names that are known, where no rule is broken, and their names are listed.
+abbrev pub KeptAreKnown : Type 0
+KeptAreKnown = (w : World) (o : Overrides) → BreaksNoRule w o → IsRead w → (base working : Text) (defined : Definitions) → AreDefined w o base working defined → AreCertainVariables defined (IsKept defined) × AreListed defined
 
 -- Words invoke recipes that are there, with a group for each parameter, where no rule is broken.
 abbrev pub InvokedAreKnown : Type 0
