@@ -28,7 +28,7 @@ use Rattle.run_plain.specs.declared.outcome.Outcome.TheVariants as plain_outcome
 use Rattle.run_requests.specs.declared.action.Action.{Action}
 use Rattle.just_run.specs.Drives.{Drives, State}
 use Rattle.just_run.specs.Named.{Left}
-use Rattle.just_run.specs.Plain.{AnswersPlain, IsPlain}
+use Rattle.just_run.specs.Plain.{AnswersPlain, IsPlain, RecordsTheSame, RunsPlain}
 use Rattle.just_run.specs.Sources.{AnswersSources, Asked, LooksAtAll, read, unread}
 use Rattle.just_run.specs.declared.fault.Fault.{Fault}
 use Rattle.just_run.specs.declared.outcome.Outcome.{Outcome}
@@ -108,6 +108,23 @@ module _ (i : Inputs) (source : List ℕ → Option (List ℕ)) (alike : SayAlik
       followed = a.followed;
     }
 
+    -- each run over the other texts is one over these
+    records_too : (piece : List Entry) (failure : Option Failure) → RecordsTheSame i s piece failure → RecordsTheSame other s piece failure
+    records_too piece failure h = λ f agrees old' piece' failure' run too. h f agrees old' piece' failure' (run.0, (alike.says run.0).1 run.1, run.2) too
+
+    ended_same_too : (piece : List Entry) (v : Verdict) → Ended new v (RecordsTheSame i s piece) → Ended new v (RecordsTheSame other s piece)
+    ended_same_too piece ran_out h = tt
+    ended_same_too piece (breaks rule) h = tt
+    ended_same_too piece (fails failure) h = λ e. records_too piece (Some failure) (h e)
+
+    same_too : (piece : List Entry) (answer : Result plain_outcome.Outcome plain_fault.Fault) → IfRun new answer (RecordsTheSame i s piece) → IfRun new answer (RecordsTheSame other s piece)
+    same_too piece (Ok plain_outcomes.Ran) h = λ e. records_too piece None (h e)
+    same_too piece (Err fault) h = ended_same_too piece (verdict fault) h
+
+    runs_plain_too : (result : Result Outcome Fault) → RunsPlain goes i s result old new → RunsPlain goes other s result old new
+    unfolding plain_too
+    runs_plain_too result h = record { answers = plain_too result h.answers; same = same_too h.answers.piece h.answers.answer h.same }
+
   told_too : (v : Verdict) → IsTold i v → IsTold other v
   told_too ran_out h = tt
   told_too (breaks rule) h = ((alike.breaks rule).0 h.0, h.1)
@@ -120,7 +137,7 @@ module _ (i : Inputs) (source : List ℕ → Option (List ℕ)) (alike : SayAlik
 
     drives_too : {H : Type 0} (goes : H → List Entry → H → Type 0) (config : Config) (action : Action) (old : State H) (result : Result Outcome Fault) (new : State H) → Drives goes i given config action old result new → Drives goes other given' config action old result new
     drives_too goes config action old result new d = record {
-      plain = λ run plain. plain_too goes _ old.host new.host result (d.plain run (plain_back plain));
+      plain = λ run plain. runs_plain_too goes _ old.host new.host result (d.plain run (plain_back plain));
       early = d.early;
       sources = λ all. sources_too _ _ result (d.sources (looks_back action all));
       silent = d.silent;

@@ -1,5 +1,6 @@
 mod Added
 mod Again
+mod Determined
 mod Driven
 mod Early
 mod Failed

@@ -61,11 +61,15 @@ use Rattle.meaning_overriding.specs.Texts.{overrides_of}
 use Rattle.meaning_soundness.specs.Endings.{is_internal}
 use Rattle.meaning_worlds.specs.Given.{Given, Overrides, Text, World}
 use Rattle.meaning_worlds.proofs.Places.{contains_cases, contains_none}
+use Rattle.meaning_certain.proofs.Actions.{commands_end_certainly, evaluations_end_certainly}
 use Rattle.meaning_certain.proofs.Runs.{runs_end_certainly}
 use Rattle.meaning_known.specs.Known.{BreaksNoRule, HasRecipe, HaveRows, IsRead}
 use Rattle.meaning_known.proofs.Invoked.{invoked_are_known}
-use Rattle.meaning_known.proofs.Known.{defined_are_known}
+use Rattle.meaning_known.proofs.Known.{defined_are_known, kept_are_known}
 use Rattle.meaning_known.proofs.Ordered.{worlds_are_in_order}
+use Rattle.meaning_determined.specs.Determined.{nothing}
+use Rattle.meaning_repeated.proofs.Repeated.{runs_go_alike}
+use Rattle.meaning_unique.proofs.Unique.{definitions_are_one}
 use Rattle.std.specs.List.{AllByRecursion}
 use Rattle.meaning_defined.specs.Defined.{IsDefinedBy, named_call}
 use Rattle.meaning_defined.proofs.Calls.{words_invoke_recipes}
@@ -78,7 +82,7 @@ use Rattle.meaning_running.specs.Told.{IsThere}
 use Rattle.meaning_names.specs.Names.{AreSingle, IsOfWorld}
 use Rattle.resolve_analysis.specs.declared.module_lists.ModuleLists.{ModuleLists}
 use Rattle.std.proofs.lemmas.Option.{same_Some}
-use Rattle.just_run.specs.Named.{End, GoesNamed, IsCertainEnd, IfCommanded, IfRan, IfTold, IsListed, Left, PlansNamed, RunsBetween, RunsNamed, as_run}
+use Rattle.just_run.specs.Named.{CommandTo, End, GoesAlike, GoesNamed, IsCertainEnd, IfCommanded, IfRan, IfTold, IsListed, Left, PlansNamed, RunsBetween, RunsNamed, ValuesTo, as_run}
 use Rattle.just_run.specs.Named as named
 use Rattle.just_run.specs.Passed.{task_fault}
 use Rattle.just_run.specs.Ran.{Answers, EndsTask, GoesPlaced, PlanEnds, PlansTask, does, plan_answer, plans, tells, unwritten, written}
@@ -234,11 +238,37 @@ module _ (source : Given) (w : World) (stands : StandsFor source w) (clear_of_fi
 
     -- no run of what words invoke ends with `internal`
     certain_run : (c : Configuration) (words : List (List ℕ)) (invocations : List (RecipeName × List (List (List ℕ)))) → Invoke (menu_of defined) words invocations → (old new : List Entry) (t : Tally) (end : End)
-        → Runs c defined (map call_in invocations) old (record { calls = 0; entered = 0 }) new t end → IsCertainEnd end
+        → Runs c defined (map call_in invocations) old nothing new t end → IsCertainEnd end
     certain_run c words invocations invoke old new t end run =
         let all = invoked_are_known w o no_rule read base working defined are words invocations invoke in
         let known = defined_are_known w o no_rule read (worlds_are_in_order source w stands) base working defined are rows_there c.no_dependencies (map (λ (call : NamedCall). call.recipe) (map call_in invocations)) (there invocations all) in
-        certain_end end (λ fault is. runs_end_certainly c defined (map call_in invocations) old new (record { calls = 0; entered = 0 }) t end fault known.0 known.1 known.2 (fitting invocations all) run is)
+        certain_end end (λ fault is. runs_end_certainly c defined (map call_in invocations) old new nothing t end fault known.0 known.1 known.2 (fitting invocations all) run is)
+
+    -- no evaluation of values ends with `internal`
+    certain_values : (c : Configuration) (words : List (List ℕ)) (left : Left) (result : Result Outcome Fault) (end : ActionEnd) → EvaluateGoes c defined true words left.before left.behind end → ValuesTo c defined words left result end
+    certain_values c words left result end goes = (evaluations_end_certainly c defined true words left.before left.behind end (kept_are_known w o no_rule read base working defined are).0 goes, goes)
+
+    -- no one command ends with `internal`
+    certain_command : (c : Configuration) (words : List (List ℕ)) (left : Left) (result : Result Outcome Fault) (end : ActionEnd) → CommandGoes c defined words left.before left.behind end → CommandTo c defined words left result end
+    certain_command c words left result end goes =
+        let known = defined_are_known w o no_rule read (worlds_are_in_order source w stands) base working defined are rows_there c.no_dependencies [] (λ r there. absurd (contains_none [] r refl there)) in
+        (commands_end_certainly c defined words left.before left.behind end known.1 goes, goes)
+
+    -- each run of what the same words invoke goes alike
+    alike_run : (c : Configuration) (words : List (List ℕ)) (left : Left) (result : Result Outcome Fault) (invocations : List (RecipeName × List (List (List ℕ)))) → Invoke (menu_of defined) words invocations
+        → (old new : List Entry) (t : Tally) (end : End) (run : Runs c defined (map call_in invocations) old nothing new t end) → GoesAlike c defined words left result run
+    alike_run c words left result invocations invoke old new t end run = λ f agrees others also old' new' t' end' other too.
+        runs_go_alike ⊥ w o no_rule read (worlds_are_in_order source w stands) base working defined defined are are rows_there c words invocations others invoke also f old new t end run agrees old' new' t' end' other too
+
+    -- so what words invoke runs, from one record to another
+    between : (c : Configuration) (words : List (List ℕ)) (left : Left) (result : Result Outcome Fault) (invocations : List (RecipeName × List (List (List ℕ)))) → Invoke (menu_of defined) words invocations
+        → (old new : List Entry) (t : Tally) (end : End) → Runs c defined (map call_in invocations) old nothing new t end → RunsBetween c defined words left result old new invocations end
+    between c words left result invocations invoke old new t end run =
+        (certain_run c words invocations invoke old new t end run, (t, run, alike_run c words left result invocations invoke old new t end run))
+
+    -- what the world defines is one
+    defined_once : (other : Definitions) → AreDefined w o base working other → other ≡ defined
+    defined_once other too = definitions_are_one w o base working other defined too are
 
 module _ (source : Given) (w : World) (stands : StandsFor source w) (clear_of_files : files.BreaksNone w) (compilation : Compilation) (resolvable : IsResolvable w compilation) (asked : Asked) (root : List ℕ) (left : Left) (result : Result Outcome Fault) (analysis : Analysis)
     (clear_of_names : names.BreaksNone w (overrides_of asked.words.overrides)) (known : IsAnalysis compilation (string_bytes asked.config.base) asked.words.overrides analysis) where
@@ -276,11 +306,9 @@ module _ (source : Given) (w : World) (stands : StandsFor source w) (clear_of_fi
     named_run calls invokes old new end told goes =
         let r = calls_run_named ⊥ source w compilation stands resolvable asked.words.overrides asked.config analysis known d.settled root calls (calls_there calls invokes) old new end told goes in
         let run = subst (λ (q : Definitions × List NamedCall). (t : Tally) × Runs {Rule = ⊥} configuration q.0 q.1 old (record { calls = 0; entered = 0 }) new t (outcome_of end))
-        (λ i. (sym d.is i, sym (named_calls (rows calls.items)) i)) r in (
-          certain_run source w stands clear_of_files (overrides_of asked.words.overrides) clear_of_names (string_bytes asked.config.base) (string_bytes asked.config.working_directory) d.defined d.are d.read d.rows
-              configuration asked.words.arguments (map (named_call compilation analysis) (rows calls.items)) (d.invokes (rows calls.items) invokes) old new run.0 (outcome_of end) run.1,
-          run,
-        )
+        (λ i. (sym d.is i, sym (named_calls (rows calls.items)) i)) r in
+        between source w stands clear_of_files (overrides_of asked.words.overrides) clear_of_names (string_bytes asked.config.base) (string_bytes asked.config.working_directory) d.defined d.are d.read d.rows
+        configuration asked.words.arguments left result (map (named_call compilation analysis) (rows calls.items)) (d.invokes (rows calls.items) invokes) old new run.0 (outcome_of end) run.1
 
     -- ---- runs
 
@@ -324,29 +352,34 @@ module _ (source : Given) (w : World) (stands : StandsFor source w) (clear_of_fi
     -- ---- values
 
     values_told : (target : EvaluationTarget) → values_of compilation.modules.items analysis.variables.lists.items asked.words.arguments ≡ Some target → EndsTask left result (of_task.Evaluate target) (Performs (of_task.Evaluate target) left.before left.behind)
-        → IfTold left result (EvaluateGoes configuration d.defined true asked.words.arguments left.before left.behind)
+        → IfTold left result (ValuesTo configuration d.defined asked.words.arguments left result)
     values_told target is ends =
         let t = d.targets target is in
-        values_so left result (EvaluateGoes configuration d.defined true asked.words.arguments left.before left.behind) (Performs (of_task.Evaluate target) left.before left.behind)
-        (λ end told goes. subst (λ defined. EvaluateGoes configuration defined true asked.words.arguments left.before left.behind (action_end true end)) (sym d.is)
+        values_so left result (ValuesTo configuration d.defined asked.words.arguments left result) (Performs (of_task.Evaluate target) left.before left.behind)
+        (λ end told goes. certain_values source w stands clear_of_files (overrides_of asked.words.overrides) clear_of_names (string_bytes asked.config.base) (string_bytes asked.config.working_directory)
+        d.defined d.are d.read d.rows configuration asked.words.arguments left result (action_end true end)
+        (subst (λ defined. EvaluateGoes configuration defined true asked.words.arguments left.before left.behind (action_end true end)) (sym d.is)
         (evaluations_are_named source w compilation stands resolvable asked.words.overrides asked.config analysis known d.settled root target (values_there w compilation resolvable.numbered.of resolvable.numbered.single analysis.variables.lists.items asked.words.arguments target is) asked.words.arguments t.0 t.2
-        (subst (λ (defined : Definitions). values_named defined asked.words.arguments ≡ Some t.0) d.is t.1) true left.before left.behind end told goes))
+        (subst (λ (defined : Definitions). values_named defined asked.words.arguments ≡ Some t.0) d.is t.1) true left.before left.behind end told goes)))
         target ends.performed ends.answers ends.ended
 
-    values_done : (task : Task) → AskedFor requested.Evaluate (requests.Task task) → EndsTask left result task (Performs task left.before left.behind) → IfTold left result (EvaluateGoes configuration d.defined true asked.words.arguments left.before left.behind)
+    values_done : (task : Task) → AskedFor requested.Evaluate (requests.Task task) → EndsTask left result task (Performs task left.before left.behind) → IfTold left result (ValuesTo configuration d.defined asked.words.arguments left result)
     values_done task h ends =
         let same : task ≡ of_task.Evaluate h.0 = cc h.2 in
         values_told h.0 h.1 (subst (λ t. EndsTask left result t (Performs t left.before left.behind)) same ends)
 
     -- ---- the command
 
-    command_done : (task : Task) → AskedFor requested.Command (requests.Task task) → EndsTask left result task (Performs task left.before left.behind) → IfCommanded left.exhausted result (CommandGoes configuration d.defined asked.words.arguments left.before left.behind)
+    command_done : (task : Task) → AskedFor requested.Command (requests.Task task) → EndsTask left result task (Performs task left.before left.behind)
+        → IfCommanded left.exhausted result (CommandTo configuration d.defined asked.words.arguments left result)
     command_done (of_task.Run calls) h ends = absurd h
     command_done (of_task.Evaluate target) h ends = absurd h
     command_done (of_task.Command words) h ends =
-        commanded_so left result (CommandGoes configuration d.defined asked.words.arguments left.before left.behind) (Performs (of_task.Command words) left.before left.behind)
-        (λ end told goes. subst (λ (q : Definitions × List (List ℕ)). CommandGoes configuration q.0 q.1 left.before left.behind (action_end true end)) (λ i. (sym d.is i, h.0 i))
-        (commands_are_named source w compilation stands resolvable asked.words.overrides asked.config analysis known d.settled root words (λ e. h.1 (sym h.0 ∙ e)) true left.before left.behind end told goes))
+        commanded_so left result (CommandTo configuration d.defined asked.words.arguments left result) (Performs (of_task.Command words) left.before left.behind)
+        (λ end told goes. certain_command source w stands clear_of_files (overrides_of asked.words.overrides) clear_of_names (string_bytes asked.config.base) (string_bytes asked.config.working_directory)
+        d.defined d.are d.read d.rows configuration asked.words.arguments left result (action_end true end)
+        (subst (λ (q : Definitions × List (List ℕ)). CommandGoes configuration q.0 q.1 left.before left.behind (action_end true end)) (λ i. (sym d.is i, h.0 i))
+        (commands_are_named source w compilation stands resolvable asked.words.overrides asked.config analysis known d.settled root words (λ e. h.1 (sym h.0 ∙ e)) true left.before left.behind end told goes)))
         words ends.performed ends.answers ends.ended
 
     -- ---- whatever is asked for
@@ -376,4 +409,11 @@ module _ (source : Given) (w : World) (stands : StandsFor source w) (clear_of_fi
 
   -- where the justfile's analysis has what is defined in the world
   pub told_defined : Defined → TellsPlaced compilation analysis asked root left result → TellsDefined asked root left result w
-  told_defined d told = record { defined = d.defined; are = d.are; read = d.read; rows = d.rows; words = told_words d told }
+  told_defined d told = record {
+    defined = d.defined;
+    are = d.are;
+    one = defined_once source w stands clear_of_files (overrides_of asked.words.overrides) clear_of_names (string_bytes asked.config.base) (string_bytes asked.config.working_directory) d.defined d.are d.read d.rows;
+    read = d.read;
+    rows = d.rows;
+    words = told_words d told;
+  }

@@ -11,7 +11,7 @@ use Rattle.just_run.specs.Named.{left_of}
 use Rattle.meaning_worlds.specs.Given.{Given, Text}
 use Rattle.just_run.specs.Early.{IsEarly}
 use Rattle.just_run.specs.Kinds.{MayAdd}
-use Rattle.just_run.specs.Plain.{AnswersPlain, IsPlain}
+use Rattle.just_run.specs.Plain.{IsPlain, RunsPlain}
 use Rattle.just_run.specs.Plans.{IsKeptBy, Plans}
 use Rattle.run_requests.specs.Requests.{IsText}
 use Rattle.just_run.specs.Sources.{AnswersSources, LooksAtAll, asked_of}
@@ -29,8 +29,8 @@ pub record State (H : Type 0) : Type 0 where
 
 -- Whatever is asked for, of whatever files: `given` is what is looked at for the root at a path.
 pub record Drives {H : Type 0} (goes : H → List Entry → H → Type 0) (inputs : Inputs) (given : Text → Given) (config : Config) (action : Action) (old : State H) (result : Result Outcome Fault) (new : State H) : Type 0 where
-  -- where no root file that can be read says more than plain recipes, a run is one of plain recipes
-  pub plain : action ≡ actions.Run → IsPlain inputs → AnswersPlain goes inputs (setup_of config) result old.host new.host
+  -- where no root file that can be read says more than plain recipes, a run is one of plain recipes, and each that agrees with the same answers records the same
+  pub plain : action ≡ actions.Run → IsPlain inputs → RunsPlain goes inputs (setup_of config) result old.host new.host
   -- a fault that is none of a run or of the output names a rule that is broken; then nothing was asked, handed over or written
   pub early : IfErr result (λ fault. IsEarly fault old.host old.written new.host new.written)
   -- where all files are looked at, the call is refused by a rule of files, modules, definitions, names or words exactly where one is broken, and else a run goes by what is defined by name

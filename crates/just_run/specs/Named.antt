@@ -7,20 +7,23 @@ use Rattle.just_host.specs.Record.{Record}
 use Rattle.just_host.specs.declared.entry.Entry.{Entry}
 use Rattle.evaluate_context.specs.Refusals.{fault_of}
 use Rattle.meaning_dialogues.specs.Faults.{memory}
-use Rattle.meaning_soundness.specs.Endings.{is_internal}
 use Rattle.meaning_opening.specs.Requests.{dotenv, opening}
 use Rattle.meaning_runs.specs.Failures.{by_code, by_signal, evaluation, next_by, not_confirmed, not_started}
 use Rattle.tree_items.specs.Lines.{no_sigils}
 use Rattle.meaning_runs.specs.Invokes.{Invoke}
 use Rattle.meaning_runs.specs.Tallies.{Tally}
-use Rattle.meaning_calls.specs.Named.{Definitions, RecipeName}
+use Rattle.meaning_runs.specs.Told.{Answers}
+use Rattle.meaning_calls.specs.Named.{Call, Definitions, RecipeName}
 use Rattle.meaning_calls.specs.Scopes.{Configuration}
 use Rattle.meaning_calls.specs.Calling.{without_next}
 use Rattle.just_meaning.specs.Actions.{ActionEnd, CommandGoes, EvaluateGoes}
 use Rattle.just_meaning.specs.Actions as actions
+use Rattle.just_meaning.specs.Agreement.{AgreesRun}
 use Rattle.just_meaning.specs.Menus.{menu_of}
 use Rattle.just_meaning.specs.Runs.{Runs, call_in}
 use Rattle.just_meaning.specs.Runs as named
+use Rattle.meaning_certain.specs.Certain.{IsCertainActionEnd, IsCertainFailure, IsCertainOpeningFailure}
+use Rattle.meaning_determined.specs.Determined.{GoAlike, nothing}
 use Rattle.run_plan.specs.Plans.{plan_text}
 use Rattle.run_requests.specs.declared.action.Action.{Action}
 use Rattle.run_requests.specs.declared.action.Action.TheVariants as asked
@@ -52,19 +55,14 @@ left_of old written failed new writes fails = record {
 abbrev pub End : Type 0
 End = named.Outcome ⊥
 
--- it ends with no evaluation of what a justfile doesn't meet whose names are known
+-- it ends with no evaluation of what a justfile doesn't meet whose names are known, which is `internal`
 abbrev pub IsCertainEnd : End → Type 0
 IsCertainEnd (named.broken rule) = Unit {0}
 IsCertainEnd (named.broken_word rule) = Unit {0}
 IsCertainEnd named.listed = Unit {0}
 IsCertainEnd named.unwritten = Unit {0}
-IsCertainEnd (named.not_opened (dotenv fault)) = Unit {0}
-IsCertainEnd (named.not_opened (opening fault)) = is_internal fault ≡ false
-IsCertainEnd (named.failed (by_code name code)) = Unit {0}
-IsCertainEnd (named.failed (by_signal name signal)) = Unit {0}
-IsCertainEnd (named.failed (not_started name)) = Unit {0}
-IsCertainEnd (named.failed (not_confirmed name)) = Unit {0}
-IsCertainEnd (named.failed (evaluation fault)) = is_internal fault ≡ false
+IsCertainEnd (named.not_opened failure) = IsCertainOpeningFailure failure
+IsCertainEnd (named.failed failure) = IsCertainFailure failure
 IsCertainEnd named.ran = Unit {0}
 
 -- P holds of how a run ended that is answered so, where memory sufficed
@@ -152,9 +150,14 @@ abbrev pub IsListed : Left → Result Outcome Fault → Type 0
 IsListed left result = (text : List ℕ) × Writes left.sent text outcomes.Listed result left.sends
 
 module _ (c : Configuration) (defined : Definitions) (words : List (List ℕ)) (left : Left) (result : Result Outcome Fault) where
-  -- modules open, and the invocations run over what was opened, with nothing done at first, from one record to another; no evaluation ends with `internal`
+  -- Each run of what the words invoke that agrees with answers that this one agrees with goes alike, whatever was recorded before it.
+  abbrev pub GoesAlike : {calls : List Call} {old new : List Entry} {t : Tally} {end : End} → Runs c defined calls old nothing new t end → Type 0
+  GoesAlike {old = old} {new = new} {t = t} {end = end} run = (f : Answers) → AgreesRun f c defined run → (others : List (RecipeName × List (List (List ℕ)))) → Invoke (menu_of defined) words others
+      → (old' new' : List Entry) (t' : Tally) (end' : End) (other : Runs c defined (map call_in others) old' nothing new' t' end') → AgreesRun f c defined other → GoAlike old new old' new' t t' end end'
+
+  -- Modules open, and the invocations run over what was opened, with nothing done at first, from one record to another; no evaluation ends with `internal`, and each such run goes alike.
   abbrev pub RunsBetween : List Entry → List Entry → List (RecipeName × List (List (List ℕ))) → End → Type 0
-  RunsBetween old new invocations end = IsCertainEnd end × ((t : Tally) × Runs c defined (map call_in invocations) old (record { calls = 0; entered = 0 }) new t end)
+  RunsBetween old new invocations end = IsCertainEnd end × ((t : Tally) × (run : Runs c defined (map call_in invocations) old nothing new t end) × GoesAlike run)
 
   abbrev pub RunsTo : List (RecipeName × List (List (List ℕ))) → End → Type 0
   RunsTo = RunsBetween left.before left.behind
@@ -176,12 +179,20 @@ module _ (c : Configuration) (defined : Definitions) (words : List (List ℕ)) (
     none : Invoke (menu_of defined) words [] → left.behind ≡ left.before → IsListed left result → PlansNamed
     plans : (invocations : List (RecipeName × List (List (List ℕ)))) → Invoke (menu_of defined) words invocations → PlansRun invocations → PlansNamed
 
+  -- values are told, and no evaluation ends with `internal`
+  abbrev pub ValuesTo : ActionEnd → Type 0
+  ValuesTo end = IsCertainActionEnd end × EvaluateGoes c defined true words left.before left.behind end
+
+  -- the one command is handed over, and no evaluation ends with `internal`
+  abbrev pub CommandTo : ActionEnd → Type 0
+  CommandTo end = IsCertainActionEnd end × CommandGoes c defined words left.before left.behind end
+
   -- what an action does that goes by what is defined; what a text of the root says is not said here
   abbrev pub GoesNamed : Action → Type 0
   GoesNamed asked.Run = RunsNamed
   GoesNamed asked.Plan = PlansNamed
-  GoesNamed asked.Evaluate = IfTold left result (EvaluateGoes c defined true words left.before left.behind)
-  GoesNamed asked.Command = IfCommanded left.exhausted result (CommandGoes c defined words left.before left.behind)
+  GoesNamed asked.Evaluate = IfTold left result ValuesTo
+  GoesNamed asked.Command = IfCommanded left.exhausted result CommandTo
   GoesNamed asked.Dump = Unit {0}
   GoesNamed asked.Format = Unit {0}
   GoesNamed asked.List = IsListed left result

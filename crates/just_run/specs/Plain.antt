@@ -1,13 +1,15 @@
 -- What a call does whose root file has plain recipes alone, or none that can be read.
-use Rattle.std.specs.Prelude.{◌≡◌, ℕ, List, Option, Some, None, Result, Ok, Err, IfErr}
+use Rattle.std.specs.Prelude.{◌≡◌, ◌++◌, ℕ, List, Option, Some, None, Result, Ok, Err, IfErr}
 use Rattle.just_host.specs.Record.{Record}
 use Rattle.just_host.specs.Follows.{Follows}
 use Rattle.just_host.specs.Kinds.{AsksWork}
 use Rattle.just_host.specs.declared.entry.Entry.{Entry}
+use Rattle.meaning_runs.specs.Told.{Agrees, Answers}
 use Rattle.run_plain.specs.Inputs.{Inputs}
 use Rattle.run_plain.specs.Setup.{Setup}
 use Rattle.run_plain.specs.Rules.{Rule, Broken, not_yet}
 use Rattle.run_plain.specs.Drives.{verdict, NamesBroken, IsRefusal, RunsOf, BeginsRunOf, IfRun}
+use Rattle.run_plain.specs.Goes.{Failure}
 use Rattle.run_plain.specs.declared.fault.Fault as plain_fault
 use Rattle.run_plain.specs.declared.fault.Fault.TheVariants as plain_faults
 use Rattle.run_plain.specs.declared.outcome.Outcome as plain_outcome
@@ -56,3 +58,12 @@ pub record AnswersPlain {H : Type 0} (goes : H → List Entry → H → Type 0) 
   pub asks : AsksWork s.dry_run goes old new
   pub piece : List Entry
   pub followed : Follows goes old piece new
+
+-- Each run of what the words name that agrees with answers that this piece agrees with records the same, and ends alike, whatever was recorded before it.
+abbrev pub RecordsTheSame : Inputs → Setup → List Entry → Option Failure → Type 0
+RecordsTheSame i s piece failure = (f : Answers) → Agrees f piece → (old piece' : List Entry) (failure' : Option Failure) → RunsOf i s old (old ++ piece') failure' → Agrees f piece' → (piece ≡ piece') × (failure ≡ failure')
+
+-- The call answers so, and where memory sufficed each run that agrees with the same answers records what it recorded, and ends alike.
+pub record RunsPlain {H : Type 0} (goes : H → List Entry → H → Type 0) (i : Inputs) (s : Setup) (result : Result Outcome Fault) (old new : Record H) : Type 0 where
+  pub answers : AnswersPlain goes i s result old new
+  pub same : IfRun new answers.answer (RecordsTheSame i s answers.piece)

@@ -53,10 +53,11 @@ module _ (asked : Asked) (root : Text) (left : Left) (result : Result Outcome Fa
     clear : MeansNamed defined asked.words.arguments asked.action → IfErr result IsOfNoRule
         → GoesNamed (configuration_of asked.config root w.expansion) defined asked.words.arguments left result asked.action → TellsWords w defined
 
-  -- so it is by what the world defines, whose files are read and whose modules have rows
+  -- so it is by what the world defines, which is one, whose files are read and whose modules have rows
   pub record TellsDefined (w : World) : Type 0 where
     pub defined : Definitions
     pub are : AreDefined w (overrides_of asked.words.overrides) (string_bytes asked.config.base) (string_bytes asked.config.working_directory) defined
+    pub one : (other : Definitions) → AreDefined w (overrides_of asked.words.overrides) (string_bytes asked.config.base) (string_bytes asked.config.working_directory) other → other ≡ defined
     pub read : IsRead w
     pub rows : HaveRows defined
     pub words : TellsWords w defined

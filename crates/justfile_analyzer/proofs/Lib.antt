@@ -1,3 +1,6 @@
+mod Asking
+mod Contained
 mod Kept
 mod MenuRows
 mod MenusMade
+mod Steadiness

@@ -1,8 +1,11 @@
+pub mod Calls
 pub mod Justfiles
 pub mod Listings
 pub mod MenuRows
 pub mod MenusOf
 pub mod Offers
 pub mod Printed
+pub mod Steady
+pub mod Values
 pub mod Variables
 pub mod Targets

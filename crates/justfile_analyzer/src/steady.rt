@@ -1,4 +1,11 @@
 //! Whether recipes are entered alike as dependencies and by words.
+ghost use Rattle.std.specs.Prelude.{◌≡◌, ◌++◌, ◌↔◌, ℕ, true, map, IfOk, OnOk};
+ghost use Rattle.std.specs.List.{flat_map, list_any};
+ghost use Rattle.tree_attribute_sets.specs.Sets.{items_of};
+ghost use Rattle.resolve_references.specs.References.{references_of};
+ghost use Rattle.justfile_analyzer.specs.Steady as spec;
+ghost use Rattle.justfile_analyzer.specs.Values.{has_value, value_at, value_in};
+
 use crate::calls::references_ask;
 use evaluate_context::{FunctionRef, Settings};
 use modules_compilation::{Compilation, Place};
@@ -12,7 +19,9 @@ use tree_items::{DependencyArgument, Parameter, Recipe, UnresolvedDependency};
 fn add_attribute<'src>(
     references: &mut References<'src>,
     attribute: &Attribute<'src>,
-) -> Result<(), AllocError> {
+) -> Result<(), AllocError>
+    ensures { OnOk result (references.new.list.items ≡ references.old.list.items ++ flat_map references_of (spec.first_of_attribute attribute.now)) }
+{
     match attribute {
         Attribute::Confirm(Some(prompt)) => references.add(prompt),
         Attribute::Env { key, value } => {
@@ -26,7 +35,9 @@ fn add_attribute<'src>(
 fn add_attributes<'src>(
     references: &mut References<'src>,
     attributes: &AttributeSet<'src>,
-) -> Result<(), AllocError> {
+) -> Result<(), AllocError>
+    ensures { OnOk result (references.new.list.items ≡ references.old.list.items ++ flat_map references_of (flat_map spec.first_of_item (items_of attributes.now))) }
+{
     for item in attributes.iter() {
         add_attribute(references, &item.attribute)?;
     }
@@ -36,7 +47,9 @@ fn add_attributes<'src>(
 fn add_parameter<'src>(
     references: &mut References<'src>,
     parameter: &Parameter<'src>,
-) -> Result<(), AllocError> {
+) -> Result<(), AllocError>
+    ensures { OnOk result (references.new.list.items ≡ references.old.list.items ++ flat_map references_of (spec.first_of_parameter parameter.now)) }
+{
     match &parameter.default {
         Some(default) => references.add(default),
         None => Ok(()),
@@ -46,7 +59,9 @@ fn add_parameter<'src>(
 fn add_parameters<'src>(
     references: &mut References<'src>,
     parameters: &[Parameter<'src>],
-) -> Result<(), AllocError> {
+) -> Result<(), AllocError>
+    ensures { OnOk result (references.new.list.items ≡ references.old.list.items ++ flat_map references_of (flat_map spec.first_of_parameter parameters.now)) }
+{
     for parameter in parameters {
         add_parameter(references, parameter)?;
     }
@@ -56,7 +71,9 @@ fn add_parameters<'src>(
 fn add_arguments<'src>(
     references: &mut References<'src>,
     arguments: &[DependencyArgument<'src>],
-) -> Result<(), AllocError> {
+) -> Result<(), AllocError>
+    ensures { OnOk result (references.new.list.items ≡ references.old.list.items ++ flat_map references_of (map spec.argument_of arguments.now)) }
+{
     for argument in arguments {
         references.add(&argument.expression)?;
     }
@@ -66,7 +83,9 @@ fn add_arguments<'src>(
 fn add_dependencies<'src>(
     references: &mut References<'src>,
     dependencies: &[UnresolvedDependency<'src>],
-) -> Result<(), AllocError> {
+) -> Result<(), AllocError>
+    ensures { OnOk result (references.new.list.items ≡ references.old.list.items ++ flat_map references_of (flat_map spec.arguments_of dependencies.now)) }
+{
     for dependency in dependencies {
         add_arguments(references, dependency.arguments.as_slice())?;
     }
@@ -77,7 +96,9 @@ fn add_dependencies<'src>(
 fn add_front<'src>(
     references: &mut References<'src>,
     recipe: &Recipe<'src, UnresolvedDependency<'src>>,
-) -> Result<(), AllocError> {
+) -> Result<(), AllocError>
+    ensures { OnOk result (references.new.list.items ≡ references.old.list.items ++ flat_map references_of (spec.first_of_front recipe.now)) }
+{
     add_attributes(references, &recipe.attributes)?;
     add_parameters(references, recipe.parameters.as_slice())?;
     add_dependencies(references, recipe.priors.as_slice())
@@ -89,7 +110,9 @@ fn add_recipe<'src>(
     references: &mut References<'src>,
     recipe: &Recipe<'src, UnresolvedDependency<'src>>,
     share_subsequents: bool,
-) -> Result<(), AllocError> {
+) -> Result<(), AllocError>
+    ensures { OnOk result (references.new.list.items ≡ references.old.list.items ++ flat_map references_of (spec.first_of_recipe share_subsequents recipe.now)) }
+{
     add_front(references, recipe)?;
     if share_subsequents {
         return add_dependencies(references, recipe.subsequents.as_slice());
@@ -104,7 +127,9 @@ fn added<'src>(
     compilation: &Compilation<'src>,
     places: &[Place],
     share_subsequents: bool,
-) -> Result<References<'src>, AllocError> {
+) -> Result<References<'src>, AllocError>
+    ensures { IfOk result (λ references. references.list.items ≡ flat_map references_of (flat_map (spec.first_at compilation.now share_subsequents) places.now)) }
+{
     let mut references = References::new(alloc);
     for place in places {
         if let Some(recipe) = compilation.recipe(*place) {
@@ -115,7 +140,9 @@ fn added<'src>(
 }
 
 /// Whether a parameter's value is replaced where words call its recipe.
-fn any_value(parameters: &[Parameter]) -> bool {
+fn any_value(parameters: &[Parameter]) -> bool
+    ensures { result ≡ list_any has_value parameters.now }
+{
     for parameter in parameters {
         if parameter.value.is_some() {
             return true;
@@ -125,7 +152,9 @@ fn any_value(parameters: &[Parameter]) -> bool {
 }
 
 /// Whether the recipe at the place has such a parameter.
-fn has_value(compilation: &Compilation, place: Place) -> bool {
+fn has_value(compilation: &Compilation, place: Place) -> bool
+    ensures { result ≡ value_at compilation.now place }
+{
     match compilation.recipe(place) {
         Some(recipe) => any_value(recipe.parameters.as_slice()),
         None => false,
@@ -133,7 +162,9 @@ fn has_value(compilation: &Compilation, place: Place) -> bool {
 }
 
 /// Whether one of the recipes has such a parameter.
-fn any_recipe_value(compilation: &Compilation, recipes: &[ResolvedRecipe]) -> bool {
+fn any_recipe_value(compilation: &Compilation, recipes: &[ResolvedRecipe]) -> bool
+    ensures { result ≡ list_any (value_in compilation.now) recipes.now }
+{
     for resolved in recipes {
         if has_value(compilation, resolved.place) {
             return true;
@@ -150,7 +181,9 @@ fn recipes_ask<'src>(
     places: &[Place],
     functions: &[FunctionRef<'_, 'src>],
     share_subsequents: bool,
-) -> Result<bool, AllocError> {
+) -> Result<bool, AllocError>
+    ensures { IfOk result (λ asks. (asks ≡ true) ↔ spec.AskFirst compilation.now functions.now share_subsequents places.now) }
+{
     let references = added(alloc, compilation, places, share_subsequents)?;
     references_ask(alloc, functions, references.as_slice())
 }
@@ -161,7 +194,9 @@ fn any_module_asks<'src>(
     compilation: &Compilation<'src>,
     lists: &[ModuleLists<'src, '_>],
     settings: &[Settings],
-) -> Result<bool, AllocError> {
+) -> Result<bool, AllocError>
+    ensures { IfOk result (λ asks. (asks ≡ true) ↔ ((home : ℕ) × spec.ModuleAsks compilation.now lists.now settings.now home)) }
+{
     let modules = compilation.modules.as_slice();
     for module in 0..modules.len().min(lists.len()).min(settings.len()) {
         let places = modules[module].recipes.as_slice();
@@ -190,7 +225,9 @@ pub fn is_steady<'src>(
     recipes: &[ResolvedRecipe<'src>],
     lists: &[ModuleLists<'src, '_>],
     settings: &[Settings],
-) -> Result<bool, AllocError> {
+) -> Result<bool, AllocError>
+    ensures { IfOk result (λ steady. (steady ≡ true) ↔ spec.AreSteadyAt compilation.now recipes.now lists.now settings.now) }
+{
     if any_recipe_value(compilation, recipes) {
         return Ok(false);
     }
