@@ -27,7 +27,7 @@ module _ (expansion : Expansion) where
   -- ---- attributes
 
   -- an attribute that is written plainly names no prompt, or it asks without one
-  plain_prompt : (k : AttributeKind) → (prompt_in expansion (plain k) ≡ None) ⊎ ((prompt_in expansion (plain k) ≡ Some None) × (k ≡ Confirm))
+  pub plain_prompt : (k : AttributeKind) → (prompt_in expansion (plain k) ≡ None) ⊎ ((prompt_in expansion (plain k) ≡ Some None) × (k ≡ Confirm))
   plain_prompt Android = inl refl
   plain_prompt Arg = inl refl
   plain_prompt Cache = inl refl
@@ -86,7 +86,7 @@ module _ (expansion : Expansion) where
   plain_script WorkingDirectory = inl refl
 
   -- what the first of a list that may be there has
-  first_skipped : {X Y : Type 0} (f : X → Option Y) (x : X) (xs : List X) → f x ≡ None → first expansion (filter_map f (x ∷ xs)) ≡ first expansion (filter_map f xs)
+  pub first_skipped : {X Y : Type 0} (f : X → Option Y) (x : X) (xs : List X) → f x ≡ None → first expansion (filter_map f (x ∷ xs)) ≡ first expansion (filter_map f xs)
   first_skipped f x xs e = ap (λ o. first expansion (cons_option o (filter_map f xs))) e
 
   first_taken : {X Y : Type 0} (f : X → Option Y) (x : X) (xs : List X) (y : Y) → f x ≡ Some y → first expansion (filter_map f (x ∷ xs)) ≡ Some y
@@ -156,7 +156,7 @@ module _ (expansion : Expansion) where
     -- ---- and back, where attributes that stand once are not repeated
 
     -- what stands once has no other of its kind behind it
-    alone : (a : AttributeShape) (as' : List AttributeShape) → repeated (a ∷ as') ≡ None → is_repeatable (kind_of a) ≡ false → (b : AttributeShape) → Contains as' b → kind_of b ≡ kind_of a → ⊥
+    pub alone : (a : AttributeShape) (as' : List AttributeShape) → repeated (a ∷ as') ≡ None → is_repeatable (kind_of a) ≡ false → (b : AttributeShape) → Contains as' b → kind_of b ≡ kind_of a → ⊥
     alone a as' single once b c same = by_test (is_repeatable (kind_of a)) once (list_any (is_like a) as') (any_like as' c) single
       where
         any_like : (xs : List AttributeShape) → Contains xs b → list_any (is_like a) xs ≡ true
@@ -175,7 +175,7 @@ module _ (expansion : Expansion) where
         by_test false e true f s = none-some a (sym s)
         by_test false e false f s = true≢false (sym f)
 
-    single_later : (a : AttributeShape) (as' : List AttributeShape) → repeated (a ∷ as') ≡ None → repeated as' ≡ None
+    pub single_later : (a : AttributeShape) (as' : List AttributeShape) → repeated (a ∷ as') ≡ None → repeated as' ≡ None
     single_later a as' single = by_test (not (is_repeatable (kind_of a)) && list_any (is_like a) as') single
       where
         by_test : (b : Bool) → (if b then Some a else repeated as') ≡ None → repeated as' ≡ None

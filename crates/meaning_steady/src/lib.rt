@@ -1,0 +1,4 @@
+//! Justfiles that are steady by places are steady by names.
+#![tactic(auto)]
+
+pub mod law;
