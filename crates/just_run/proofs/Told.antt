@@ -74,10 +74,10 @@ use Rattle.std.specs.List.{AllByRecursion}
 use Rattle.meaning_defined.specs.Defined.{IsDefinedBy, named_call}
 use Rattle.meaning_defined.proofs.Calls.{words_invoke_recipes}
 use Rattle.meaning_running.specs.Running.{IsToldEnd, IsToldTask, action_end, outcome_of}
-use Rattle.meaning_running.proofs.Commanding.{commands_are_named}
-use Rattle.meaning_running.proofs.Running.{calls_run_named}
-use Rattle.meaning_running.proofs.Telling.{evaluations_are_named}
-use Rattle.meaning_running.proofs.There.{root_there, target_there}
+use Rattle.meaning_running.proofs.Running.Commanding.{commands_are_named}
+use Rattle.meaning_running.proofs.Running.Calls.{calls_run_named}
+use Rattle.meaning_running.proofs.Running.Telling.{evaluations_are_named}
+use Rattle.meaning_running.proofs.Running.There.{root_there, target_there}
 use Rattle.meaning_running.specs.Told.{IsThere}
 use Rattle.meaning_names.specs.Names.{AreSingle, IsOfWorld}
 use Rattle.resolve_analysis.specs.declared.module_lists.ModuleLists.{ModuleLists}

@@ -1,10 +1,3 @@
-pub mod Written
-pub mod Ended
-pub mod Modules
-pub mod Values
-pub mod Jobs
-pub mod Opened
+pub mod Opening
+pub mod Steps
 pub mod Running
-pub mod Telling
-pub mod Commanding
-pub mod There

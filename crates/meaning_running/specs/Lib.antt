@@ -1,2 +1,6 @@
+pub mod Opened
+pub mod Openings
+pub mod Entered
+pub mod Steps
 pub mod Told
 pub mod Running

@@ -30,7 +30,7 @@ use Rattle.meaning_settings.specs.Settled.{AllSettle}
 use Rattle.meaning_menus.specs.Calls.{CallsAreThere}
 use Rattle.meaning_menus.specs.Targets.{IsNamedTarget}
 use Rattle.meaning_grounds.specs.Alike.{configuration_of}
-use Rattle.meaning_steps.specs.Steps.{IsTold, defined, named}
+use Rattle.meaning_running.specs.Steps.{IsTold, defined, named}
 use Rattle.meaning_running.specs.Told.{IsThere}
 
 -- ---- ends

@@ -24,8 +24,8 @@ use Rattle.meaning_resolved.specs.Definitions.{definitions_of}
 use Rattle.meaning_settings.specs.Settled.{AllSettle}
 use Rattle.meaning_menus.specs.Targets.{IsNamedTarget}
 use Rattle.meaning_grounds.specs.Alike.{AreOpenAlike, configuration_of}
-use Rattle.meaning_opened.specs.Opened.{AreReady}
-use Rattle.meaning_steps.specs.Steps.{defined}
+use Rattle.meaning_running.specs.Opened.{AreReady}
+use Rattle.meaning_running.specs.Steps.{defined}
 
 -- the module whose variables are told is one of the compilation
 abbrev pub IsThere : Compilation → EvaluationTarget → Type 0

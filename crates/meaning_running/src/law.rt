@@ -1,7 +1,24 @@
-//! Tasks are done by names as they are done by places.
+//! Modules open, steps of calls go, and tasks are done by names as by places.
 ghost use Rattle.just_meaning.specs.Driving.{CallRule};
+ghost use Rattle.meaning_running.specs.Openings.{TasksOpenByNames};
 ghost use Rattle.meaning_running.specs.Running.{CommandsAreNamed, EvaluationsAreNamed, RunsCalledAreNamed};
+ghost use Rattle.meaning_running.specs.Steps.{RunsAreNamed, StepsAreNamed};
 ghost use Rattle.meaning_running.specs.Told.{JobsAreNamed, ValuesAreNamed};
+
+/// For any task, modules open by names as they open by places.
+pub fn tasks_open_by_names()
+    ensures { TasksOpenByNames }
+{}
+
+/// Steps of calls by the places of their recipes are steps by their names, where an analyzed justfile is open by numbers and by names.
+pub fn steps_are_named()
+    ensures { StepsAreNamed }
+{}
+
+/// A run of calls by places is one by their names.
+pub fn runs_are_named()
+    ensures { RunsAreNamed }
+{}
 
 /// Calls that run by the places of their recipes run by their names, from the opening of modules on.
 pub fn calls_run_by_names()

@@ -1,4 +1,4 @@
-//! Tasks of a resolved justfile, from their opening on, by places and by names.
+//! Modules of a resolved justfile open, steps of calls go, and tasks are done by names as they are by places.
 #![tactic(auto)]
 
 pub mod law;

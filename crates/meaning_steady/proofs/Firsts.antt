@@ -32,7 +32,7 @@ use Rattle.just_meaning.specs.Rows.{first, pair_in, parameter_row, prompt_in, re
 use Rattle.just_meaning.specs.Steady.{EvaluatesFirst, looked}
 use Rattle.just_meaning.specs.Steady as named
 use Rattle.meaning_menus.proofs.Slots.{in_order_already}
-use Rattle.meaning_opened.proofs.Expressions.{alone, first_skipped, plain_prompt, single_later}
+use Rattle.meaning_running.proofs.Opening.Expressions.{alone, first_skipped, plain_prompt, single_later}
 
 -- the expression has the shape, and is one of these
 abbrev pub IsOneOf : List Expression → Shape → Type 0

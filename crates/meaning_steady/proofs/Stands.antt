@@ -63,7 +63,7 @@ use Rattle.meaning_resolved.proofs.Recipes.{recipes_stand}
 use Rattle.meaning_resolved.proofs.Settings.{is_on}
 use Rattle.meaning_settings.specs.Settled.{AllSettle}
 use Rattle.meaning_menus.proofs.Table.{placed_row, row_kept}
-use Rattle.meaning_opened.proofs.Written.{attributes_stand_once}
+use Rattle.meaning_running.proofs.Opening.Written.{attributes_stand_once}
 use Rattle.meaning_steady.specs.Stands.{IsSteadyAt, StandsAlike}
 use Rattle.meaning_steady.proofs.Asked.{asks_named, asks_placed}
 use Rattle.meaning_steady.proofs.Asked as asked

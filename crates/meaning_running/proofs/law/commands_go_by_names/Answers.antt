@@ -1,4 +1,4 @@
-use Rattle.meaning_running.proofs.Commanding.{commands_are_named}
+use Rattle.meaning_running.proofs.Running.Commanding.{commands_are_named}
 use Rattle.meaning_running.proofs.law.commands_go_by_names.Goals as goal
 
 pub returns : goal.returns

@@ -1,4 +1,4 @@
-use Rattle.meaning_running.proofs.Values.{values_are_named}
+use Rattle.meaning_running.proofs.Running.Values.{values_are_named}
 use Rattle.meaning_running.proofs.law.values_told_by_names.Goals as goal
 
 pub returns : goal.returns

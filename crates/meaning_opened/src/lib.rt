@@ -1,4 +1,0 @@
-//! Modules that open by places open by names.
-#![tactic(auto)]
-
-pub mod law;

@@ -1,4 +1,0 @@
-//! Steps of calls by places are steps by names.
-#![tactic(auto)]
-
-pub mod law;
