@@ -1,7 +1,7 @@
 -- Words invoke one list at most, and none where they break a rule.
 use Rattle.std.proofs.Common.{◌≡◌, List, [], ◌∷◌, ℕ, true, false, refl, sym, ◌∙◌, ap, subst}
 use Rattle.meaning_runs.specs.Words.{Slot, Words}
-use Rattle.meaning_runs.specs.Invokes.{WordRule, found, refused, find, At, takes, enough, refuses, Takes, no_more, one_more, Refuses, here, later, beginning, is_complete, groups_of, Invokes, Invoke, listed, last, more, BreaksFirst, unfound, untaken, incomplete, BreaksWords, at_first, behind}
+use Rattle.meaning_runs.specs.Invokes.{OptionRule, WordRule, found, refused, find, At, takes, enough, refuses, Takes, no_more, one_more, Refuses, here, later, beginning, is_complete, groups_of, Invokes, Invoke, listed, last, more, BreaksFirst, unfound, untaken, incomplete, BreaksWords, at_first, behind}
 
 -- a recipe takes in one way
 takes_once : {slots : List Slot} {at a b : At} → Takes slots at a → Takes slots at b → a ≡ b
@@ -19,7 +19,7 @@ takes_once {slots = slots} {b = b} (one_more {mid = m} e s) (one_more {mid = n} 
     takes_once s (subst (λ x. Takes slots x b) (sym same) t)
 
 -- and not where a rule is broken
-takes_none : {slots : List Slot} {at a : At} {rule : WordRule} → Takes slots at a → Refuses slots at rule → ⊥
+takes_none : {slots : List Slot} {at a : At} {rule : OptionRule} → Takes slots at a → Refuses slots at rule → ⊥
 takes_none {rule = rule} (no_more e) (here f) = let g : enough ≡ refuses rule = sym e ∙ f in cc
 takes_none (no_more e) (later {mid = m} f t) = let g : enough ≡ takes m = sym e ∙ f in cc
 takes_none {rule = rule} (one_more {mid = m} e s) (here f) = let g : takes m ≡ refuses rule = sym e ∙ f in cc
@@ -57,7 +57,7 @@ module _ {Module Recipe : Type 0} (w : Words Module Recipe) where
 
   first_none : {words rest : List (List ℕ)} {r : Recipe} {groups : List (List (List ℕ))} {rule : WordRule} → Invokes w words r groups rest → BreaksFirst w words rule → ⊥
   first_none {r = r} {rule = rule} i (unfound f) = let g : found r i.behind ≡ refused rule = sym i.named ∙ f in cc
-  first_none {words = words} {r = r} {rule = rule} i (untaken f t) =
+  first_none {words = words} {r = r} i (untaken {rule = rule} f t) =
       let s = same_found words i.named f in
       takes_none i.taken (subst (λ (q : Recipe × List (List ℕ)). Refuses (w.slots q.0) (beginning (w.slots q.0) q.1) rule) (λ k. (sym s.0 k, sym s.1 k)) t)
   first_none {words = words} {r = r} i (incomplete {end = end} f t c) =

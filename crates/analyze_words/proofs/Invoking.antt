@@ -12,7 +12,7 @@ use Rattle.analyze_words.specs.Takings.{WordsGive}
 use Rattle.meaning_runs.specs.Words.{Words}
 use Rattle.meaning_runs.specs.Invokes as spec
 use Rattle.meaning_runs.specs.Invokes.{WordRule, found, refused, find, Invokes, IsAsked, Invoke, listed, last, more, BreaksFirst, unfound, BreaksWords, at_first, behind}
-use Rattle.analyze_words.specs.Worded.{row_of, slot_of, slots_of, words_of}
+use Rattle.analyze_words.specs.Worded.{name_of, row_of, slot_of, slots_of, words_of}
 
 module _ (w : Words ℕ ℕ) where
   -- ---- the first recipe
@@ -21,7 +21,7 @@ module _ (w : Words ℕ ℕ) where
   pub first_read : (words rest after : List (List ℕ)) (r : ℕ) (groups : List (List (List ℕ))) → find w w.root words ≡ found r after → WordsGive (w.slots r) after groups rest → Invokes w words r groups rest
   first_read words rest after r groups e g = record { behind = after; end = g.end; named = e; taken = g.taken; complete = g.complete; grouped = g.grouped; left = g.left }
 
-  pub words_break : (words after : List (List ℕ)) (r : ℕ) (rule : WordRule) → find w w.root words ≡ found r after → WordsBreak (w.slots r) after rule → BreaksFirst w words rule
+  pub words_break : (words after : List (List ℕ)) (r : ℕ) (rule : WordRule) → find w w.root words ≡ found r after → WordsBreak (w.name r) (w.slots r) after rule → BreaksFirst w words rule
   words_break words after r rule e (untaken u) = spec.untaken e u
   words_break words after r rule e (incomplete t c) = spec.incomplete e t c
 
@@ -76,8 +76,8 @@ module _ (menus : Menus) (words after : List (List ℕ)) (r : ℕ) (callable : C
     invokes = first_read (words_of menus) words rest after r invocation.groups.items e (subst (λ slots. WordsGive slots after invocation.groups.items rest) (sym (by_menus f)) g);
   }
 
-  pub breaks_first : (fault : WordFault) → find (words_of menus) 0 words ≡ found r after → slice_get menus.recipes.items r ≡ Some callable → IsRefusedBy (WordsBreak (map slot_of callable.slots.items) after) fault → IsRefusedBy (BreaksFirst (words_of menus) words) fault
-  breaks_first fault e f b = λ some. let x = b some in (x.0, (x.1.0, words_break (words_of menus) words after r x.0 e (subst (λ slots. WordsBreak slots after x.0) (sym (by_menus f)) x.1.1)))
+  pub breaks_first : (fault : WordFault) → find (words_of menus) 0 words ≡ found r after → slice_get menus.recipes.items r ≡ Some callable → IsRefusedBy (WordsBreak callable.name.now (map slot_of callable.slots.items) after) fault → IsRefusedBy (BreaksFirst (words_of menus) words) fault
+  breaks_first fault e f b = λ some. let x = b some in (x.0, (x.1.0, words_break (words_of menus) words after r x.0 e (subst (λ o. WordsBreak (name_of o) (slots_of o) after x.0) (sym f) x.1.1)))
 
 -- where words name no recipe
 pub names_none : (menus : Menus) (words : List (List ℕ)) (fault : WordFault) → IsRefusedBy (λ rule. find (words_of menus) 0 words ≡ refused rule) fault → IsRefusedBy (BreaksFirst (words_of menus) words) fault

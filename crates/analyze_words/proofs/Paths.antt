@@ -1,5 +1,5 @@
 -- Paths of words, part by part.
-use Rattle.std.proofs.Common.{◌≡◌, ℕ, zero, suc, ◌<◌, ◌≤◌, Bool, true, false, ◌&&◌, ◌||◌, cond, ltb, map, eqb, eqb-true, List, [], ◌∷◌, ◌++◌, take, drop, length, Option, Some, None, refl, sym, ap, ◌∙◌, arith}
+use Rattle.std.proofs.Common.{◌≡◌, ℕ, zero, suc, ◌<◌, ◌≤◌, true, false, ◌&&◌, ◌||◌, cond, ltb, map, eqb, eqb-true, List, [], ◌∷◌, ◌++◌, take, drop, length, Option, Some, None, refl, sym, ap, ◌∙◌, arith}
 use Rattle.std.specs.Prelude.{codes}
 use Rattle.std.specs.List.{onto_first, list_any, slice_get}
 use Rattle.std.specs.Option.{option_and_then}
@@ -12,9 +12,9 @@ use Rattle.analyze_words.specs.declared.menu.Slot as menu
 use Rattle.analyze_words.specs.Menus.{default_in}
 use Rattle.modules_compilation.specs.Modulepaths.{pieces}
 use Rattle.meaning_runs.specs.Words.{Words, WordMeaning, recipe, submodule}
-use Rattle.meaning_runs.specs.Invokes.{WordRule, unknown_recipe, unknown_module, Followed, means, lost, follow, Found, found, refused, no_recipes, default_needs_arguments, default_of, find}
+use Rattle.meaning_runs.specs.Invokes.{WordRule, Followed, means, lost, follow, found, refused, no_recipes, default_needs_arguments, default_of, find}
 use Rattle.analyze_words.specs.Broken.{PathBreaks}
-use Rattle.analyze_words.specs.Worded.{inner_of, slot_of, slots_of, there, words_of}
+use Rattle.analyze_words.specs.Worded.{inner_of, name_of, slot_of, slots_of, there, words_of}
 use Rattle.analyze_words.proofs.Groups.{by_test, ltb_suc}
 
 -- ---- a text cut at `::`
@@ -81,10 +81,10 @@ module _ (w : Words ℕ ℕ) where
   pub find_inner : (here inner : ℕ) (text : List ℕ) (words : List (List ℕ)) → follow w here (pieces text) ≡ means (Some (submodule inner)) → find w here (text ∷ words) ≡ find w inner words
   find_inner here inner text words e = rw e refl
 
-  pub find_broken : (here : ℕ) (text : List ℕ) (words : List (List ℕ)) (rule : WordRule) → PathBreaks (follow w here (pieces text)) rule → find w here (text ∷ words) ≡ refused rule
+  pub find_broken : (here : ℕ) (text : List ℕ) (words : List (List ℕ)) (rule : WordRule) → PathBreaks text (follow w here (pieces text)) rule → find w here (text ∷ words) ≡ refused rule
   find_broken here text words rule b = cases (follow w here (pieces text)) refl b
     where
-      cases : (f : Followed ℕ ℕ) → follow w here (pieces text) ≡ f → PathBreaks f rule → find w here (text ∷ words) ≡ refused rule
+      cases : (f : Followed ℕ ℕ) → follow w here (pieces text) ≡ f → PathBreaks text f rule → find w here (text ∷ words) ≡ refused rule
       cases lost e r = rw e (ap refused (sym r))
       cases (means None) e r = rw e (ap refused (sym r))
       cases (means (Some meaning)) e r = absurd r
@@ -113,14 +113,15 @@ module _ (menus : Menus) (place : ℕ) where
       ap (λ o. default_of (words_of menus) (option_and_then (there menus) o)) e ∙ ap (default_of (words_of menus)) (cond-false (ltb r (length menus.recipes.items)) (Some r) None (none_past menus.recipes.items r f))
 
   default_here : (r : ℕ) (callable : Callable) → default_in menus place ≡ Some r → slice_get menus.recipes.items r ≡ Some callable
-      → default_of (words_of menus) ((words_of menus).default place) ≡ cond (list_any (λ slot. slot.required) callable.slots.items) (refused default_needs_arguments) (found r [])
+      → default_of (words_of menus) ((words_of menus).default place) ≡ cond (list_any (λ slot. slot.required) callable.slots.items) (refused (default_needs_arguments callable.name.now)) (found r [])
   default_here r callable e f =
       ap (λ o. default_of (words_of menus) (option_and_then (there menus) o)) e
       ∙ ap (default_of (words_of menus)) (cond-true (ltb r (length menus.recipes.items)) (Some r) None (lt-ltb r (length menus.recipes.items) (slice_get_within menus.recipes.items r callable f)))
-      ∙ ap (λ o. cond (list_any (λ slot. slot.required) (slots_of o)) (refused default_needs_arguments) (found r [])) f ∙ ap (λ b. cond b (refused default_needs_arguments) (found r [])) (sym (any_map callable.slots.items))
+      ∙ ap (λ o. cond (list_any (λ slot. slot.required) (slots_of o)) (refused (default_needs_arguments (name_of o))) (found r [])) f
+      ∙ ap (λ b. cond b (refused (default_needs_arguments callable.name.now)) (found r [])) (sym (any_map callable.slots.items))
 
   pub default_needs : (r : ℕ) (callable : Callable) → default_in menus place ≡ Some r → slice_get menus.recipes.items r ≡ Some callable → list_any (λ slot. slot.required) callable.slots.items ≡ true
-      → default_of (words_of menus) ((words_of menus).default place) ≡ refused default_needs_arguments
+      → default_of (words_of menus) ((words_of menus).default place) ≡ refused (default_needs_arguments callable.name.now)
   default_needs r callable e f b = default_here r callable e f ∙ cond-true (list_any (λ slot. slot.required) callable.slots.items) _ _ b
 
   pub default_found : (r : ℕ) (callable : Callable) → default_in menus place ≡ Some r → slice_get menus.recipes.items r ≡ Some callable → list_any (λ slot. slot.required) callable.slots.items ≡ false

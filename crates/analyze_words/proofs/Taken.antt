@@ -12,11 +12,11 @@ use Rattle.std.proofs.lemmas.Option.{slice_get-map, slice_get_within, some_pair_
 use Rattle.analyze_words.specs.declared.menu.Slot as menu
 use Rattle.analyze_words.specs.declared.fault.WordFault.{WordFault}
 use Rattle.analyze_words.specs.declared.taking.Taking.{Taking}
-use Rattle.analyze_words.specs.Broken.{IsRefusedBy}
+use Rattle.analyze_words.specs.Broken.{IsRefusedIn}
 use Rattle.analyze_words.specs.Menus as menus
 use Rattle.analyze_words.specs.Takings.{pushed, room, ArePlaces, IsAt, IsSameButGroups, StepsTo, TakesTo, value_given, is_lacking}
 use Rattle.meaning_runs.specs.Words.{Slot, is_option, by_place, has_room, option_named, least}
-use Rattle.meaning_runs.specs.Invokes.{WordRule, unknown_option, option_value, Taken, word, value, placed_words, values_given, At, Step, takes, enough, refuses, is_dashed, before_equals, behind_equals, with_word, with_value, option_valued, is_used, by_slot, by_option, next, Takes, no_more, one_more, Refuses, here, later, beginning, all_given, is_complete}
+use Rattle.meaning_runs.specs.Invokes.{OptionRule, no_option, wrong_value, Taken, word, placed_words, values_given, At, takes, enough, refuses, is_dashed, before_equals, behind_equals, with_word, with_value, option_valued, is_used, by_slot, by_option, next, Takes, no_more, one_more, Refuses, here, later, beginning, all_given, is_complete}
 use Rattle.analyze_words.specs.Worded.{slot_of}
 use Rattle.analyze_words.proofs.Groups.{by_test, no_groups, placed_word, placed_value, groups_word, groups_value, option_group, room_next, room_stays, room_first, has_room_is, some_lacks, option_same}
 use Rattle.analyze_words.proofs.Names.{option_at}
@@ -113,22 +113,22 @@ options_end slots old new at words h g n f o p = record {
 
 -- ---- options
 
-module _ (slots : List menu.Slot) (at : At) (name : List ℕ) (text : Option (List ℕ)) (words : List (List ℕ)) where
-  pub unnamed : option_named (map slot_of slots) name ≡ None → by_option (map slot_of slots) at (option_named (map slot_of slots) name) text words ≡ refuses unknown_option
-  unnamed e = ap (λ place. by_option (map slot_of slots) at place text words) e
+module _ (slots : List menu.Slot) (at : At) (option name : List ℕ) (text : Option (List ℕ)) (words : List (List ℕ)) where
+  pub unnamed : option_named (map slot_of slots) name ≡ None → by_option (map slot_of slots) at option (option_named (map slot_of slots) name) text words ≡ refuses (no_option option)
+  unnamed e = ap (λ place. by_option (map slot_of slots) at option place text words) e
 
-  pub missing : (place : ℕ) → option_named (map slot_of slots) name ≡ Some place → slice_get slots place ≡ None → by_option (map slot_of slots) at (option_named (map slot_of slots) name) text words ≡ refuses unknown_option
-  missing place e f = ap (λ place. by_option (map slot_of slots) at place text words) e ∙ ap (λ slot. by_slot at place slot text words) (slice_get-map slot_of slots place ∙ ap (option_map slot_of) f)
+  pub missing : (place : ℕ) → option_named (map slot_of slots) name ≡ Some place → slice_get slots place ≡ None → by_option (map slot_of slots) at option (option_named (map slot_of slots) name) text words ≡ refuses (no_option option)
+  missing place e f = ap (λ place. by_option (map slot_of slots) at option place text words) e ∙ ap (λ slot. by_slot at option place slot text words) (slice_get-map slot_of slots place ∙ ap (option_map slot_of) f)
 
   at_slot : (place : ℕ) (slot : menu.Slot) → option_named (map slot_of slots) name ≡ Some place → slice_get slots place ≡ Some slot
-      → by_option (map slot_of slots) at (option_named (map slot_of slots) name) text words ≡ cond (is_used (values_given place at.taken) && not slot.multiple) (refuses option_value) (option_valued at place slot.takes_value text words)
-  at_slot place slot e f = ap (λ place. by_option (map slot_of slots) at place text words) e ∙ ap (λ one. by_slot at place one text words) (slot_at slots place slot f)
+      → by_option (map slot_of slots) at option (option_named (map slot_of slots) name) text words ≡ cond (is_used (values_given place at.taken) && not slot.multiple) (refuses (wrong_value option)) (option_valued at option place slot.takes_value text words)
+  at_slot place slot e f = ap (λ place. by_option (map slot_of slots) at option place text words) e ∙ ap (λ one. by_slot at option place one text words) (slot_at slots place slot f)
 
   pub used : (place : ℕ) (slot : menu.Slot) → option_named (map slot_of slots) name ≡ Some place → slice_get slots place ≡ Some slot → (is_used (values_given place at.taken) && not slot.multiple) ≡ true
-      → by_option (map slot_of slots) at (option_named (map slot_of slots) name) text words ≡ refuses option_value
+      → by_option (map slot_of slots) at option (option_named (map slot_of slots) name) text words ≡ refuses (wrong_value option)
   used place slot e f u = at_slot place slot e f ∙ cond-true (is_used (values_given place at.taken) && not slot.multiple) _ _ u
 
-  unvalued : (place : ℕ) (takes_value : Bool) (text : Option (List ℕ)) (words : List (List ℕ)) → value_given takes_value text words ≡ None → option_valued at place takes_value text words ≡ refuses option_value
+  unvalued : (place : ℕ) (takes_value : Bool) (text : Option (List ℕ)) (words : List (List ℕ)) → value_given takes_value text words ≡ None → option_valued at option place takes_value text words ≡ refuses (wrong_value option)
   unvalued place true (Some one) words e = absurd (cc e)
   unvalued place true None (one ∷ others) e = absurd (cc e)
   unvalued place true None [] e = refl
@@ -136,7 +136,7 @@ module _ (slots : List menu.Slot) (at : At) (name : List ℕ) (text : Option (Li
   unvalued place false None words e = absurd (cc e)
 
   valued : (place : ℕ) (takes_value : Bool) (text : Option (List ℕ)) (words : List (List ℕ)) (given : List ℕ) (left : List (List ℕ)) → value_given takes_value text words ≡ Some (given, left)
-      → option_valued at place takes_value text words ≡ takes (with_value at place given left)
+      → option_valued at option place takes_value text words ≡ takes (with_value at place given left)
   valued place true (Some one) words given left e = let s = some_pair_parts one given words left e in λ k. takes (with_value at place (s.0 k) (s.1 k))
   valued place true None (one ∷ others) given left e = let s = some_pair_parts one given others left e in λ k. takes (with_value at place (s.0 k) (s.1 k))
   valued place true None [] given left e = absurd (cc e)
@@ -144,11 +144,11 @@ module _ (slots : List menu.Slot) (at : At) (name : List ℕ) (text : Option (Li
   valued place false None words given left e = let s = some_pair_parts (codes "true") given words left e in λ k. takes (with_value at place (s.0 k) (s.1 k))
 
   pub without_value : (place : ℕ) (slot : menu.Slot) → option_named (map slot_of slots) name ≡ Some place → slice_get slots place ≡ Some slot → (is_used (values_given place at.taken) && not slot.multiple) ≡ false
-      → value_given slot.takes_value text words ≡ None → by_option (map slot_of slots) at (option_named (map slot_of slots) name) text words ≡ refuses option_value
+      → value_given slot.takes_value text words ≡ None → by_option (map slot_of slots) at option (option_named (map slot_of slots) name) text words ≡ refuses (wrong_value option)
   without_value place slot e f u v = at_slot place slot e f ∙ cond-false (is_used (values_given place at.taken) && not slot.multiple) _ _ u ∙ unvalued place slot.takes_value text words v
 
   pub with_its_value : (place : ℕ) (slot : menu.Slot) (given : List ℕ) (left : List (List ℕ)) → option_named (map slot_of slots) name ≡ Some place → slice_get slots place ≡ Some slot → (is_used (values_given place at.taken) && not slot.multiple) ≡ false
-      → value_given slot.takes_value text words ≡ Some (given, left) → by_option (map slot_of slots) at (option_named (map slot_of slots) name) text words ≡ takes (with_value at place given left)
+      → value_given slot.takes_value text words ≡ Some (given, left) → by_option (map slot_of slots) at option (option_named (map slot_of slots) name) text words ≡ takes (with_value at place given left)
   with_its_value place slot given left e f u v = at_slot place slot e f ∙ cond-false (is_used (values_given place at.taken) && not slot.multiple) _ _ u ∙ valued place slot.takes_value text words given left v
 
 -- a group is used where its option is
@@ -159,30 +159,30 @@ used_group slots taking at name place slot h e f =
     ap (λ gs. get_or gs place []) h.grouped ∙ option_group (map slot_of slots) at.taken place (slot_of slot) s (option_at (map slot_of slots) name place (slot_of slot) e s)
 
 -- the option's value is taken
-pub option_taken : (slots : List menu.Slot) (old new : Taking) (at : At) (name : List ℕ) (place : ℕ) (slot : menu.Slot) (text : Option (List ℕ)) (words left : List (List ℕ)) (given : List ℕ) → IsAt slots old at → option_named (map slot_of slots) name ≡ Some place
+pub option_taken : (slots : List menu.Slot) (old new : Taking) (at : At) (option name : List ℕ) (place : ℕ) (slot : menu.Slot) (text : Option (List ℕ)) (words left : List (List ℕ)) (given : List ℕ) → IsAt slots old at → option_named (map slot_of slots) name ≡ Some place
     → slice_get slots place ≡ Some slot → (is_used (get_or old.groups.items place []) && not slot.multiple) ≡ false → value_given slot.takes_value text words ≡ Some (given, left) → new.groups.items ≡ pushed old.groups.items place given → IsSameButGroups old new
-    → StepsTo slots (by_option (map slot_of slots) at (option_named (map slot_of slots) name) text words) new left
-option_taken slots old new at name place slot text words left given h e f u v g same =
+    → StepsTo slots (by_option (map slot_of slots) at option (option_named (map slot_of slots) name) text words) new left
+option_taken slots old new at option name place slot text words left given h e f u v g same =
     let s = slot_at slots place slot f in
     let free = ap (λ vs. is_used vs && not slot.multiple) (sym (used_group slots old at name place slot h e f)) ∙ u in
     record {
       mid = with_value at place given left;
-      is = with_its_value slots at name text words place slot given left e f free v;
+      is = with_its_value slots at option name text words place slot given left e f free v;
       stands = taken_value slots old new at place (slot_of slot) given left h g same s (option_at (map slot_of slots) name place (slot_of slot) e s);
       left = refl;
     }
 
 -- it stands twice, or has no value
-pub option_again : (slots : List menu.Slot) (old : Taking) (at : At) (name : List ℕ) (place : ℕ) (slot : menu.Slot) (text : Option (List ℕ)) (words : List (List ℕ)) → IsAt slots old at → option_named (map slot_of slots) name ≡ Some place
-    → slice_get slots place ≡ Some slot → (is_used (get_or old.groups.items place []) && not slot.multiple) ≡ true → by_option (map slot_of slots) at (option_named (map slot_of slots) name) text words ≡ refuses option_value
-option_again slots old at name place slot text words h e f u =
-    used slots at name text words place slot e f (ap (λ vs. is_used vs && not slot.multiple) (sym (used_group slots old at name place slot h e f)) ∙ u)
+pub option_again : (slots : List menu.Slot) (old : Taking) (at : At) (option name : List ℕ) (place : ℕ) (slot : menu.Slot) (text : Option (List ℕ)) (words : List (List ℕ)) → IsAt slots old at → option_named (map slot_of slots) name ≡ Some place
+    → slice_get slots place ≡ Some slot → (is_used (get_or old.groups.items place []) && not slot.multiple) ≡ true → by_option (map slot_of slots) at option (option_named (map slot_of slots) name) text words ≡ refuses (wrong_value option)
+option_again slots old at option name place slot text words h e f u =
+    used slots at option name text words place slot e f (ap (λ vs. is_used vs && not slot.multiple) (sym (used_group slots old at name place slot h e f)) ∙ u)
 
-pub option_unvalued : (slots : List menu.Slot) (old : Taking) (at : At) (name : List ℕ) (place : ℕ) (slot : menu.Slot) (text : Option (List ℕ)) (words : List (List ℕ)) → IsAt slots old at → option_named (map slot_of slots) name ≡ Some place
+pub option_unvalued : (slots : List menu.Slot) (old : Taking) (at : At) (option name : List ℕ) (place : ℕ) (slot : menu.Slot) (text : Option (List ℕ)) (words : List (List ℕ)) → IsAt slots old at → option_named (map slot_of slots) name ≡ Some place
     → slice_get slots place ≡ Some slot → (is_used (get_or old.groups.items place []) && not slot.multiple) ≡ false → value_given slot.takes_value text words ≡ None
-    → by_option (map slot_of slots) at (option_named (map slot_of slots) name) text words ≡ refuses option_value
-option_unvalued slots old at name place slot text words h e f u v =
-    without_value slots at name text words place slot e f (ap (λ vs. is_used vs && not slot.multiple) (sym (used_group slots old at name place slot h e f)) ∙ u) v
+    → by_option (map slot_of slots) at option (option_named (map slot_of slots) name) text words ≡ refuses (wrong_value option)
+option_unvalued slots old at option name place slot text words h e f u v =
+    without_value slots at option name text words place slot e f (ap (λ vs. is_used vs && not slot.multiple) (sym (used_group slots old at name place slot h e f)) ∙ u) v
 
 -- ---- one word
 
@@ -199,7 +199,7 @@ pub next_ends : (slots : List Slot) (at : At) (text : List ℕ) (words : List (L
 next_ends slots at text words e f = cond-true (at.options && is_dashed text) _ _ e ∙ cond-true (bytes_eq text (codes "--")) _ _ f
 
 pub next_option : (slots : List Slot) (at : At) (text : List ℕ) (words : List (List ℕ)) → (at.options && is_dashed text) ≡ true → bytes_eq text (codes "--") ≡ false
-    → next slots at (text ∷ words) ≡ by_option slots at (option_named slots (before_equals text)) (behind_equals text) words
+    → next slots at (text ∷ words) ≡ by_option slots at text (option_named slots (before_equals text)) (behind_equals text) words
 next_option slots at text words e f = cond-true (at.options && is_dashed text) _ _ e ∙ cond-false (bytes_eq text (codes "--")) _ _ f
 
 -- ---- all words
@@ -210,7 +210,7 @@ pub record IsTaking (slots : List menu.Slot) (start : At) (taking : Taking) (wor
   pub stands : IsAt slots taking at
   pub left : at.words ≡ words
   pub more : (end : At) → Takes (map slot_of slots) at end → Takes (map slot_of slots) start end
-  pub worse : (rule : WordRule) → Refuses (map slot_of slots) at rule → Refuses (map slot_of slots) start rule
+  pub worse : (rule : OptionRule) → Refuses (map slot_of slots) at rule → Refuses (map slot_of slots) start rule
 
 pub taking_starts : (slots : List menu.Slot) (start : At) (taking : Taking) (words : List (List ℕ)) → IsAt slots taking start → start.words ≡ words → IsTaking slots start taking words
 taking_starts slots start taking words h e = record { at = start; stands = h; left = e; more = λ end t. t; worse = λ rule r. r }
@@ -231,9 +231,11 @@ taking_step slots start old new left others text None h e f = let m = f h.at h.s
 taking_step slots start old new left others text (Some rest) h e f =
     taking_more slots start old new left rest.now h (subst (λ ws. StepsTo slots (next (map slot_of slots) h.at ws) new rest.now) (sym e) (f h.at h.stands))
 
-pub taking_fails : (slots : List menu.Slot) (start : At) (old : Taking) (left others : List (List ℕ)) (text : List ℕ) (fault : WordFault) → IsTaking slots start old left → left ≡ text ∷ others
-    → ((at : At) → IsAt slots old at → IsRefusedBy (λ rule. next (map slot_of slots) at (text ∷ others) ≡ refuses rule) fault) → IsRefusedBy (Refuses (map slot_of slots) start) fault
-taking_fails slots start old left others text fault h e f = λ some. let r = f h.at h.stands some in (r.0, (r.1.0, h.worse r.0 (here (ap (next (map slot_of slots) h.at) (h.left ∙ e) ∙ r.1.1))))
+pub taking_fails : (slots : List menu.Slot) (own : List ℕ) (start : At) (old : Taking) (left others : List (List ℕ)) (text : List ℕ) (fault : WordFault) → IsTaking slots start old left → left ≡ text ∷ others
+    → ((at : At) → IsAt slots old at → IsRefusedIn own (λ rule. next (map slot_of slots) at (text ∷ others) ≡ refuses rule) fault) → IsRefusedIn own (Refuses (map slot_of slots) start) fault
+taking_fails slots own start old left others text fault h e f = λ some.
+    let r = f h.at h.stands some in
+    (r.0, (r.1.0, (r.1.1.0, r.1.1.1, h.worse r.1.1.0 (here (ap (next (map slot_of slots) h.at) (h.left ∙ e) ∙ r.1.1.2)))))
 
 -- no word is left
 pub taking_stops : (slots : List menu.Slot) (start : At) (old : Taking) (left : List (List ℕ)) → IsTaking slots start old left → length left ≡ 0 → TakesTo slots start old left

@@ -26,6 +26,10 @@ abbrev pub slots_of : Option Callable → List Slot
 slots_of None = []
 slots_of (Some callable) = map slot_of callable.slots.items
 
+abbrev pub name_of : Option Callable → List ℕ
+name_of None = []
+name_of (Some callable) = callable.name.now
+
 -- a recipe's place, if a recipe stands there
 abbrev pub there : Menus → ℕ → Option ℕ
 there menus place = cond (nat_lt place (length menus.recipes.items)) (Some place) None
@@ -56,6 +60,7 @@ words_of menus = record {
   lists = menus.default_list;
   meaning = λ place name. option_and_then (meant menus) (meaning_in menus place name);
   default = λ place. option_and_then (there menus) (default_in menus place);
+  name = λ place. name_of (slice_get menus.recipes.items place);
   slots = λ place. slots_of (slice_get menus.recipes.items place);
 }
 

@@ -116,7 +116,7 @@ impl<'a, 'm> InvocationParser<'a, 'm> {
     fn resolve(&self, place: usize, word: &str) -> Result<Meaning, WordFault>
         ensures found { IfOk result (λ meaning. spec.follow (words_of self.now.menus.now) place (pieces word.now) ≡ spec.means (Some (as_word meaning))) }
         ensures there { IfOk result (IsThere self.now.menus.now) }
-        ensures refused { IfErr result (IsRefusedBy (PathBreaks (spec.follow (words_of self.now.menus.now) place (pieces word.now)))) }
+        ensures refused { IfErr result (IsRefusedBy (PathBreaks word.now (spec.follow (words_of self.now.menus.now) place (pieces word.now)))) }
     {
         let mut here = place;
         let mut path = word;

@@ -2,7 +2,7 @@
 ghost use Rattle.std.specs.Prelude.{◌≡◌, ◌≤◌, ◌∷◌, ℕ, List, [], IfErr, IfOk, IfSome, MatchOption, OnOk, cond, false, true, get_or, length, map, replicate};
 ghost use Rattle.std.specs.List.{list_any, zip};
 ghost use Rattle.std.specs.Option.{option_map};
-ghost use Rattle.analyze_words.specs.Broken.{IsRefusedBy, WordsBreak, rule_of};
+ghost use Rattle.analyze_words.specs.Broken.{IsRefusedBy, IsRefusedIn, WordsBreak, rule_of};
 ghost use Rattle.analyze_words.specs.Takings.{IsAt, IsSameButGroups, StepsTo, TakesTo, WordsGive, is_lacking, pushed, value_given};
 ghost use Rattle.meaning_runs.specs.Invokes as spec;
 ghost use Rattle.meaning_runs.specs.Invokes.{At, argument_count, enough, refuses};
@@ -118,9 +118,9 @@ impl<'a> Taking<'a> {
         word: &'w str,
         others: &'w [Text],
     ) -> Result<&'w [Text], WordFault>
-        ensures found { IfOk result (λ left. (at : At) → IsAt callable.now.slots.items self.old at → StepsTo callable.now.slots.items (spec.by_option (map slot_of callable.now.slots.items) at (option_named (map slot_of callable.now.slots.items) (spec.before_equals word.now)) (spec.behind_equals word.now) others.now) self.new left.now) }
+        ensures found { IfOk result (λ left. (at : At) → IsAt callable.now.slots.items self.old at → StepsTo callable.now.slots.items (spec.by_option (map slot_of callable.now.slots.items) at word.now (option_named (map slot_of callable.now.slots.items) (spec.before_equals word.now)) (spec.behind_equals word.now) others.now) self.new left.now) }
         ensures shorter { IfOk result (λ left. length left.now ≤ length others.now) }
-        ensures refused { IfErr result (λ fault. (at : At) → IsAt callable.now.slots.items self.old at → IsRefusedBy (λ rule. spec.by_option (map slot_of callable.now.slots.items) at (option_named (map slot_of callable.now.slots.items) (spec.before_equals word.now)) (spec.behind_equals word.now) others.now ≡ refuses rule) fault) }
+        ensures refused { IfErr result (λ fault. (at : At) → IsAt callable.now.slots.items self.old at → IsRefusedIn callable.now.name.now (λ rule. spec.by_option (map slot_of callable.now.slots.items) at word.now (option_named (map slot_of callable.now.slots.items) (spec.before_equals word.now)) (spec.behind_equals word.now) others.now ≡ refuses rule) fault) }
     {
         let (name, value) = split_at_equals(word);
         let Some(place) = option_place(&self.places, name) else {
@@ -172,7 +172,7 @@ impl<'a> Taking<'a> {
     ) -> Result<Option<&'w [Text]>, WordFault>
         ensures found { IfOk result (λ left. (at : At) → IsAt callable.now.slots.items self.old at → MatchOption left ((spec.next (map slot_of callable.now.slots.items) at (word.now ∷ others.now) ≡ enough) × IsAt callable.now.slots.items self.new at) (λ left. StepsTo callable.now.slots.items (spec.next (map slot_of callable.now.slots.items) at (word.now ∷ others.now)) self.new left.now)) }
         ensures shorter { IfOk result (λ left. IfSome left (λ left. length left.now ≤ length others.now)) }
-        ensures refused { IfErr result (λ fault. (at : At) → IsAt callable.now.slots.items self.old at → IsRefusedBy (λ rule. spec.next (map slot_of callable.now.slots.items) at (word.now ∷ others.now) ≡ refuses rule) fault) }
+        ensures refused { IfErr result (λ fault. (at : At) → IsAt callable.now.slots.items self.old at → IsRefusedIn callable.now.name.now (λ rule. spec.next (map slot_of callable.now.slots.items) at (word.now ∷ others.now) ≡ refuses rule) fault) }
     {
         if !self.options || !is_dashed(word) {
             if self.take_positional(alloc, callable, word)? {
@@ -196,7 +196,7 @@ impl<'a> Taking<'a> {
     ) -> Result<&'w [Text], WordFault>
         ensures found { IfOk result (λ left. (at : At) → IsAt callable.now.slots.items self.old at → at.words ≡ words.now → TakesTo callable.now.slots.items at self.new left.now) }
         ensures shorter { IfOk result (λ left. length left.now ≤ length words.now) }
-        ensures refused { IfErr result (λ fault. (at : At) → IsAt callable.now.slots.items self.old at → at.words ≡ words.now → IsRefusedBy (spec.Refuses (map slot_of callable.now.slots.items) at) fault) }
+        ensures refused { IfErr result (λ fault. (at : At) → IsAt callable.now.slots.items self.old at → at.words ≡ words.now → IsRefusedIn callable.now.name.now (spec.Refuses (map slot_of callable.now.slots.items) at) fault) }
     {
         let mut left = words;
         while let Some((word, others)) = left.split_first() {
@@ -219,7 +219,7 @@ impl<'a> Taking<'a> {
     /// What was taken, one group for each parameter.
     fn finish(self, alloc: Global, callable: &Callable) -> Result<Vec<Sequence<Text>>, WordFault>
         ensures found { IfOk result (λ groups. (at : At) → IsAt callable.now.slots.items self.entry at → (spec.is_complete (map slot_of callable.now.slots.items) at.taken ≡ true) × (groups.items ≡ spec.groups_of (map slot_of callable.now.slots.items) at.taken)) }
-        ensures refused { IfErr result (λ fault. (at : At) → IsAt callable.now.slots.items self.entry at → IsRefusedBy (λ rule. (rule ≡ argument_count) × (spec.is_complete (map slot_of callable.now.slots.items) at.taken ≡ false)) fault) }
+        ensures refused { IfErr result (λ fault. (at : At) → IsAt callable.now.slots.items self.entry at → IsRefusedBy (λ rule. (rule ≡ argument_count callable.now.name.now (spec.words_found at.taken)) × (spec.is_complete (map slot_of callable.now.slots.items) at.taken ≡ false)) fault) }
     {
         if !self.is_complete(callable) {
             return Err(WordFault::argument_count(alloc, callable.name, self.found));
@@ -243,7 +243,7 @@ pub(crate) fn take_words<'w>(
 ) -> Result<(Vec<Sequence<Text>>, &'w [Text]), WordFault>
     ensures found { IfOk result (λ both. WordsGive (map slot_of callable.now.slots.items) words.now both.0.items both.1.now) }
     ensures shorter { IfOk result (λ both. length both.1.now ≤ length words.now) }
-    ensures refused { IfErr result (IsRefusedBy (WordsBreak (map slot_of callable.now.slots.items) words.now)) }
+    ensures refused { IfErr result (IsRefusedBy (WordsBreak callable.now.name.now (map slot_of callable.now.slots.items) words.now)) }
 {
     let mut taking = Taking::new(alloc, callable)?;
     let left = taking.take_all(alloc, callable, words)?;

@@ -38,4 +38,4 @@ module _ (defined : Definitions) where
       meant_by r (defined.recipe r) (defined.alias r) (defined.inside (path ++ name ∷ [])) (path ++ name ∷ [])
 
   abbrev pub menu_of : Words (List (List ℕ)) RecipeName
-  menu_of = record { root = []; lists = lists_by (defined.inside []); meaning = meaning_in; default = defined.default; slots = λ r. slots_in (defined.recipe r) }
+  menu_of = record { root = []; lists = lists_by (defined.inside []); meaning = meaning_in; default = defined.default; name = λ r. r.recipe; slots = λ r. slots_in (defined.recipe r) }

@@ -72,7 +72,7 @@ module _ (menus : Menus) where
   finds_default None is = tt
   finds_default (Some rank) is = by_test (list_any (λ slot. slot.required) ((words_of menus).slots rank))
     where
-      by_test : (b : Bool) → FindsThere (cond b (refused default_needs_arguments) (found rank []))
+      by_test : (b : Bool) → FindsThere (cond b (refused (default_needs_arguments ((words_of menus).name rank))) (found rank []))
       by_test true = tt
       by_test false = is rank refl
 

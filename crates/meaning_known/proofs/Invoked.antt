@@ -138,7 +138,7 @@ module _ (w : World) (o : Overrides) (unbroken : BreaksNoRule w o) (read : IsRea
   -- a default
   by_default : (path : List Text) (r : Option RecipeName) → defined.default path ≡ r → FoundThere (default_of Menu r)
   by_default path None e = tt
-  by_default path (Some r) e = either_there (list_any (λ slot. slot.required) (Menu.slots r)) (refused default_needs_arguments) (found r []) tt (default_there path r e)
+  by_default path (Some r) e = either_there (list_any (λ slot. slot.required) (Menu.slots r)) (refused (default_needs_arguments (Menu.name r))) (found r []) tt (default_there path r e)
 
   -- and what words find
   found_there : (here : List Text) (words : List Text) → FoundThere (find Menu here words)

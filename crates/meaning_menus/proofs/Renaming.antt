@@ -43,12 +43,12 @@ use Rattle.meaning_words.specs.Met.{IsMet, IsNamed, IsReached, at_root, by_defau
 use Rattle.meaning_words.specs.Renamed.{IsRenamed, renamed}
 use Rattle.just_meaning.specs.Menus.{meant_by, menu_of, slots_in}
 use Rattle.analyze_words.specs.Menus.{default_in, meaning_in}
-use Rattle.analyze_words.specs.Worded.{meant, slots_of, there, words_of}
+use Rattle.analyze_words.specs.Worded.{meant, name_of as callable_name, slots_of, there, words_of}
 use Rattle.analyze_words.specs.declared.menu.Meaning.{Meaning}
 use Rattle.analyze_words.specs.declared.menu.Meaning.TheVariants.{Recipe, Submodule}
 use Rattle.analyze_words.specs.declared.menu.Menus.{Menus}
 use Rattle.justfile_analyzer.specs.MenusOf.{AreMenusOf, IsMeant, lists_by, meaning_at, slot_rows}
-use Rattle.meaning_menus.specs.Named.{IsTabled, name_at}
+use Rattle.meaning_menus.specs.Named.{IsTabled, name_at, name_of as recipe_name}
 use Rattle.meaning_menus.proofs.Defaults.{default_listed}
 use Rattle.meaning_menus.proofs.Homes.{home_of, keeps_listed}
 use Rattle.meaning_menus.proofs.Lists.{less_told, less_true, one_place, wanted_if_named}
@@ -279,6 +279,16 @@ module _ (paths_lead : PathsLead) (paths_are_own : PathsAreOwn) (places_have_pat
         (λ p letter c e. subst (λ (short : Option ℕ). IfSome short (λ letter. letter < 128)) e (All-contains IsAscii kept.2.parameters.items p own.1 c))
         ∙ sym (ap slots_of callable.1 ∙ shown ∙ ap (λ place. slot_rows (recipe_at compilation place)) row.2.standing ∙ ap slot_rows h.there)
 
+    -- ---- names of recipes
+
+    own_name : (rank : ℕ) → rank < length menus.recipes.items → by_path.name (called rank) ≡ by_place.name rank
+    own_name rank lt =
+        let count = are.count in
+        let callable = there_within menus.recipes.items rank lt in
+        let resolved = there_within table.recipes.items rank (omega (arith, lt, count)) in
+        let name = (are.recipes rank resolved.0 callable.0 resolved.1 callable.1).name in
+        ap (λ found. (recipe_name compilation found).recipe) resolved.1 ∙ sym name ∙ sym (ap callable_name callable.1)
+
     -- ---- all of it
 
     pub is_renamed : by_path.lists ≡ lists_by (slice_get settings 0) → IsRenamed by_place by_path path called words
@@ -289,5 +299,6 @@ module _ (paths_lead : PathsLead) (paths_are_own : PathsAreOwn) (places_have_pat
           let n = reached_node k reached in
           name_alike k name (found_named k n.0 n.1 name named);
       defaults = λ k reached. let n = reached_node k reached in default_alike k n.0 n.1;
+      own = λ rank met. let m = met_meant rank met in own_name rank m.1;
       slots = λ rank met. let m = met_meant rank met in slots_meant rank m.0 m.1;
     }

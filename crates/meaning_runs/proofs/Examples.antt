@@ -19,7 +19,7 @@ slots_or_none (Some slots) = slots
 
 -- recipes of one module, by their names
 abbrev words_by : List (List ℕ × List Slot) → Words (Unit {0}) (List ℕ)
-words_by rows = record { root = tt; lists = false; meaning = λ here name. meant name (slots_named name rows); default = λ here. None; slots = λ name. slots_or_none (slots_named name rows) }
+words_by rows = record { root = tt; lists = false; meaning = λ here name. meant name (slots_named name rows); default = λ here. None; name = λ name. name; slots = λ name. slots_or_none (slots_named name rows) }
 
 abbrev by_place : Bool → Bool → Slot
 by_place variadic required = record { long = None; short = None; takes_value = true; multiple = false; variadic = variadic; required = required }
@@ -56,11 +56,11 @@ long_option = last (λ e. refl) (record { behind = _; end = _; named = refl; tak
 pub short_option : Invoke with_option (codes "a" ∷ codes "-x" ∷ codes "1" ∷ []) ((codes "a", (codes "1" ∷ []) ∷ []) ∷ [])
 short_option = last (λ e. refl) (record { behind = _; end = _; named = refl; taken = one_more refl (no_more refl); complete = refl; grouped = refl; left = refl })
 
-pub option_without_value : BreaksWords with_option (codes "a" ∷ codes "--x" ∷ []) option_value
+pub option_without_value : BreaksWords with_option (codes "a" ∷ codes "--x" ∷ []) (option_value (codes "a") (codes "--x"))
 option_without_value = at_first (λ e. refl) (untaken refl (here refl))
 
-pub unknown_name : BreaksWords with_option (codes "a" ∷ codes "--y=1" ∷ []) unknown_option
+pub unknown_name : BreaksWords with_option (codes "a" ∷ codes "--y=1" ∷ []) (unknown_option (codes "a") (codes "--y=1"))
 unknown_name = at_first (λ e. refl) (untaken refl (here refl))
 
-pub option_left_out : BreaksWords with_option (codes "a" ∷ []) argument_count
+pub option_left_out : BreaksWords with_option (codes "a" ∷ []) (argument_count (codes "a") 0)
 option_left_out = at_first (λ e. refl) (incomplete refl (no_more refl) refl)

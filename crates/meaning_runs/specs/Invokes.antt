@@ -1,21 +1,31 @@
 -- Which recipes words invoke, and what the words give to their parameters; or which rule they break.
 use Rattle.std.proofs.Common.{nat_lt}
-use Rattle.std.specs.Prelude.{◌≡◌, ℕ, List, [], ◌∷◌, ◌++◌, Bool, true, false, not, ◌&&◌, ◌||◌, ◌==◌, ◌+◌, Option, Some, None, cond, codes, length, slice_get}
+use Rattle.std.specs.Prelude.{◌≡◌, ℕ, List, [], ◌∷◌, ◌++◌, Bool, true, false, not, ◌&&◌, ◌||◌, ◌==◌, ◌+◌, ◌-◌, ◌^◌, min, Option, Some, None, cond, codes, length, slice_get}
 use Rattle.std.specs.List.{list_any}
 use Rattle.std.specs.Str.{bytes_eq}
 use Rattle.tree_expressions.specs.Cutting.{begins}
 use Rattle.modules_compilation.specs.Modulepaths.{pieces}
 use Rattle.meaning_runs.specs.Words.{Slot, WordMeaning, recipe, submodule, Words, is_option, option_named, has_room, least}
 
--- the rules of words
+-- the rules of words: of which word, of which recipe by its own name, and how many words that recipe took by their place
 pub data WordRule : Type 0 where
-  unknown_recipe : WordRule
-  unknown_module : WordRule
-  argument_count : WordRule
-  unknown_option : WordRule
-  option_value : WordRule
+  unknown_recipe : List ℕ → WordRule
+  unknown_module : List ℕ → WordRule
+  argument_count : List ℕ → ℕ → WordRule
+  unknown_option : List ℕ → List ℕ → WordRule
+  option_value : List ℕ → List ℕ → WordRule
   no_recipes : WordRule
-  default_needs_arguments : WordRule
+  default_needs_arguments : List ℕ → WordRule
+
+-- the rules of options, of which word
+pub data OptionRule : Type 0 where
+  no_option : List ℕ → OptionRule
+  wrong_value : List ℕ → OptionRule
+
+-- the rule of words that it is in a recipe of this name
+abbrev pub of_recipe : List ℕ → OptionRule → WordRule
+of_recipe own (no_option word) = unknown_option own word
+of_recipe own (wrong_value word) = option_value own word
 
 -- ---- names
 
@@ -44,7 +54,7 @@ module _ {Module Recipe : Type 0} (w : Words Module Recipe) where
   -- a module's default, which may not need words
   abbrev pub default_of : Option Recipe → Found Recipe
   default_of None = refused no_recipes
-  default_of (Some r) = cond (list_any (λ slot. slot.required) (w.slots r)) (refused default_needs_arguments) (found r [])
+  default_of (Some r) = cond (list_any (λ slot. slot.required) (w.slots r)) (refused (default_needs_arguments (w.name r))) (found r [])
 
   -- the recipe that words name from a module on: by a path, in a submodule, or, where no word is left, the module's default
   abbrev pub find : Module → List (List ℕ) → Found Recipe
@@ -52,8 +62,8 @@ module _ {Module Recipe : Type 0} (w : Words Module Recipe) where
   find here (text ∷ words) = by_path (follow w here (pieces text)) words (λ inner. find inner words)
     where
       by_path : {Module Recipe : Type 0} → Followed Module Recipe → List (List ℕ) → (Module → Found Recipe) → Found Recipe
-      by_path lost words next = refused unknown_module
-      by_path (means None) words next = refused unknown_recipe
+      by_path lost words next = refused (unknown_module text)
+      by_path (means None) words next = refused (unknown_recipe text)
       by_path (means (Some (recipe r))) words next = found r words
       by_path (means (Some (submodule inner))) words next = next inner
 
@@ -84,7 +94,7 @@ pub record At : Type 0 where
 pub data Step : Type 0 where
   takes : At → Step
   enough : Step
-  refuses : WordRule → Step
+  refuses : OptionRule → Step
 
 -- a word that is an option's where options are read: it begins with a dash, and isn't a dash alone
 abbrev pub is_dashed : List ℕ → Bool
@@ -106,31 +116,31 @@ abbrev pub with_value : At → ℕ → List ℕ → List (List ℕ) → At
 with_value at place text words = record { options = at.options; taken = at.taken ++ value place text ∷ []; words = words }
 
 -- an option's value: after `=`, or the next word; one that takes none is `true`
-abbrev pub option_valued : At → ℕ → Bool → Option (List ℕ) → List (List ℕ) → Step
-option_valued at place true (Some text) words = takes (with_value at place text words)
-option_valued at place true None (text ∷ words) = takes (with_value at place text words)
-option_valued at place true None [] = refuses option_value
-option_valued at place false (Some text) words = refuses option_value
-option_valued at place false None words = takes (with_value at place (codes "true") words)
+abbrev pub option_valued : At → List ℕ → ℕ → Bool → Option (List ℕ) → List (List ℕ) → Step
+option_valued at option place true (Some text) words = takes (with_value at place text words)
+option_valued at option place true None (text ∷ words) = takes (with_value at place text words)
+option_valued at option place true None [] = refuses (wrong_value option)
+option_valued at option place false (Some text) words = refuses (wrong_value option)
+option_valued at option place false None words = takes (with_value at place (codes "true") words)
 
 -- none stands twice that may not
 abbrev pub is_used : List (List ℕ) → Bool
 is_used [] = false
 is_used (text ∷ texts) = true
 
-abbrev pub by_slot : At → ℕ → Option Slot → Option (List ℕ) → List (List ℕ) → Step
-by_slot at place None text words = refuses unknown_option
-by_slot at place (Some slot) text words = cond (is_used (values_given place at.taken) && not slot.multiple) (refuses option_value) (option_valued at place slot.takes_value text words)
+abbrev pub by_slot : At → List ℕ → ℕ → Option Slot → Option (List ℕ) → List (List ℕ) → Step
+by_slot at option place None text words = refuses (no_option option)
+by_slot at option place (Some slot) text words = cond (is_used (values_given place at.taken) && not slot.multiple) (refuses (wrong_value option)) (option_valued at option place slot.takes_value text words)
 
-abbrev pub by_option : List Slot → At → Option ℕ → Option (List ℕ) → List (List ℕ) → Step
-by_option slots at None text words = refuses unknown_option
-by_option slots at (Some place) text words = by_slot at place (slice_get slots place) text words
+abbrev pub by_option : List Slot → At → List ℕ → Option ℕ → Option (List ℕ) → List (List ℕ) → Step
+by_option slots at option None text words = refuses (no_option option)
+by_option slots at option (Some place) text words = by_slot at option place (slice_get slots place) text words
 
 abbrev pub next : List Slot → At → List (List ℕ) → Step
 next slots at [] = enough
 next slots at (text ∷ words) =
     cond (at.options && is_dashed text)
-    (cond (bytes_eq text (codes "--")) (takes (record { options = false; taken = at.taken; words = words })) (by_option slots at (option_named slots (before_equals text)) (behind_equals text) words))
+    (cond (bytes_eq text (codes "--")) (takes (record { options = false; taken = at.taken; words = words })) (by_option slots at text (option_named slots (before_equals text)) (behind_equals text) words))
     (cond (has_room slots (length (placed_words at.taken))) (takes (with_word at text words)) enough)
 
 -- as much as the recipe can take
@@ -139,9 +149,9 @@ pub data Takes (slots : List Slot) : At → At → Type 0 where
   one_more : {at mid end : At} → next slots at at.words ≡ takes mid → Takes slots mid end → Takes slots at end
 
 -- a rule is broken on the way
-pub data Refuses (slots : List Slot) : At → WordRule → Type 0 where
-  here : {at : At} {rule : WordRule} → next slots at at.words ≡ refuses rule → Refuses slots at rule
-  later : {at mid : At} {rule : WordRule} → next slots at at.words ≡ takes mid → Refuses slots mid rule → Refuses slots at rule
+pub data Refuses (slots : List Slot) : At → OptionRule → Type 0 where
+  here : {at : At} {rule : OptionRule} → next slots at at.words ≡ refuses rule → Refuses slots at rule
+  later : {at mid : At} {rule : OptionRule} → next slots at at.words ≡ takes mid → Refuses slots mid rule → Refuses slots at rule
 
 -- where a recipe begins; options are read where it has any
 abbrev pub beginning : List Slot → List (List ℕ) → At
@@ -151,6 +161,10 @@ beginning slots words = record { options = list_any is_option slots; taken = [];
 abbrev pub all_given : List Taken → ℕ → List Slot → Bool
 all_given taken place [] = true
 all_given taken place (slot ∷ slots) = (not (slot.required && is_option slot) || is_used (values_given place taken)) && all_given taken (place + 1) slots
+
+-- how many words it took by their place, a number of 64 bits
+abbrev pub words_found : List Taken → ℕ
+words_found taken = min (length (placed_words taken)) (2 ^ 64 - 1)
 
 abbrev pub is_complete : List Slot → List Taken → Bool
 is_complete slots taken = not (nat_lt (length (placed_words taken)) (least slots)) && all_given taken 0 slots
@@ -200,9 +214,9 @@ module _ {Module Recipe : Type 0} (w : Words Module Recipe) where
   -- a rule is broken by the first recipe's words
   pub data BreaksFirst : List (List ℕ) → WordRule → Type 0 where
     unfound : {words : List (List ℕ)} {rule : WordRule} → find w w.root words ≡ refused rule → BreaksFirst words rule
-    untaken : {words behind : List (List ℕ)} {r : Recipe} {rule : WordRule} → find w w.root words ≡ found r behind → Refuses (w.slots r) (beginning (w.slots r) behind) rule → BreaksFirst words rule
+    untaken : {words behind : List (List ℕ)} {r : Recipe} {rule : OptionRule} → find w w.root words ≡ found r behind → Refuses (w.slots r) (beginning (w.slots r) behind) rule → BreaksFirst words (of_recipe (w.name r) rule)
     incomplete : {words behind : List (List ℕ)} {r : Recipe} {end : At} → find w w.root words ≡ found r behind → Takes (w.slots r) (beginning (w.slots r) behind) end
-        → is_complete (w.slots r) end.taken ≡ false → BreaksFirst words argument_count
+        → is_complete (w.slots r) end.taken ≡ false → BreaksFirst words (argument_count (w.name r) (words_found end.taken))
 
   -- a rule of words is broken, after whole invocations
   pub data BreaksWords : List (List ℕ) → WordRule → Type 0 where

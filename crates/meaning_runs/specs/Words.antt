@@ -19,12 +19,13 @@ pub data WordMeaning (Module Recipe : Type 0) : Type 0 where
   recipe : Recipe → WordMeaning Module Recipe
   submodule : Module → WordMeaning Module Recipe
 
--- whether no words ask for the list; what names mean in modules, the recipe that runs where none is named, and a recipe's parameters
+-- whether no words ask for the list; what names mean in modules, the recipe that runs where none is named, a recipe's own name, and its parameters
 pub record Words (Module Recipe : Type 0) : Type 0 where
   pub root : Module
   pub lists : Bool
   pub meaning : Module → List ℕ → Option (WordMeaning Module Recipe)
   pub default : Module → Option Recipe
+  pub name : Recipe → List ℕ
   pub slots : Recipe → List Slot
 
 -- an option gives the parameter its value, and no word by its place

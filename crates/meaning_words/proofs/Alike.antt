@@ -4,7 +4,7 @@ use Rattle.std.specs.Prelude.{Contains}
 use Rattle.std.specs.List.{list_any}
 use Rattle.modules_compilation.specs.Modulepaths.{pieces}
 use Rattle.meaning_runs.specs.Words.{Words, WordMeaning, recipe, submodule}
-use Rattle.meaning_runs.specs.Invokes.{WordRule, default_needs_arguments, Followed, means, lost, follow, Found, found, refused, find, default_of, Takes, Refuses, beginning, is_complete, groups_of, Invokes, IsAsked, Invoke, listed, last, more, BreaksFirst, unfound, untaken, incomplete, BreaksWords, at_first, behind}
+use Rattle.meaning_runs.specs.Invokes.{WordRule, argument_count, of_recipe, words_found, default_needs_arguments, Followed, means, lost, follow, Found, found, refused, find, default_of, Takes, Refuses, beginning, is_complete, groups_of, Invokes, IsAsked, Invoke, listed, last, more, BreaksFirst, unfound, untaken, incomplete, BreaksWords, at_first, behind}
 use Rattle.meaning_words.specs.Met.{IsNamed}
 use Rattle.meaning_words.proofs.Within.{IsWithin, named_within, contains_first, contains_later, invokes_leaves}
 
@@ -39,6 +39,7 @@ module _ {Module Recipe Module' Recipe' : Type 0} (Modules : Module → Module' 
     pub lists : w'.lists ≡ w.lists
     pub names : (here : Module) (here' : Module') (name : List ℕ) → Modules here here' → IsNamed words name → AreBoth (MeanAlike Modules Recipes) (w.meaning here name) (w'.meaning here' name)
     pub defaults : (here : Module) (here' : Module') → Modules here here' → AreBoth Recipes (w.default here) (w'.default here')
+    pub own : (r : Recipe) (r' : Recipe') → Recipes r r' → w'.name r' ≡ w.name r
     pub slots : (r : Recipe) (r' : Recipe') → Recipes r r' → w'.slots r' ≡ w.slots r
 
   -- fewer words have fewer names
@@ -48,6 +49,7 @@ module _ {Module Recipe Module' Recipe' : Type 0} (Modules : Module → Module' 
     lists = a.lists;
     names = λ here here' name m named. a.names here here' name m (named_within left words name within named);
     defaults = a.defaults;
+    own = a.own;
     slots = a.slots;
   }
 
@@ -69,16 +71,16 @@ module _ {Module Recipe Module' Recipe' : Type 0} (Modules : Module → Module' 
       cases e e' (both (recipes k)) next = rw (e, e') both_lost
       cases e e' (both (modules {m = inner} {m' = inner'} k)) next = rw (e, e') (next inner inner' k)
 
-  default_alike : ((r : Recipe) (r' : Recipe') → Recipes r r' → w'.slots r' ≡ w.slots r) → {o : Option Recipe} {o' : Option Recipe'} → AreBoth Recipes o o' → FoundAlike Recipes (default_of w o) (default_of w' o')
-  default_alike slots neither = both_refused
-  default_alike slots (both {x = r} {y = r'} k) = rw (slots r r' k) (by_test (list_any (λ slot. slot.required) (w.slots r)))
+  default_alike : ((r : Recipe) (r' : Recipe') → Recipes r r' → w'.name r' ≡ w.name r) → ((r : Recipe) (r' : Recipe') → Recipes r r' → w'.slots r' ≡ w.slots r) → {o : Option Recipe} {o' : Option Recipe'} → AreBoth Recipes o o' → FoundAlike Recipes (default_of w o) (default_of w' o')
+  default_alike own slots neither = both_refused
+  default_alike own slots (both {x = r} {y = r'} k) = rw (slots r r' k, own r r' k) (by_test (list_any (λ slot. slot.required) (w.slots r)))
     where
-      by_test : (needs : Bool) → FoundAlike Recipes (cond needs (refused default_needs_arguments) (found r [])) (cond needs (refused default_needs_arguments) (found r' []))
+      by_test : (needs : Bool) → FoundAlike Recipes (cond needs (refused (default_needs_arguments (w.name r))) (found r [])) (cond needs (refused (default_needs_arguments (w.name r))) (found r' []))
       by_test true = both_refused
       by_test false = both_found k
 
   find_alike : (here : Module) (here' : Module') (words : List (List ℕ)) → Modules here here' → AreAlike words → FoundAlike Recipes (find w here words) (find w' here' words)
-  find_alike here here' [] m a = default_alike a.slots (a.defaults here here' m)
+  find_alike here here' [] m a = default_alike a.own a.slots (a.defaults here here' m)
   find_alike here here' (text ∷ words) m a =
       cases refl refl (follow_alike here here' (pieces text) m (λ here here' name m there. a.names here here' name m (text, contains_first text words, there)))
       (λ inner inner' k. find_alike inner inner' words k (fewer a (λ word there. contains_later text words word there)))
@@ -138,13 +140,15 @@ module _ {Module Recipe Module' Recipe' : Type 0} (Modules : Module → Module' 
 
   first_broken : {words : List (List ℕ)} {rule : WordRule} → AreAlike words → BreaksFirst w words rule → BreaksFirst w' words rule
   first_broken {words = words} a (unfound e) = unfound (refused_there (find_alike w.root w'.root words a.root a) e)
-  first_broken {words = words} {rule = rule} a (untaken {behind = ws} {r = r} e t) =
+  first_broken {words = words} a (untaken {behind = ws} {r = r} {rule = rule} e t) =
       let there = found_there (find_alike w.root w'.root words a.root a) e in
-      untaken there.2 (subst (λ slots. Refuses slots (beginning slots ws) rule) (sym (a.slots r there.0 there.1)) t)
+      subst (λ own. BreaksFirst w' words (of_recipe own rule)) (a.own r there.0 there.1)
+      (untaken there.2 (subst (λ slots. Refuses slots (beginning slots ws) rule) (sym (a.slots r there.0 there.1)) t))
   first_broken {words = words} a (incomplete {behind = ws} {r = r} {end = end} e t c) =
       let there = found_there (find_alike w.root w'.root words a.root a) e in
       let same : w.slots r ≡ w'.slots there.0 = sym (a.slots r there.0 there.1) in
-      incomplete there.2 (subst (λ slots. Takes slots (beginning slots ws) end) same t) (subst (λ slots. is_complete slots end.taken ≡ false) same c)
+      subst (λ own. BreaksFirst w' words (argument_count own (words_found end.taken))) (a.own r there.0 there.1)
+      (incomplete there.2 (subst (λ slots. Takes slots (beginning slots ws) end) same t) (subst (λ slots. is_complete slots end.taken ≡ false) same c))
 
   -- and break the same rules
   pub broken_alike : {words : List (List ℕ)} {rule : WordRule} → AreAlike words → BreaksWords w words rule → BreaksWords w' words rule
@@ -170,5 +174,6 @@ alike_back a = record {
   lists = sym a.lists;
   names = λ here here' name m named. meaning_back (a.names here' here name m named);
   defaults = λ here here' m. both_back (a.defaults here' here m);
+  own = λ r r' k. sym (a.own r' r k);
   slots = λ r r' k. sym (a.slots r' r k);
 }

@@ -38,6 +38,7 @@ module _ {Module Recipe Module' Recipe' : Type 0} (w : Words Module Recipe) (w' 
     lists = h.lists;
     names = names_alike h;
     defaults = defaults_alike h;
+    own = λ r r' k. ap w'.name k.0 ∙ h.own r k.1;
     slots = λ r r' k. ap w'.slots k.0 ∙ h.slots r k.1;
   }
 
@@ -81,6 +82,7 @@ names_alone_count w w' words h =
       lists = h.lists;
       names = λ here name reached named. h.names here name reached named ∙ meaning_kept (w.meaning here name);
       defaults = λ here reached. h.defaults here reached ∙ default_kept (w.default here);
+      own = h.own;
       slots = h.slots;
     }) in
     (λ invocations. (λ i. subst (Invoke w' words) (rows_kept invocations) (r.there invocations i), λ i. let x = r.back invocations i in subst (Invoke w words) (sym (x.2 ∙ rows_kept x.0)) x.1), r.rules)

@@ -6,7 +6,7 @@ use Rattle.std.specs.Str.{bytes_eq}
 use Rattle.std.proofs.lemmas.List.Elements.{Contains-append_left, Contains-append_right, Contains-push}
 use Rattle.modules_compilation.specs.Modulepaths.{pieces}
 use Rattle.meaning_runs.specs.Words.{Slot, Words, recipe, submodule, option_named, has_room}
-use Rattle.meaning_runs.specs.Invokes.{Followed, means, lost, follow, Found, found, refused, find, default_of, At, Step, takes, enough, refuses, next, option_valued, by_slot, by_option, before_equals, behind_equals, Takes, no_more, one_more, Invokes, is_used, values_given, option_value, is_dashed, with_word, placed_words, default_needs_arguments}
+use Rattle.meaning_runs.specs.Invokes.{Followed, means, lost, follow, Found, found, refused, find, default_of, At, Step, takes, enough, refuses, next, option_valued, by_slot, by_option, before_equals, behind_equals, Takes, no_more, one_more, Invokes, is_used, values_given, wrong_value, is_dashed, with_word, placed_words, default_needs_arguments}
 use Rattle.meaning_words.specs.Met.{IsNamed}
 
 -- ---- lists
@@ -40,32 +40,32 @@ StepLeaves words (takes at) = IsWithin at.words words
 StepLeaves words enough = ⊤
 StepLeaves words (refuses rule) = ⊤
 
-valued_leaves : (at : At) (place : ℕ) (takes_value : Bool) (text : Option (List ℕ)) (words all : List (List ℕ)) → IsWithin words all → StepLeaves all (option_valued at place takes_value text words)
-valued_leaves at place true (Some text) words all h = h
-valued_leaves at place true None (text ∷ words) all h = λ word k. h word (contains_later text words word k)
-valued_leaves at place true None [] all h = tt
-valued_leaves at place false (Some text) words all h = tt
-valued_leaves at place false None words all h = h
+valued_leaves : (at : At) (option : List ℕ) (place : ℕ) (takes_value : Bool) (text : Option (List ℕ)) (words all : List (List ℕ)) → IsWithin words all → StepLeaves all (option_valued at option place takes_value text words)
+valued_leaves at option place true (Some text) words all h = h
+valued_leaves at option place true None (text ∷ words) all h = λ word k. h word (contains_later text words word k)
+valued_leaves at option place true None [] all h = tt
+valued_leaves at option place false (Some text) words all h = tt
+valued_leaves at option place false None words all h = h
 
-slot_leaves : (at : At) (place : ℕ) (slot : Option Slot) (text : Option (List ℕ)) (words all : List (List ℕ)) → IsWithin words all → StepLeaves all (by_slot at place slot text words)
-slot_leaves at place None text words all h = tt
-slot_leaves at place (Some slot) text words all h =
-    either (StepLeaves all) (is_used (values_given place at.taken) && not slot.multiple) (refuses option_value) (option_valued at place slot.takes_value text words)
-    tt (valued_leaves at place slot.takes_value text words all h)
+slot_leaves : (at : At) (option : List ℕ) (place : ℕ) (slot : Option Slot) (text : Option (List ℕ)) (words all : List (List ℕ)) → IsWithin words all → StepLeaves all (by_slot at option place slot text words)
+slot_leaves at option place None text words all h = tt
+slot_leaves at option place (Some slot) text words all h =
+    either (StepLeaves all) (is_used (values_given place at.taken) && not slot.multiple) (refuses (wrong_value option)) (option_valued at option place slot.takes_value text words)
+    tt (valued_leaves at option place slot.takes_value text words all h)
 
-option_leaves : (slots : List Slot) (at : At) (place : Option ℕ) (text : Option (List ℕ)) (words all : List (List ℕ)) → IsWithin words all → StepLeaves all (by_option slots at place text words)
-option_leaves slots at None text words all h = tt
-option_leaves slots at (Some place) text words all h = slot_leaves at place (slice_get slots place) text words all h
+option_leaves : (slots : List Slot) (at : At) (option : List ℕ) (place : Option ℕ) (text : Option (List ℕ)) (words all : List (List ℕ)) → IsWithin words all → StepLeaves all (by_option slots at option place text words)
+option_leaves slots at option None text words all h = tt
+option_leaves slots at option (Some place) text words all h = slot_leaves at option place (slice_get slots place) text words all h
 
 next_leaves : (slots : List Slot) (at : At) (words : List (List ℕ)) → StepLeaves words (next slots at words)
 next_leaves slots at [] = tt
 next_leaves slots at (text ∷ words) =
     let later : IsWithin words (text ∷ words) = (λ word h. contains_later text words word h) in
     either (StepLeaves (text ∷ words)) (at.options && is_dashed text)
-    (cond (bytes_eq text (codes "--")) (takes (record { options = false; taken = at.taken; words = words })) (by_option slots at (option_named slots (before_equals text)) (behind_equals text) words))
+    (cond (bytes_eq text (codes "--")) (takes (record { options = false; taken = at.taken; words = words })) (by_option slots at text (option_named slots (before_equals text)) (behind_equals text) words))
     (cond (has_room slots (length (placed_words at.taken))) (takes (with_word at text words)) enough)
-    (either (StepLeaves (text ∷ words)) (bytes_eq text (codes "--")) (takes (record { options = false; taken = at.taken; words = words })) (by_option slots at (option_named slots (before_equals text)) (behind_equals text) words)
-    later (option_leaves slots at (option_named slots (before_equals text)) (behind_equals text) words (text ∷ words) later))
+    (either (StepLeaves (text ∷ words)) (bytes_eq text (codes "--")) (takes (record { options = false; taken = at.taken; words = words })) (by_option slots at text (option_named slots (before_equals text)) (behind_equals text) words)
+    later (option_leaves slots at text (option_named slots (before_equals text)) (behind_equals text) words (text ∷ words) later))
     (either (StepLeaves (text ∷ words)) (has_room slots (length (placed_words at.taken))) (takes (with_word at text words)) enough later tt)
 
 -- a recipe leaves words of its words
@@ -86,7 +86,7 @@ found_more words text (refused rule) h = tt
 module _ {Module Recipe : Type 0} (w : Words Module Recipe) where
   default_leaves : (o : Option Recipe) → FoundLeaves [] (default_of w o)
   default_leaves None = tt
-  default_leaves (Some r) = either (FoundLeaves []) (list_any (λ slot. slot.required) (w.slots r)) (refused default_needs_arguments) (found r []) tt (λ word h. h)
+  default_leaves (Some r) = either (FoundLeaves []) (list_any (λ slot. slot.required) (w.slots r)) (refused (default_needs_arguments (w.name r))) (found r []) tt (λ word h. h)
 
   find_leaves : (here : Module) (words : List (List ℕ)) → FoundLeaves words (find w here words)
   find_leaves here [] = default_leaves (w.default here)

@@ -11,12 +11,13 @@ renamed f g (recipe r) = recipe (g r)
 renamed f g (submodule inner) = submodule (f inner)
 
 module _ {Module Recipe Module' Recipe' : Type 0} (w : Words Module Recipe) (w' : Words Module' Recipe') (f : Module → Module') (g : Recipe → Recipe') where
-  -- The same list; the root, what names of the words mean, and defaults, as they are called there; and the same parameters of each recipe that the words meet.
+  -- The same list; the root, what names of the words mean, and defaults, as they are called there; and the same own name and parameters of each recipe that the words meet.
   pub record IsRenamed (words : List (List ℕ)) : Type 0 where
     pub root : w'.root ≡ f w.root
     pub lists : w'.lists ≡ w.lists
     pub names : (here : Module) (name : List ℕ) → IsReached w words here → IsNamed words name → w'.meaning (f here) name ≡ option_map (renamed f g) (w.meaning here name)
     pub defaults : (here : Module) → IsReached w words here → w'.default (f here) ≡ option_map g (w.default here)
+    pub own : (r : Recipe) → IsMet w words r → w'.name (g r) ≡ w.name r
     pub slots : (r : Recipe) → IsMet w words r → w'.slots (g r) ≡ w.slots r
 
   -- the invocations, with their recipes as they are called there

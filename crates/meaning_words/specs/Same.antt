@@ -4,12 +4,13 @@ use Rattle.meaning_runs.specs.Words.{Words}
 use Rattle.meaning_runs.specs.Invokes.{WordRule, Invoke, BreaksWords}
 use Rattle.meaning_words.specs.Met.{IsNamed, IsReached, IsMet}
 
--- the same root, list and defaults, the same meaning of each name that the words have, and the same parameters of each recipe that they meet
+-- the same root, list and defaults, the same meaning of each name that the words have, and the same own name and parameters of each recipe that they meet
 pub record IsSame {Module Recipe : Type 0} (w w' : Words Module Recipe) (words : List (List ℕ)) : Type 0 where
   pub root : w'.root ≡ w.root
   pub lists : w'.lists ≡ w.lists
   pub names : (here : Module) (name : List ℕ) → IsReached w words here → IsNamed words name → w'.meaning here name ≡ w.meaning here name
   pub defaults : (here : Module) → IsReached w words here → w'.default here ≡ w.default here
+  pub own : (r : Recipe) → IsMet w words r → w'.name r ≡ w.name r
   pub slots : (r : Recipe) → IsMet w words r → w'.slots r ≡ w.slots r
 
 -- then the words invoke the same and break the same rules

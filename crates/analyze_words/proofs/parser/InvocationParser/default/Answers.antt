@@ -14,7 +14,7 @@ returns-in_default-recipe-clause-refused c = λ some. (spec.no_recipes, (refl, l
 
 pub returns-then-needs_words-clause-refused : goal.returns-then-needs_words-clause-refused
 returns-then-needs_words-clause-refused c = λ some. (
-  spec.default_needs_arguments,
+  spec.default_needs_arguments c.in-Some-recipe.callable.now.name.now,
   (ap rule_of (c.default_needs_arguments.ensures some), default_needs c.args.self.now.menus.now c.args.place c.in-Some.recipe c.in-Some-recipe.callable.now (sym c.in-Some.ensures) (sym c.in-Some-recipe.ensures) (sym c.needs_words.ensures ∙ c.if-needs_words.true)),
 )
 

@@ -1,8 +1,7 @@
 -- Part by part.
-use Rattle.std.proofs.Common.{◌≡◌, ◌∙◌, ap, refl, rules, subst, sym}
+use Rattle.std.proofs.Common.{◌∙◌, ap, refl, rules, subst, sym}
 use Rattle.analyze_words.specs.Broken.{PathBreaks, rule_of}
 use Rattle.meaning_runs.specs.Invokes as spec
-use Rattle.modules_compilation.specs.Modulepaths.{pieces}
 use Rattle.analyze_words.specs.Worded.{words_of}
 use Rattle.analyze_words.proofs.Paths.{first_piece, follow_inner, follow_last, follow_lost, pieces_lacks}
 use Rattle.analyze_words.proofs.parser.InvocationParser.resolve.Goals as goal
@@ -24,7 +23,7 @@ returns-in_default-submodule-clause-refused c =
     let name = c.in-Some.name.now in
     let others = c.in-Some.others.now in
     let lost = c.loop-name.invariant.1 ∙ follow_lost w c.loop-name.here path name others (first_piece path name others cases.0 cases.1 cases.2.0 cases.2.1.split cases.3 cases.4) (sym c.in_default-submodule.ensures) in
-    λ some. (spec.unknown_module, (ap rule_of (c.unknown_module.ensures some), subst (λ f. PathBreaks f spec.unknown_module) (sym lost) refl))
+    λ some. (spec.unknown_module c.args.word.now, (ap rule_of (c.unknown_module.ensures some), subst (λ f. PathBreaks c.args.word.now f (spec.unknown_module c.args.word.now)) (sym lost) refl))
 
 pub returns-in-Some-word_meaning-clause-found : goal.returns-in-Some-word_meaning-clause-found
 returns-in-Some-word_meaning-clause-found c =
@@ -37,4 +36,4 @@ returns-in-None-clause-refused c =
     let w = words_of c.args.self.now.menus.now in
     let path = c.loop-name.path.now in
     let none = c.loop-name.invariant.1 ∙ follow_last w c.loop-name.here path (pieces_lacks path c.in_default.ensures.cases) ∙ ap spec.means (sym c.in-None.ensures.meaning) in
-    λ some. (spec.unknown_recipe, (ap rule_of (c.unknown_recipe.ensures some), subst (λ f. PathBreaks f spec.unknown_recipe) (sym none) refl))
+    λ some. (spec.unknown_recipe c.args.word.now, (ap rule_of (c.unknown_recipe.ensures some), subst (λ f. PathBreaks c.args.word.now f (spec.unknown_recipe c.args.word.now)) (sym none) refl))

@@ -11,7 +11,7 @@ pub returns-in_err-more-clause-refused : goal.returns-in_err-more-clause-refused
 returns-in_err-more-clause-refused c =
     let left : c.loop-word.left.now ≡ c.as_str.result.now ∷ c.in-Some.others.now = c.in-Some.ensures.cases.0 ∙ ap (λ t. t ∷ c.in-Some.others.now) (sym c.as_str.ensures) in
     let p = err_from_is_err_and c.from_residual.result c.from_residual.ensures.1 in
-    rw (p.1, p.2) (λ at h e. taking_fails c.args.callable.now.slots.items at c.loop-word.self c.loop-word.left.now c.in-Some.others.now c.as_str.result.now c.in_err-more.field-0.0 (c.loop-word.invariant.0 at h e) left c.in_err-more.ensures.refused)
+    rw (p.1, p.2) (λ at h e. taking_fails c.args.callable.now.slots.items c.args.callable.now.name.now at c.loop-word.self c.loop-word.left.now c.in-Some.others.now c.as_str.result.now c.in_err-more.field-0.0 (c.loop-word.invariant.0 at h e) left c.in_err-more.ensures.refused)
 
 pub loop-word-preserved : goal.loop-word-preserved
 loop-word-preserved c =
