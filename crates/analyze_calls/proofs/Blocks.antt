@@ -8,10 +8,11 @@ use Rattle.tree_items.specs.Recipes.{is_variadic}
 use Rattle.tree_items.specs.declared.recipe.DependencyArgument.{DependencyArgument}
 use Rattle.tree_items.specs.declared.recipe.Parameter.{Parameter}
 use Rattle.tree_items.specs.declared.recipe.UnresolvedDependency.{UnresolvedDependency}
-use Rattle.meaning_dialogues.specs.Dialogue.{Dialogue, DialogueGoes, Evaluates, Reading}
+use Rattle.meaning_dialogues.specs.Dialogue.{Begins, DialogueGoes, Evaluates, Reading}
 use Rattle.meaning_dialogues.specs.Evaluation.{Stage, Value}
 use Rattle.meaning_dialogues.specs.Faults.{Fault, internal, memory}
-use Rattle.meaning_dialogues.proofs.Dialogues.{goes_on, stops}
+use Rattle.meaning_dialogues.proofs.Dialogues.{begins_first, begins_here, ends, goes_on, stops, then_stops, whole_begins}
+use Rattle.evaluate_expressions.proofs.WantOfMemory.{unless_memory}
 use Rattle.meaning_bodies.specs.Performing.{in_front}
 use Rattle.analyze_calls.specs.Blocks.{block, brings, brings_at, call_with, first_of, groups_for, others_of, rows_of, shared_out, starred_rows, values_of}
 use Rattle.analyze_calls.specs.Calls.{CallRow, row_of, rows}
@@ -86,11 +87,17 @@ each_row f g (e ∷ es) = ap (λ l. f (g e) ∷ l) (each_row f g es)
 module _ (reading : Reading) (stage : Stage) (place : ℕ) (arguments : List DependencyArgument) where
   -- the calls of one dependency, whose arguments have these values
   pub brings_calls : (parameters : List Parameter) (old new : List Entry) (values : List Value) (calls : List CallRow) → Evaluates reading (values_of stage arguments) old new (Ok values) → calls ≡ map (call_with place parameters) (rows_of arguments values) → Evaluates reading (brings stage place parameters arguments) old new (Ok calls)
-  brings_calls parameters old new values calls h is = record { goes = λ n. rw is (goes_on reading (values_of stage arguments) _ old new new values (Ok (map (call_with place parameters) (rows_of arguments values))) (h.goes (λ q. cc)) (refl, refl)) }
+  brings_calls parameters old new values calls h is =
+      let whole : DialogueGoes reading (brings stage place parameters arguments) old new (Ok calls) = rw is (goes_on reading (values_of stage arguments) _ old new new values (Ok (map (call_with place parameters) (rows_of arguments values))) (h.goes (λ q. cc)) (refl, refl)) in
+      record { goes = λ n. whole; begins = whole_begins reading (brings stage place parameters arguments) old new (Ok calls) whole }
 
   -- one of them has a fault
   pub brings_fault : (parameters : List Parameter) (old new : List Entry) (f : Fault) → Evaluates reading (values_of stage arguments) old new (Err f) → Evaluates reading (brings stage place parameters arguments) old new (Err f)
-  brings_fault parameters old new f h = record { goes = λ n. stops reading (values_of stage arguments) _ old new f (h.goes (λ q. n (cc))) }
+  brings_fault parameters old new f h = then_stops (values_of stage arguments) _ h
+
+  -- memory ran out behind their values
+  pub brings_memory : (parameters : List Parameter) (old new : List Entry) (values : Result (List Value) Fault) → Evaluates reading (values_of stage arguments) old new values → Evaluates reading (brings stage place parameters arguments) old new (Err memory)
+  brings_memory parameters old new values h = brings_fault parameters old new memory (unless_memory h (λ n. absurd (n refl)))
 
   -- the recipe at the place has these parameters
   pub brings_found : (o : Option (Planned × ExecutionContext)) (parameters : List Parameter) → Some parameters ≡ option_map (λ placed. placed.0.recipe.now.parameters.items) o → brings_at stage place o arguments ≡ brings stage place parameters arguments
@@ -99,17 +106,13 @@ module _ (reading : Reading) (stage : Stage) (place : ℕ) (arguments : List Dep
 
   -- there is none
   pub brings_none : (o : Option (Planned × ExecutionContext)) (fault : Fault) (old : List Entry) → None ≡ option_map (λ placed. placed.0.recipe.now.parameters.items) o → (fault ≢ memory → fault ≡ internal (codes "dependency without a recipe")) → Evaluates reading (brings_at stage place o arguments) old old (Err fault)
-  brings_none None fault old e h = record { goes = λ n. (refl, ap Err (h (λ q. n (ap Err q)))) }
+  brings_none None fault old e h = ends (Err (internal (codes "dependency without a recipe"))) (λ n. ap Err (h (λ q. n (ap Err q))))
   brings_none (Some placed) fault old e h = absurd (cc)
 
 -- calls of two lists, one after the other
 pub rows_append : (as' bs : List Call) → rows (as' ++ bs) ≡ rows as' ++ rows bs
 rows_append [] bs = refl
 rows_append (a ∷ as') bs = ap (λ l. row_of a ∷ l) (rows_append as' bs)
-
--- where memory ran out nothing is said
-pub brings_memory : {A : Type 0} (reading : Reading) (d : Dialogue A) (old new : List Entry) → Evaluates reading d old new (Err memory)
-brings_memory reading d old new = record { goes = λ n. absurd (n refl) }
 
 -- whatever dependencies that are left bring about, all bring about with these calls in front
 pub record LeadsCalls (reading : Reading) (runner : Runner) (stage : Stage) (all rest : List UnresolvedDependency) (all_places places : List ℕ) (old now : List Entry) (calls : List CallRow) : Type 0 where
@@ -132,6 +135,10 @@ module _ (reading : Reading) (runner : Runner) (stage : Stage) where
   one_more d ds p ps mid new last cs (Err e) h g = goes_on reading (brings_at stage p (placed_in runner p) d.arguments.items) _ mid new last cs (Err e) h (stops reading (block runner stage ds ps) _ new last e g)
 
   module _ (all rest : List UnresolvedDependency) (all_places places : List ℕ) (old now new : List Entry) (calls : List CallRow) (c : LeadsCalls reading runner stage all rest all_places places old now calls) where
+    -- what begins the dependencies that are left begins all
+    calls_begin : Begins reading (block runner stage rest places) now new → Begins reading (block runner stage all all_places) old new
+    calls_begin b = record { rest = b.rest; result = in_front calls b.result; goes = c.on (new ++ b.rest) b.result b.goes }
+
     pub calls_more : (d : UnresolvedDependency) (ds : List UnresolvedDependency) (p : ℕ) (ps : List ℕ) (cs : List CallRow) → rest ≡ d ∷ ds → places ≡ p ∷ ps → Evaluates reading (brings_at stage p (placed_in runner p) d.arguments.items) now new (Ok cs) → LeadsCalls reading runner stage all ds all_places ps old new (calls ++ cs)
     calls_more d ds p ps cs is_rest is_places h = record {
       on = λ last r g.
@@ -144,6 +151,7 @@ module _ (reading : Reading) (runner : Runner) (stage : Stage) where
       goes = λ n.
           let here : DialogueGoes reading (block runner stage rest places) now new (Err f) = rw (is_rest, is_places) (stops reading (brings_at stage p (placed_in runner p) d.arguments.items) _ now new f (h.goes (λ q. n (cc)))) in
           c.on new (Err f) here;
+      begins = calls_begin (rw (is_rest, is_places) (begins_first reading (brings_at stage p (placed_in runner p) d.arguments.items) _ now new h.begins));
     }
 
   none_left : (rest : List UnresolvedDependency) (places : List ℕ) → (rest ≡ []) ⊎ (places ≡ []) → block runner stage rest places ≡ block runner stage [] []
@@ -152,6 +160,11 @@ module _ (reading : Reading) (runner : Runner) (stage : Stage) where
   none_left (d ∷ ds) places (inr e) = rw e refl
 
   pub calls_end : (all rest : List UnresolvedDependency) (all_places places : List ℕ) (old now : List Entry) (calls : List CallRow) → LeadsCalls reading runner stage all rest all_places places old now calls → (rest ≡ []) ⊎ (places ≡ []) → Evaluates reading (block runner stage all all_places) old now (Ok calls)
-  calls_end all rest all_places places old now calls c over = record {
-    goes = λ n. rw (← append-nil calls) (c.on now (Ok []) (rw (none_left rest places over) (refl, refl)));
-  }
+  calls_end all rest all_places places old now calls c over =
+      let whole : DialogueGoes reading (block runner stage all all_places) old now (Ok calls) = rw (← append-nil calls) (c.on now (Ok []) (rw (none_left rest places over) (refl, refl))) in
+      record { goes = λ n. whole; begins = whole_begins reading (block runner stage all all_places) old now (Ok calls) whole }
+
+  -- memory ran out between two dependencies
+  pub calls_memory : (all rest : List UnresolvedDependency) (all_places places : List ℕ) (old now : List Entry) (calls : List CallRow) → LeadsCalls reading runner stage all rest all_places places old now calls → Evaluates reading (block runner stage all all_places) old now (Err memory)
+  calls_memory all rest all_places places old now calls c =
+      record { goes = λ n. absurd (n refl); begins = calls_begin all rest all_places places old now now calls c (begins_here reading (block runner stage rest places) now) }

@@ -17,10 +17,12 @@ use Rattle.evaluate_variables.specs.declared.parameters.BoundParameters.{BoundPa
 use Rattle.meaning_dialogues.specs.Calls.{HasValues, empty}
 use Rattle.meaning_dialogues.specs.Evaluation.{Value}
 use Rattle.meaning_dialogues.specs.Faults.{memory}
+use Rattle.meaning_dialogues.proofs.Dialogues.{not_begun}
+use Rattle.evaluate_expressions.proofs.WantOfMemory.{unless_memory}
 use Rattle.meaning_runs.specs.Failures.{Failure, evaluation}
 use Rattle.meaning_stages.specs.Parameters.{Formal}
 use Rattle.analyze_calls.specs.Binding.{Binds, Grew, may_have}
-use Rattle.analyze_calls.specs.Entered.{bound_row, inside}
+use Rattle.analyze_calls.specs.Entered.{EnteredRow, bound_row, inside}
 use Rattle.analyze_calls.specs.declared.plan.Planned.{Planned}
 
 -- ---- records that grow
@@ -73,6 +75,10 @@ module _ (planned : Planned) (context : ExecutionContext) (flag : Bool) (groups 
     rows = tt;
   }
 
-  -- of want of memory only that the record grew is said
-  pub bound_memory : Grew old new → Binds planned context flag groups old new (Err (evaluation memory))
-  bound_memory grew = record { grew = grew; by_test = λ counts counted. (memory, refl, record { goes = λ n. absurd (n refl) }); rows = tt }
+  -- memory ran out behind what they are bound to
+  pub bound_memory : (entered : EnteredRow) → Binds planned context flag groups old new (Ok entered) → Binds planned context flag groups old new (Err (evaluation memory))
+  bound_memory entered b = record { grew = b.grew; by_test = λ counts counted. (memory, refl, unless_memory (b.by_test counts counted).1.evaluates (λ n. absurd (n refl))); rows = tt }
+
+-- memory ran out before anything was asked
+pub not_bound : (planned : Planned) (context : ExecutionContext) (flag : Bool) (groups : List Value) (log : List Entry) → Binds planned context flag groups log log (Err (evaluation memory))
+not_bound planned context flag groups log = record { grew = grown_none log; by_test = λ counts counted. (memory, refl, not_begun _ log); rows = tt }

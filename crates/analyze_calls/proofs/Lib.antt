@@ -5,3 +5,4 @@ pub mod Entering
 pub mod Around
 pub mod Openings
 pub mod Memory
+pub mod Beginnings

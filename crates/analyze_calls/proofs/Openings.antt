@@ -113,7 +113,8 @@ requests_end fault e (holds asked is) = absurd (cc)
 requests_end fault e (ends {fault = f} asked) = let same : fault ≡ f = cc in rw same asked
 
 module _ (config : Config) (view : ModuleView) where
-  requested : (b : Bool) → asks_for view.settings.now ≡ b → (request : DotenvRequest) → b ≡ true → request ≡ request_in config view → request_if_any config view ≡ Some request
+  -- they are asked for
+  pub requested : (b : Bool) → asks_for view.settings.now ≡ b → (request : DotenvRequest) → b ≡ true → request ≡ request_in config view → request_if_any config view ≡ Some request
   requested true e request t is = rw (e, is) refl
   requested false e request t is = absurd (cc)
 
@@ -134,7 +135,8 @@ module _ (config : Config) (view : ModuleView) where
 
 module _ (opens : Opening) (view : ModuleView) (pairs : List Pair) (context : ExecutionContext) (is : IsContextOf opens view pairs context) (wanted : Option (Bor (BTreeSet ℕ))) (wanted_is : wanted ≡ (if view.settings.now.lazy then opens.wanted else None))
     (before : Frames) (own_is : before.own ≡ []) (outer_is : before.outer ≡ opens.constants.now.own ∷ opens.constants.now.outer) (old new : List Entry) (own : List BoundRow) where
-  inside : (fault : Option Fault) → Opens context before.outer (reads wanted) (ordered context.module.now.assignments.now context.module.now.evaluation_order.now) before.own old own new fault
+  -- their frame is inside that of the constants
+  pub inside : (fault : Option Fault) → Opens context before.outer (reads wanted) (ordered context.module.now.assignments.now context.module.now.evaluation_order.now) before.own old own new fault
       → OpensInside context (is_wanted opens view) old own new fault
   inside fault h =
       let around : before.outer ≡ context.scope.now.own ∷ context.scope.now.outer = outer_is ∙ ap (λ s. s.own ∷ s.outer) (sym is.scope) in
@@ -171,7 +173,8 @@ module _ (opens : Opening) (place : ℕ) (view : ModuleView) (old mid new : List
     ended_by fault e (not_evaluated {fault = f} context is h) = let same : fault ≡ opening f = cc in rw same (unfilled context asked is h)
 
   module _ (held : List Pair) where
-    told_pairs : {r : Result (List Pair) OpeningFailure} (P : Type 0) → r ≡ Ok held → IsTold (request_if_any opens.config.now view) old mid r
+    -- its pairs are told
+    pub told_pairs : {r : Result (List Pair) OpeningFailure} (P : Type 0) → r ≡ Ok held → IsTold (request_if_any opens.config.now view) old mid r
         → ((pairs : List Pair) → held ≡ by_name pairs → Requests (request_if_any opens.config.now view) old mid (Ok pairs) → P) → P
     told_pairs P e (holds {pairs = ps} {held = h} asked is) then_ = let same : held ≡ h = cc in then_ ps (same ∙ is) asked
     told_pairs P e (ends asked) then_ = absurd (cc)
@@ -245,7 +248,8 @@ module _ (opens : Opening) (modules : List ModuleView) where
         at new (Ok rows) h = h
         at new (Err fault) h = h
 
-    split : (i place d : ℕ) → i < length places → place ≡ get_or places i d → drop i places ≡ place ∷ drop (i + 1) places
+    -- a place is before those that are left after it
+    pub split : (i place d : ℕ) → i < length places → place ≡ get_or places i d → drop i places ≡ place ∷ drop (i + 1) places
     split i place d lt is = let parts = drop-cons places i d lt in rw add-one (parts ∙ ap (λ y. y ∷ drop (suc i) places) (sym is))
 
     pub opens_more : (i place d : ℕ) (before rows : List OpenedRow) (mid next : List Entry) → OpensOn places old i before mid → i < length places → place ≡ get_or places i d

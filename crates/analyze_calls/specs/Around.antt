@@ -20,7 +20,7 @@ use Rattle.meaning_dialogues.specs.Dialogue.{Dialogue, Ends, Reading}
 use Rattle.meaning_dialogues.specs.Evaluation.{Stage}
 use Rattle.meaning_parameters.specs.Bindings.{run_reading}
 use Rattle.meaning_runs.specs.Failures.{Failure}
-use Rattle.meaning_runs.specs.Task.{Task, TaskLeads, ends, lift, ◌>>=◌}
+use Rattle.meaning_runs.specs.Task.{Task, TaskBegins, TaskLeads, ends, lift, ◌>>=◌}
 use Rattle.analyze_calls.specs.Binding.{Grew}
 use Rattle.analyze_calls.specs.Blocks.{block}
 use Rattle.analyze_calls.specs.Calls.{CallRow}
@@ -95,13 +95,34 @@ module _ (planned : Planned) (context : ExecutionContext) (flag : Bool) (entered
     pub is_own : IsOwnSite site
     pub goes : (b : NamedBody) → IsBodyOf b site evaluator planned.recipe.now.body.items → TaskLeads b.reading (task_of b) old new result
 
+  -- what was recorded is the beginning of what its body records where it was entered, with its own frame
+  pub record BodyBegins (old new : List Entry) : Type 0 where
+    pub grew : Grew old new
+    pub evaluator : Evaluator
+    pub stage : stage_at evaluator ≡ own_stage
+    pub reading : reading_at evaluator ≡ own_reading
+    pub site : Site
+    pub is_own : IsOwnSite site
+    pub begins : (b : NamedBody) → IsBodyOf b site evaluator planned.recipe.now.body.items → TaskBegins b.reading (task_of b) old new
+
   module _ (runner : Runner) where
     -- it is confirmed, and brings about the calls before its body
     abbrev pub Heads : List Entry → List Entry → Result (List CallRow) Failure → Type 0
     Heads old new result = TaskLeads own_reading (head_task runner planned context.config.now own_stage) old new result
+
+    -- what was recorded is the beginning of what its confirmation, and then the calls before its body, record
+    abbrev pub HeadsBegin : List Entry → List Entry → Type 0
+    HeadsBegin old new = TaskBegins own_reading (head_task runner planned context.config.now own_stage) old new
 
     -- its body runs, and brings about the calls after it
     pub data Tails (old new : List Entry) : Result (List CallRow) Failure → Type 0 where
       fails : {failure : Failure} → RunsBody old new (Err failure) → Tails old new (Err failure)
       runs : {mid : List Entry} {result : Result (List CallRow) Failure} → RunsBody old mid (Ok tt)
           → TaskLeads own_reading (lift (subsequent_calls runner planned context.config.now own_stage)) mid new result → Tails old new result
+
+    -- what was recorded is the beginning of what its body, and then the calls after it, record: nothing, a beginning of its body, or the whole of it and a beginning of the calls
+    pub data TailsBegin (old new : List Entry) : Type 0 where
+      nothing : new ≡ old → TailsBegin old new
+      in_body : BodyBegins old new → TailsBegin old new
+      after_it : {mid : List Entry} → RunsBody old mid (Ok tt)
+          → TaskBegins own_reading (lift (subsequent_calls runner planned context.config.now own_stage)) mid new → TailsBegin old new

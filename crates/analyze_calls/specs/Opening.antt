@@ -15,7 +15,7 @@ use Rattle.evaluate_context.specs.declared.context.ExecutionContext.{ExecutionCo
 use Rattle.evaluate_context.specs.declared.context.ModuleView.{ModuleView}
 use Rattle.evaluate_context.specs.declared.error.Error.{Error}
 use Rattle.evaluate_context.specs.declared.settings.Settings.{Settings}
-use Rattle.evaluate_variables.specs.Opened.{LeavesFrame, OpensInside, framed, reads}
+use Rattle.evaluate_variables.specs.Opened.{BeginsInside, LeavesFrame, OpensInside, framed, reads}
 use Rattle.meaning_dialogues.specs.Evaluation.{Value}
 use Rattle.meaning_dialogues.specs.Faults.{Fault, memory}
 use Rattle.meaning_opening.specs.Requests.{OpeningFailure, Requests, dotenv, opening}
@@ -57,6 +57,11 @@ pub data IsTold (request : Option DotenvRequest) (old new : List Entry) : Result
   holds : {pairs held : List Pair} → Requests request old new (Ok pairs) → held ≡ by_name pairs → IsTold request old new (Ok held)
   ends : {fault : OpeningFailure} → Requests request old new (Err fault) → IsTold request old new (Err fault)
 
+-- nothing was recorded, or the answer to what is asked for
+pub data MayBeTold (request : Option DotenvRequest) (old new : List Entry) : Type 0 where
+  not_told : new ≡ old → MayBeTold request old new
+  was_told : {result : Result (List Pair) OpeningFailure} → Requests request old new result → MayBeTold request old new
+
 -- ---- a module that is open
 
 -- its place, the pairs of its files of variables, by name, and its frame inside that of the constants
@@ -87,6 +92,12 @@ module _ (opens : Opens) where
     fills : {own : List BoundRow} (context : ExecutionContext) → IsContextOf view pairs context → OpensInside context (is_wanted view) old own new None → IsFilled view pairs old new (Ok own)
     fails : {fault : Fault} (context : ExecutionContext) → IsContextOf view pairs context → LeavesFrame context (is_wanted view) old new fault → IsFilled view pairs old new (Err (opening fault))
 
+  -- what was recorded is the beginning of what the evaluation of a module's variables records
+  pub record FillsBegin (view : ModuleView) (pairs : List Pair) (old new : List Entry) : Type 0 where
+    pub context : ExecutionContext
+    pub is : IsContextOf view pairs context
+    pub begins : BeginsInside context (is_wanted view) old new
+
   -- a module asks for its pairs, and then its variables are evaluated
   pub data OpensOne (place : ℕ) (view : ModuleView) (old new : List Entry) : Result OpenedRow OpeningFailure → Type 0 where
     untold : {fault : OpeningFailure} → Requests (request_if_any opens.config.now view) old new (Err fault) → OpensOne place view old new (Err fault)
@@ -107,6 +118,20 @@ module _ (opens : Opens) where
         → slice_get modules place ≡ Some view → OpensOne place view old new (Err fault) → OpensAll modules (place ∷ places) old new (Err fault)
     fault_later : {place : ℕ} {places : List ℕ} {view : ModuleView} {old mid new : List Entry} {row : OpenedRow} {fault : OpeningFailure}
         → slice_get modules place ≡ Some view → OpensOne place view old mid (Ok row) → OpensAll modules places mid new (Err fault) → OpensAll modules (place ∷ places) old new (Err fault)
+
+  -- what was recorded of the opening of a module is its beginning: nothing, what it was told, or a beginning of what an opening of it records
+  pub data OneBegins (place : ℕ) (view : ModuleView) (old new : List Entry) : Type 0 where
+    nothing : new ≡ old → OneBegins place view old new
+    asked : {result : Result (List Pair) OpeningFailure} → Requests (request_if_any opens.config.now view) old new result → OneBegins place view old new
+    goes : (rest : List Entry) {result : Result OpenedRow OpeningFailure} → OpensOne place view old (new ++ rest) result → OneBegins place view old new
+
+  -- of modules at these places in order: the whole of the openings of some, and of the next a beginning
+  pub data AllBegin (modules : List ModuleView) : List ℕ → List Entry → List Entry → Type 0 where
+    none_begins : {places : List ℕ} {log : List Entry} → AllBegin modules places log log
+    nowhere_begins : {place : ℕ} {places : List ℕ} {old new : List Entry} → slice_get modules place ≡ None → AllBegin modules places old new → AllBegin modules (place ∷ places) old new
+    one_begins : {place : ℕ} {places : List ℕ} {view : ModuleView} {old new : List Entry} → slice_get modules place ≡ Some view → OneBegins place view old new → AllBegin modules (place ∷ places) old new
+    later_begins : {place : ℕ} {places : List ℕ} {view : ModuleView} {old mid new : List Entry} {row : OpenedRow}
+        → slice_get modules place ≡ Some view → OpensOne place view old mid (Ok row) → AllBegin modules places mid new → AllBegin modules (place ∷ places) old new
 
   -- the module at one place, where there is one, opens after these
   pub data OpensAfter (modules : List ModuleView) (place : ℕ) (before : List OpenedRow) : List Entry → List Entry → Result (List OpenedRow) OpeningFailure → Type 0 where

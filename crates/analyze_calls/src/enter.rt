@@ -11,7 +11,7 @@ ghost use Rattle.justfile_evaluator.specs.Sites.{attribute_in, is_silent};
 ghost use Rattle.meaning_bodies.specs.Performing.{Performs};
 ghost use Rattle.meaning_dialogues.specs.Dialogue.{Evaluates};
 ghost use Rattle.meaning_parameters.specs.Bindings.{run_reading};
-ghost use Rattle.analyze_calls.specs.Around.{Heads, IsOwnSite, PerformsBody, SaysOwn, Tails, asked_unless, calls_unless, head_task, own_reading, own_stage};
+ghost use Rattle.analyze_calls.specs.Around.{Heads, HeadsBegin, IsOwnSite, PerformsBody, SaysOwn, Tails, TailsBegin, asked_unless, calls_unless, head_task, own_reading, own_stage};
 ghost use Rattle.analyze_calls.specs.Asked.{AsksUser};
 ghost use Rattle.analyze_calls.specs.Binding.{Binds, may_have};
 ghost use Rattle.analyze_calls.specs.Blocks as blocks;
@@ -256,6 +256,7 @@ fn done<'src, H: RunHost + Drop>(
 ) -> Result<Vec<Call>, RunFault<'src>>
     ensures asks { AsksWork placed.now.context.now.config.now.dry_run H.goes host.old host.new }
     ensures tails { scope.now ≡ inside entered.now.scope → IfGiven (λ calls. rows calls.items) host.new.exhausted result (Tails placed.now.planned.now placed.now.context.now entered.now.is_dependency (entered_of entered.now) runner.now host.old.entries host.new.entries) }
+    ensures begun { scope.now ≡ inside entered.now.scope → TailsBegin placed.now.planned.now placed.now.context.now entered.now.is_dependency (entered_of entered.now) runner.now host.old.entries host.new.entries }
     ensures said { IfErr result (SaysOwn placed.now.planned.now placed.now.context.now) }
 {
     let planned = placed.planned;
@@ -287,6 +288,7 @@ pub fn begin<'src, H: RunHost + Drop>(
 ) -> Result<Vec<Call>, RunFault<'src>>
     ensures asks { AsksUser H.goes host.old host.new }
     ensures heads { IfGiven (λ calls. rows calls.items) host.new.exhausted result (Heads placed.now.planned.now placed.now.context.now entered.now.is_dependency (entered_of entered.now) runner.now host.old.entries host.new.entries) }
+    ensures begun { HeadsBegin placed.now.planned.now placed.now.context.now entered.now.is_dependency (entered_of entered.now) runner.now host.old.entries host.new.entries }
     ensures told { IfErr result IsTold }
 {
     let scope = entered.scope.child(alloc)?;
@@ -305,6 +307,7 @@ pub fn end<'src, H: RunHost + Drop>(
 ) -> Result<Vec<Call>, RunFault<'src>>
     ensures asks { AsksWork placed.now.context.now.config.now.dry_run H.goes host.old host.new }
     ensures tails { IfGiven (λ calls. rows calls.items) host.new.exhausted result (Tails placed.now.planned.now placed.now.context.now entered.now.is_dependency (entered_of entered.now) runner.now host.old.entries host.new.entries) }
+    ensures begun { TailsBegin placed.now.planned.now placed.now.context.now entered.now.is_dependency (entered_of entered.now) runner.now host.old.entries host.new.entries }
     ensures said { IfErr result (SaysOwn placed.now.planned.now placed.now.context.now) }
 {
     let scope = entered.scope.child(alloc)?;

@@ -6,7 +6,7 @@ ghost use Rattle.evaluate_context.specs.Environment.{variable};
 ghost use Rattle.evaluate_context.specs.Surroundings as by;
 ghost use Rattle.analyze_calls.specs.declared.fault.OpeningFault.TheVariants.{OutOfMemory};
 ghost use Rattle.meaning_opening.specs.Requests.{Requests};
-ghost use Rattle.analyze_calls.specs.Opening.{IfOpened, IsContextOf, IsFilled, IsTold, OpensAfter, OpensAll, OpensOne, asks_for, opened_row, opened_rows, passed, request_if_any, request_in};
+ghost use Rattle.analyze_calls.specs.Opening.{AllBegin, FillsBegin, IfOpened, IsContextOf, IsFilled, IsTold, MayBeTold, OneBegins, OpensAfter, OpensAll, OpensOne, asks_for, opened_row, opened_rows, passed, request_if_any, request_in};
 
 use crate::fault::OpeningFault;
 use just_host::{Config, DotenvRequest, HostFault, Pair, Recorded, RunHost};
@@ -114,6 +114,7 @@ fn ask_dotenv<'src, H: RunHost + Drop>(
 ) -> Result<Sequence<Pair>, OpeningFault<'src>>
     ensures asks { AsksRequests H.goes host.old host.new }
     ensures requests { IfOpened (λ pairs. pairs) result (Requests (Some request.now) host.old.entries host.new.entries) }
+    ensures begun { MayBeTold (Some request.now) host.old.entries host.new.entries }
 {
     let asked = host.dotenv(request);
     told(asked, host.exhausted())
@@ -127,6 +128,7 @@ fn read_dotenv<'src, H: RunHost + Drop>(
 ) -> Result<BTreeMap<String, String>, OpeningFault<'src>>
     ensures asks { AsksRequests H.goes host.old host.new }
     ensures told { IfOpened (λ values. map variable values.entries) result (IsTold (request_if_any context.now.config.now context.now.module.now) host.old.entries host.new.entries) }
+    ensures begun { MayBeTold (request_if_any context.now.config.now context.now.module.now) host.old.entries host.new.entries }
 {
     if !asks(context.module.settings) {
         return Ok(BTreeMap::new(alloc));
@@ -168,6 +170,7 @@ fn dotenv_of<'x, 'src, H: RunHost + Drop>(
 ) -> Result<BTreeMap<String, String>, OpeningFault<'src>>
     ensures asks { AsksRequests H.goes host.old host.new }
     ensures told { IfOpened (λ values. map variable values.entries) result (IsTold (request_if_any opening.now.config.now module.now) host.old.entries host.new.entries) }
+    ensures begun { MayBeTold (request_if_any opening.now.config.now module.now) host.old.entries host.new.entries }
 {
     let context = opening.context(module, none);
     read_dotenv(alloc, host, &context)
@@ -185,6 +188,7 @@ fn fill<'x, 'src, H: RunHost + Drop>(
     ensures asks { AsksQuestions H.goes host.old host.new }
     ensures around { scope.new.outer ≡ scope.old.outer }
     ensures fills { (pairs : List Pair) → map variable dotenv.now.entries ≡ by.by_name pairs → scope.old.own ≡ [] → scope.old.outer ≡ opening.now.constants.now.own ∷ opening.now.constants.now.outer → IfOpened (λ done. scope.new.own) result (IsFilled opening.now module.now pairs host.old.entries host.new.entries) }
+    ensures begun { (pairs : List Pair) → map variable dotenv.now.entries ≡ by.by_name pairs → scope.old.own ≡ [] → scope.old.outer ≡ opening.now.constants.now.own ∷ opening.now.constants.now.outer → FillsBegin opening.now module.now pairs host.old.entries host.new.entries }
 {
     let context = opening.context(module, dotenv);
     let wanted = if module.settings.lazy {
@@ -208,6 +212,7 @@ fn open_module<'c, 'src, H: RunHost + Drop>(
 ) -> Result<Opened<'c, 'src>, OpeningFault<'src>>
     ensures asks { AsksRequests H.goes host.old host.new }
     ensures opens { IfOpened opened_row result (OpensOne opening.now place module.now host.old.entries host.new.entries) }
+    ensures begun { OneBegins opening.now place module.now host.old.entries host.new.entries }
 {
     let none = BTreeMap::new(alloc);
     let dotenv = dotenv_of(alloc, host, &*opening, &*module, &none)?;
@@ -237,6 +242,7 @@ fn push_opened<'c, 'src, H: RunHost + Drop>(
 ) -> Result<(), OpeningFault<'src>>
     ensures asks { AsksRequests H.goes host.old host.new }
     ensures opens { IfOpened (λ done. opened_rows opened.new.items) result (OpensAfter opening.now modules.now place (opened_rows opened.old.items) host.old.entries host.new.entries) }
+    ensures begun { AllBegin opening.now modules.now (place ∷ []) host.old.entries host.new.entries }
 {
     if place >= modules.len() {
         return Ok(());
@@ -257,6 +263,8 @@ pub fn open_modules<'c, 'src, H: RunHost + Drop>(
 ) -> Result<Vec<Opened<'c, 'src>>, OpeningFault<'src>>
     ensures asks { AsksRequests H.goes host.old host.new }
     ensures opens { IfOpened (λ all. opened_rows all.items) result (OpensAll opening.now modules.now order.now host.old.entries host.new.entries) }
+    // However it ends, what was recorded is the beginning of what the modules' openings record.
+    ensures begun { AllBegin opening.now modules.now order.now host.old.entries host.new.entries }
 {
     let mut opened = Vec::new(alloc);
     for place in order {

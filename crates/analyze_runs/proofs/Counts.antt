@@ -23,3 +23,11 @@ counted_on t u v a b = record {
   entered = omega (arith, a.entered, b.entered);
   within = λ w. b.within (a.within w);
 }
+
+-- nothing is counted before the first turn
+pub counted_first : (t : Tally) → HasCounted t t
+counted_first t = record {
+  calls = omega (arith);
+  entered = omega (arith);
+  within = λ w. w;
+}

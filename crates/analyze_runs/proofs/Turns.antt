@@ -23,6 +23,10 @@ use Rattle.analyze_calls.specs.Entered.{EnteredRow}
 use Rattle.analyze_runs.specs.Ran.{IfRan, IfTurned}
 use Rattle.analyze_runs.specs.Rest.{Rest, finished, went, stopped, block_went, block_failed, block_stopped, back, Leads, HasRun, set_aside, restored}
 use Rattle.analyze_runs.specs.Tallies.{met_one, entered_one, tally_of}
+use Rattle.analyze_runs.specs.Cut.{cuts, parts_cut}
+use Rattle.analyze_runs.specs.Steps.{parts}
+use Rattle.analyze_calls.specs.declared.plan.Runner.{Runner}
+use Rattle.meaning_runs.proofs.Cutting.{uncut}
 use Rattle.analyze_runs.specs.Todo.{Todo, Calls, Body, After}
 use Rattle.analyze_calls.specs.declared.call.Call.{Call}
 use Rattle.analyze_runs.specs.declared.tally.Tally.{Tally}
@@ -36,11 +40,15 @@ module _ {H : Type 0} (goes : H → List Entry → H → Type 0) (contexts : Lis
   pub asked_on : (a b c : Record H) → AsksIn contexts goes a b → AsksIn contexts goes b c → AsksIn contexts goes a c
   asked_on a b c first second = λ kinds questions user work start asked. second kinds questions user work start (first kinds questions user work start asked)
 
+  -- a record that can grow no more stays as it is
+  pub stays : Nothing goes → (a b : Record H) → AsksIn contexts goes a b → a.exhausted ≡ true → b ≡ a
+  stays nothing a b asks =
+      let all : Asks (Only every goes) a b = asks every (record { asked = λ q r. refl }) (record { shown = λ t. refl; confirmed = λ p r. refl }) (λ context there dry. record { lines = λ k r. refl; scripts = λ k r. refl }) in
+      (all a (asked_nothing (Only every goes) (only_nothing every goes nothing) a)).followed.stays
+
   -- a record that can still grow could grow before
   pub was_open : Nothing goes → (a b : Record H) → AsksIn contexts goes a b → b.exhausted ≡ false → a.exhausted ≡ false
-  was_open nothing a b asks e =
-      let all : Asks (Only every goes) a b = asks every (record { asked = λ q r. refl }) (record { shown = λ t. refl; confirmed = λ p r. refl }) (λ context there dry. record { lines = λ k r. refl; scripts = λ k r. refl }) in
-      steps.was_open a b (all a (asked_nothing (Only every goes) (only_nothing every goes nothing) a)).followed.stays e
+  was_open nothing a b asks e = steps.was_open a b (stays nothing a b asks) e
 
 -- what is restored after subsequents: what they did where they share it, and else what was done before
 after_set_aside : (shared : Bool) (done done2 : List CallRow) → restored (set_aside shared done) done2 ≡ cond shared done2 done
@@ -48,12 +56,12 @@ after_set_aside true done done2 = refl
 after_set_aside false done done2 = refl
 
 module _ (p : Parts CallRow EnteredRow Entry Failure) where
-  met_again : {todos : List Todo} {flag : Bool} {call : CallRow} {calls done : List CallRow} {log new : List Entry} {t t' : runs.Tally} {failure : Option Failure} → is_met p.same call done ≡ true
+  pub met_again : {todos : List Todo} {flag : Bool} {call : CallRow} {calls done : List CallRow} {log new : List Entry} {t t' : runs.Tally} {failure : Option Failure} → is_met p.same call done ≡ true
       → Rest p (Calls flag calls ∷ todos) done log (runs.met_one t) new t' failure → Rest p (Calls flag (call ∷ calls) ∷ todos) done log t new t' failure
   met_again k (went g r) = went (again k g) r
   met_again k (stopped g) = stopped (again k g)
 
-  entering : {todos : List Todo} {flag : Bool} {call : CallRow} {calls done priors : List CallRow} {bound : EnteredRow} {log log1 new : List Entry} {t t' : runs.Tally} {failure : Option Failure}
+  pub entering : {todos : List Todo} {flag : Bool} {call : CallRow} {calls done priors : List CallRow} {bound : EnteredRow} {log log1 new : List Entry} {t t' : runs.Tally} {failure : Option Failure}
       → is_met p.same call done ≡ false → p.Begins call flag log log1 (Ok (bound, priors))
       → Rest p (Calls true priors ∷ Body call flag bound ∷ Calls flag calls ∷ todos) done log1 (runs.entered_one (runs.met_one t)) new t' failure → Rest p (Calls flag (call ∷ calls) ∷ todos) done log t new t' failure
   entering u b (stopped g) = stopped (prior_failed u b g)
@@ -62,14 +70,14 @@ module _ (p : Parts CallRow EnteredRow Entry Failure) where
   entering u b (went g (block_went e s j (stopped r))) = stopped (entered u b g e s j r)
   entering u b (went g (block_went e s j (went r rest))) = went (entered u b g e s j r) rest
 
-  body_done : {todos : List Todo} {flag : Bool} {call : CallRow} {done subsequents : List CallRow} {bound : EnteredRow} {log log1 new : List Entry} {t t' : runs.Tally} {failure : Option Failure}
+  pub body_done : {todos : List Todo} {flag : Bool} {call : CallRow} {done subsequents : List CallRow} {bound : EnteredRow} {log log1 new : List Entry} {t t' : runs.Tally} {failure : Option Failure}
       → p.Ends call flag bound log log1 (Ok subsequents)
       → Rest p (Calls true subsequents ∷ After call (set_aside (p.shares call) done) ∷ todos) (cond (p.shares call) done []) log1 t new t' failure → Rest p (Body call flag bound ∷ todos) done log t new t' failure
   body_done e (stopped s) = block_stopped e s
   body_done {call = call} {done = done} e (went {done1 = done2} s (back {done3 = done3} j r)) =
       block_went e s (subst (λ d. Joins p.same call d done3) (after_set_aside (p.shares call) done done2) j) r
 
-  whole : {calls : List CallRow} {log new : List Entry} {t t' : runs.Tally} {failure : Option Failure} → Rest p (Calls false calls ∷ []) [] log t new t' failure → HasRun p calls log t new t' failure
+  pub whole : {calls : List CallRow} {log new : List Entry} {t t' : runs.Tally} {failure : Option Failure} → Rest p (Calls false calls ∷ []) [] log t new t' failure → HasRun p calls log t new t' failure
   whole (stopped {done1 = d} g) = (d, g)
   whole (went {done1 = d} g finished) = (d, g)
 
@@ -139,3 +147,11 @@ module _ (p : Parts CallRow EnteredRow Entry Failure) where
       → IfRan exhausted result (Rest p todos done log t new t') → IfRan exhausted result (HasRun p calls log t new t')
   begins calls todos done log new t t' exhausted (Ok u) e f h = λ k. whole_if calls todos done log new t t' None e f (h k)
   begins calls todos done log new t t' exhausted (Err fault) e f h = λ k n. whole_if calls todos done log new t t' (Some (failure_of fault)) e f (h k n)
+
+-- a run that does not fail for want of memory was not cut
+pub run_uncut : (runner : Runner) (calls : List CallRow) (todos : List Todo) (done : List CallRow) (log new : List Entry) (t t' : runs.Tally) (exhausted : Bool) (result : Result (Unit {0}) RunFault) → todos ≡ Calls false calls ∷ [] → done ≡ []
+    → IfRan exhausted result (Rest (parts_cut runner) todos done log t new t') → IfRan exhausted result (HasRun (parts runner) calls log t new t')
+run_uncut runner calls todos done log new t t' exhausted (Ok u) e f h = λ k. let r = begins (parts_cut runner) calls todos done log new t t' exhausted (Ok u) e f h k in (r.0, uncut (parts runner) (cuts runner) (λ q. cc) r.1)
+run_uncut runner calls todos done log new t t' exhausted (Err fault) e f h = λ k n.
+    let r = begins (parts_cut runner) calls todos done log new t t' exhausted (Err fault) e f h k n in
+    (r.0, uncut (parts runner) (cuts runner) (λ q. n (let same : failure_of fault ≡ evaluation memory = cc q in same)) r.1)

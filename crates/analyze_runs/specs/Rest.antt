@@ -41,6 +41,12 @@ module _ (p : Parts CallRow EnteredRow Entry Failure) where
   pub record Leads (todos : List Todo) (done : List CallRow) (log : List Entry) (t : Tally) (todos' : List Todo) (done' : List CallRow) (log' : List Entry) (t' : Tally) : Type 0 where
     pub all : (new : List Entry) (last : Tally) (failure : Option Failure) → Rest todos' done' log' t' new last failure → Rest todos done log t new last failure
 
+  -- what was recorded is what a stack does from here, with some tally and some end
+  pub record RestBegins (todos : List Todo) (done : List CallRow) (log : List Entry) (t : Tally) (new : List Entry) : Type 0 where
+    pub last : Tally
+    pub failure : Option Failure
+    pub rest : Rest todos done log t new last failure
+
   -- a run of the calls with nothing done at first
   abbrev pub HasRun : List CallRow → List Entry → Tally → List Entry → Tally → Option Failure → Type 0
   HasRun calls old t new t' failure = (done : List CallRow) × Goes p false [] old t calls done new t' failure

@@ -7,7 +7,8 @@ ghost use Rattle.analyze_calls.specs.Entered.{entered_of};
 ghost use Rattle.analyze_runs.specs.Todo.{Calls, Body, After};
 ghost use Rattle.analyze_runs.specs.Tallies.{HasCounted, tally_of};
 ghost use Rattle.analyze_runs.specs.Ran.{IfRan, IfTurned, SaysIn};
-ghost use Rattle.analyze_runs.specs.Rest.{Rest, Leads, HasRun};
+ghost use Rattle.analyze_runs.specs.Cut.{BeginsRun, parts_cut};
+ghost use Rattle.analyze_runs.specs.Rest.{Rest, RestBegins, Leads, HasRun};
 ghost use Rattle.analyze_runs.specs.Rest as rest;
 ghost use Rattle.analyze_runs.specs.Steps.{parts};
 ghost use Rattle.analyze_runs.specs.Weight.{weight};
@@ -56,8 +57,10 @@ fn turn_calls<'m, 'src, H: RunHost + Drop>(
     ensures asks { AsksUser H.goes host.old host.new }
     // What the stack does from here on, it did with these calls on it; a failure ends the run.
     ensures goes { IfTurned host.new.exhausted result
-        (Leads (parts runner.now) (Calls are_dependencies (rows pending) ∷ stack.old) done.now host.old.entries (tally_of tally.old) stack.new done.now host.new.entries (tally_of tally.new))
-        (λ failure. Rest (parts runner.now) (Calls are_dependencies (rows pending) ∷ stack.old) done.now host.old.entries (tally_of tally.old) host.new.entries (tally_of tally.new) (Some failure)) }
+        (Leads (parts_cut runner.now) (Calls are_dependencies (rows pending) ∷ stack.old) done.now host.old.entries (tally_of tally.old) stack.new done.now host.new.entries (tally_of tally.new))
+        (λ failure. Rest (parts_cut runner.now) (Calls are_dependencies (rows pending) ∷ stack.old) done.now host.old.entries (tally_of tally.old) host.new.entries (tally_of tally.new) (Some failure)) }
+    // However it ended, what was recorded is what the stack does with these calls on it, where a step may be cut.
+    ensures begun { RestBegins (parts_cut runner.now) (Calls are_dependencies (rows pending) ∷ stack.old) done.now host.old.entries (tally_of tally.old) host.new.entries }
     ensures told { IfErr result IsTold }
 {
     let Some(call) = pending.next() else {
@@ -133,8 +136,9 @@ fn turn_body<'m, 'src, H: RunHost + Drop>(
     ensures asks { AsksIn runner.now.contexts.now H.goes host.old host.new }
     // What the stack does from here on, it did with this body on it, for every tally; a failure ends the run.
     ensures goes { (t : runs.Tally) → IfTurned host.new.exhausted result
-        (Leads (parts runner.now) (Body (row_of call) entered.now.is_dependency (entered_of entered.now) ∷ stack.old) done.old host.old.entries t stack.new done.new host.new.entries t)
-        (λ failure. Rest (parts runner.now) (Body (row_of call) entered.now.is_dependency (entered_of entered.now) ∷ stack.old) done.old host.old.entries t host.new.entries t (Some failure)) }
+        (Leads (parts_cut runner.now) (Body (row_of call) entered.now.is_dependency (entered_of entered.now) ∷ stack.old) done.old host.old.entries t stack.new done.new host.new.entries t)
+        (λ failure. Rest (parts_cut runner.now) (Body (row_of call) entered.now.is_dependency (entered_of entered.now) ∷ stack.old) done.old host.old.entries t host.new.entries t (Some failure)) }
+    ensures begun { (t : runs.Tally) → RestBegins (parts_cut runner.now) (Body (row_of call) entered.now.is_dependency (entered_of entered.now) ∷ stack.old) done.old host.old.entries t host.new.entries }
     ensures said { IfErr result (SaysIn runner.now) }
 {
     let subsequents = leave(alloc, host, runner, &call, entered)?;
@@ -159,7 +163,8 @@ fn run_stack<'m, 'src, H: RunHost + Drop>(
 ) -> Result<(), RunFault<'src>>
     ensures counted { HasCounted tally.old tally.new }
     ensures asks { AsksIn runner.now.contexts.now H.goes host.old host.new }
-    ensures goes { IfRan host.new.exhausted result (Rest (parts runner.now) stack.old done.old host.old.entries (tally_of tally.old) host.new.entries (tally_of tally.new)) }
+    ensures goes { IfRan host.new.exhausted result (Rest (parts_cut runner.now) stack.old done.old host.old.entries (tally_of tally.old) host.new.entries (tally_of tally.new)) }
+    ensures begun { RestBegins (parts_cut runner.now) stack.old done.old host.old.entries (tally_of tally.old) host.new.entries }
     ensures said { IfErr result (SaysIn runner.now) }
 {
     while let Some(frame) = stack.pop() {
@@ -206,6 +211,8 @@ pub fn run_calls<'m, 'src, H: RunHost + Drop>(
     ensures asks { AsksIn runner.now.contexts.now H.goes host.old host.new }
     // Where memory suffices, the record and the tally grow by a run of the calls with nothing done at first.
     ensures goes { IfRan host.new.exhausted result (HasRun (parts runner.now) (rows calls.items) host.old.entries (tally_of tally.old) host.new.entries (tally_of tally.new)) }
+    // However it ends, what was recorded is the beginning of what such a run records.
+    ensures begun { BeginsRun runner.now (rows calls.items) host.old.entries (tally_of tally.old) host.new.entries }
     // A command's failure is that of a recipe of the run, and as silent as that.
     ensures said { IfErr result (SaysIn runner.now) }
 {

@@ -1,13 +1,15 @@
 //! How a call begins and how it ends.
-ghost use Rattle.std.specs.Prelude.{◌≡◌, ◌<◌, true, false, IfOk, IfErr};
+ghost use Rattle.std.specs.Prelude.{◌≡◌, ◌<◌, true, false, IfOk, IfErr, Some};
 ghost use Rattle.std.specs.Option.{option_map};
 ghost use Rattle.justfile_evaluator.specs.Ended.{IsTold};
 ghost use Rattle.analyze_calls.specs.Calls.{row_of, rows};
 ghost use Rattle.analyze_calls.specs.Ran.{IfGiven, ended_as};
-ghost use Rattle.analyze_calls.specs.Around.{Heads, SaysOwn, Tails};
+ghost use Rattle.meaning_runs.specs.Task.{TaskBegins};
+ghost use Rattle.analyze_calls.specs.Around.{Heads, SaysOwn, Tails, TailsBegin, head_task, own_reading, own_stage};
 ghost use Rattle.analyze_calls.specs.Asked.{AsksIn, AsksUser};
 ghost use Rattle.analyze_calls.specs.Binding.{Binds};
 ghost use Rattle.analyze_calls.specs.Entered.{entered_of};
+ghost use Rattle.analyze_runs.specs.Cut.{HasBegun, HasEnded};
 ghost use Rattle.analyze_runs.specs.Ran.{SaysIn};
 ghost use Rattle.analyze_runs.specs.Steps.{Begins, Ends, BeginsAt, HeadsBelow, begun, shares_at};
 ghost use Rattle.analyze_calls.specs.Placed.{placed_in};
@@ -95,6 +97,7 @@ fn priors<'m, 'src, H: RunHost + Drop>(
 ) -> Result<Pending, RunFault<'src>>
     ensures below { IfOk result (AreBelow place) }
     ensures asks { AsksUser H.goes host.old host.new }
+    ensures begun { TaskBegins (own_reading placed.now.planned.now placed.now.context.now entered.now.is_dependency (entered_of entered.now)) (head_task runner.now placed.now.planned.now placed.now.context.now.config.now (own_stage placed.now.planned.now placed.now.context.now entered.now.is_dependency (entered_of entered.now))) host.old.entries host.new.entries }
     ensures heads { IfGiven (λ p. rows p) host.new.exhausted result (HeadsBelow place (Heads placed.now.planned.now placed.now.context.now entered.now.is_dependency (entered_of entered.now) runner.now host.old.entries host.new.entries)) }
     ensures told { IfErr result IsTold }
 {
@@ -114,6 +117,7 @@ fn enter_placed<'m, 'src, H: RunHost + Drop>(
     ensures below { IfOk result (λ r. AreBelow call.now.recipe r.1) }
     ensures asks { AsksUser H.goes host.old host.new }
     ensures flag { IfOk result (λ r. r.0.value.is_dependency ≡ is_dependency) }
+    ensures begun { placed_in runner.now call.now.recipe ≡ Some (placed.now.planned.now, placed.now.context.now) → HasBegun runner.now (row_of call.now) is_dependency host.old.entries host.new.entries }
     ensures goes { IfGiven (λ r. begun (r.0.value, r.1)) host.new.exhausted result (BeginsAt runner.now placed.now.planned.now placed.now.context.now (row_of call.now) is_dependency host.old.entries host.new.entries) }
     ensures told { IfErr result IsTold }
 {
@@ -134,6 +138,7 @@ pub(crate) fn enter<'m, 'src, H: RunHost + Drop>(
     ensures below { IfOk result (λ r. AreBelow call.now.recipe r.1) }
     ensures asks { AsksUser H.goes host.old host.new }
     ensures flag { IfOk result (λ r. r.0.value.is_dependency ≡ is_dependency) }
+    ensures begun { HasBegun runner.now (row_of call.now) is_dependency host.old.entries host.new.entries }
     ensures goes { IfGiven (λ r. begun (r.0.value, r.1)) host.new.exhausted result (Begins runner.now (row_of call.now) is_dependency host.old.entries host.new.entries) }
     ensures told { IfErr result IsTold }
 {
@@ -155,6 +160,7 @@ fn subsequents<'m, 'src, H: RunHost + Drop>(
     ensures below { IfOk result (λ behind. AreBelow place behind.calls) }
     ensures asks { AsksWork placed.now.context.now.config.now.dry_run H.goes host.old host.new }
     ensures shared { IfOk result (λ behind. behind.are_shared ≡ placed.now.context.now.module.now.settings.now.share_subsequents) }
+    ensures begun { TailsBegin placed.now.planned.now placed.now.context.now entered.now.is_dependency (entered_of entered.now) runner.now host.old.entries host.new.entries }
     ensures goes { IfGiven (λ behind. rows behind.calls) host.new.exhausted result (HeadsBelow place (Tails placed.now.planned.now placed.now.context.now entered.now.is_dependency (entered_of entered.now) runner.now host.old.entries host.new.entries)) }
     ensures said { IfErr result (SaysOwn placed.now.planned.now placed.now.context.now) }
 {
@@ -177,6 +183,7 @@ pub(crate) fn leave<'m, 'src, H: RunHost + Drop>(
     ensures below { IfOk result (λ behind. AreBelow call.now.recipe behind.calls) }
     ensures asks { AsksIn runner.now.contexts.now H.goes host.old host.new }
     ensures shared { IfOk result (λ behind. behind.are_shared ≡ shares_at runner.now (row_of call.now)) }
+    ensures begun { HasEnded runner.now (row_of call.now) entered.now.is_dependency (entered_of entered.now) host.old.entries host.new.entries }
     ensures goes { IfGiven (λ behind. rows behind.calls) host.new.exhausted result (Ends runner.now (row_of call.now) entered.now.is_dependency (entered_of entered.now) host.old.entries host.new.entries) }
     ensures said { IfErr result (SaysIn runner.now) }
 {

@@ -9,9 +9,9 @@ use Rattle.evaluate_functions.specs.declared.fault.FunctionFault.{FunctionFault}
 use Rattle.evaluate_functions.specs.declared.fault.FunctionFault.TheVariants.{OutOfMemory, Message}
 use Rattle.evaluate_functions.specs.Functions.{Answers}
 use Rattle.meaning_dialogues.specs.Answers.{IsAnswered, text_in, optional_in}
-use Rattle.meaning_dialogues.specs.Dialogue.{Dialogue, Ends, Asks, Evaluates, Reading}
+use Rattle.meaning_dialogues.specs.Dialogue.{Ends, Asks, Evaluates, Reading}
 use Rattle.meaning_dialogues.specs.Evaluation.{Value, ticked}
-use Rattle.meaning_dialogues.specs.Faults.{Fault, function_failed, memory}
+use Rattle.meaning_dialogues.specs.Faults.{Fault, function_failed}
 use Rattle.meaning_dialogues.proofs.Answered.{answered_goes}
 use Rattle.meaning_dialogues.proofs.Dialogues.{ends}
 use Rattle.just_value.specs.Paths.{join}
@@ -30,10 +30,6 @@ value_named name value given h = answer_named name (Ok value) given h
 
 pub refusal_named : (name text : List ℕ) (fault : FunctionFault) → Answers (Err text) (Err fault) → IsNamed name (Err fault) (Err (function_failed name text))
 refusal_named name text fault h = answer_named name (Err text) (Err fault) h
-
--- without memory nothing is claimed
-pub refused_goes : {A : Type 0} {reading : Reading} (dialogue : Dialogue A) (old new : List Entry) → Evaluates reading dialogue old new (Err memory)
-refused_goes dialogue old new = record { goes = λ n. absurd (n refl) }
 
 -- what is made of the answer to a question
 pub question_goes : {A : Type 0} {reading : Reading} {question : Question} {tells : Answer → A} {old new : List Entry} {told : A} {given : Result Value FunctionFault} (name : List ℕ) (gives : A → Result Value Fault) → IsAnswered question tells old new told → IsNamed name given (gives told) → Evaluates reading (Asks question (λ answer. Ends (gives (tells answer)))) old new (named name given)

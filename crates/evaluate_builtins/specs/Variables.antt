@@ -8,7 +8,7 @@ use Rattle.evaluate_context.specs.Environment.{last_of}
 use Rattle.evaluate_functions.specs.declared.fault.FunctionFault.{FunctionFault}
 use Rattle.evaluate_functions.specs.declared.fault.FunctionFault.TheVariants.{OutOfMemory, Message}
 use Rattle.meaning_dialogues.specs.Answers.{optional_in}
-use Rattle.meaning_dialogues.specs.Dialogue.{Dialogue, Asks, DialogueGoes, Reading}
+use Rattle.meaning_dialogues.specs.Dialogue.{Dialogue, Asks, Begins, DialogueGoes, Reading}
 use Rattle.meaning_dialogues.specs.Evaluation.{Value}
 use Rattle.meaning_dialogues.specs.Faults.{Fault, function_failed}
 use Rattle.evaluate_builtins.specs.Builtins.{in_files, looked_up, not_present, untold}
@@ -21,12 +21,12 @@ asked_variable name variable rest = Asks (Environment variable) (λ answer. look
 abbrev pub one_variable : List ℕ → List Pair → List ℕ → Dialogue Value → Dialogue Value
 one_variable name dotenv variable rest = in_files (last_of variable dotenv) (asked_variable name variable rest)
 
--- a text ends the dialogue, so does a refusal, and where there is neither the rest leads on
+-- a text ends the dialogue, so does a refusal, and where there is neither the rest leads on; where memory ran out, the dialogue begins by what was recorded
 abbrev pub LeadsOn : List ℕ → Reading → Dialogue Value → Dialogue Value → List Entry → List Entry → Result (Option (List ℕ)) FunctionFault → Type 0
 LeadsOn name reading all rest old new (Ok (Some text)) = DialogueGoes reading all old new (Ok (text ∷ []))
 LeadsOn name reading all rest old new (Ok None) = (last : List Entry) (end : Result Value Fault) → DialogueGoes reading rest new last end → DialogueGoes reading all old last end
 LeadsOn name reading all rest old new (Err (Message text)) = DialogueGoes reading all old new (Err (function_failed name text))
-LeadsOn name reading all rest old new (Err OutOfMemory) = ⊤
+LeadsOn name reading all rest old new (Err OutOfMemory) = Begins reading all old new
 
 -- the environment was asked for a variable, with this result
 pub record IsAskedFor (variable : List ℕ) (old new : List Entry) (result : Result (Option (List ℕ)) FunctionFault) : Type 0 where

@@ -10,7 +10,7 @@ ghost use Rattle.just_host.specs.Kinds.{AsksQuestions};
 ghost use Rattle.just_host.specs.Faults.{fault_text};
 ghost use Rattle.just_host.specs.declared.entry.Entry.TheVariants.{Asked};
 ghost use Rattle.meaning_dialogues.specs.Answers as answers;
-ghost use Rattle.meaning_dialogues.specs.Answers.{IsAnswered};
+ghost use Rattle.meaning_dialogues.specs.Answers.{IsAnswered, MayAsk};
 
 use evaluate_functions::FunctionFault;
 use just_host::{Answer, Host, HostFault, Question, Recorded};
@@ -21,6 +21,7 @@ use std::alloc::{AllocError, Global};
 /// The host's answer.
 fn ask<H: Host + Drop>(host: &mut Recorded<H>, question: &Question) -> Result<Answer, AllocError>
     ensures asks { AsksQuestions H.goes host.old host.new }
+    ensures begun { MayAsk question.now host.old.entries host.new.entries }
     ensures kept { IfOk result (λ answer. host.new.entries ≡ host.old.entries ++ Asked question.now answer ∷ []) }
 {
     let answer = host.ask(question);
@@ -79,6 +80,7 @@ pub fn ask_text<H: Host + Drop>(
     question: &Question,
 ) -> Result<Result<Text, HostFault>, AllocError>
     ensures asks { AsksQuestions H.goes host.old host.new }
+    ensures begun { MayAsk question.now host.old.entries host.new.entries }
     ensures answered { IfOk result (IsAnswered question.now answers.text_in host.old.entries host.new.entries) }
 {
     let answer = ask(host, question)?;
@@ -92,6 +94,7 @@ pub fn ask_optional<H: Host + Drop>(
     question: &Question,
 ) -> Result<Result<Option<Text>, HostFault>, AllocError>
     ensures asks { AsksQuestions H.goes host.old host.new }
+    ensures begun { MayAsk question.now host.old.entries host.new.entries }
     ensures answered { IfOk result (IsAnswered question.now answers.optional_in host.old.entries host.new.entries) }
 {
     let answer = ask(host, question)?;
@@ -105,6 +108,7 @@ pub fn ask_truth<H: Host + Drop>(
     question: &Question,
 ) -> Result<Result<bool, HostFault>, AllocError>
     ensures asks { AsksQuestions H.goes host.old host.new }
+    ensures begun { MayAsk question.now host.old.entries host.new.entries }
     ensures answered { IfOk result (IsAnswered question.now answers.truth_in host.old.entries host.new.entries) }
 {
     let answer = ask(host, question)?;

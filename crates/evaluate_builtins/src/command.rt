@@ -8,7 +8,7 @@ ghost use Rattle.evaluate_context.specs.Surroundings.{job_of, standing_in, surro
 ghost use Rattle.just_host.specs.Kinds.{AsksQuestions};
 ghost use Rattle.just_host.specs.declared.host.HostFault.TheVariants.{Memory};
 ghost use Rattle.meaning_dialogues.specs.Answers as answers;
-ghost use Rattle.meaning_dialogues.specs.Answers.{IsAnswered};
+ghost use Rattle.meaning_dialogues.specs.Answers.{IsAnswered, MayAsk};
 
 use crate::asked::ask_text;
 use evaluate_context::{ExecutionContext, JobEnvironment};
@@ -116,6 +116,7 @@ pub fn command_output<H: Host + Drop>(
     positional: &[String],
 ) -> Result<Result<Text, HostFault>, AllocError>
     ensures asks { AsksQuestions H.goes host.old host.new }
+    ensures begun { MayAsk (command_question context.now env.now scope.now command.now (map string_bytes positional.now)) host.old.entries host.new.entries }
     ensures answered { IfOk result (IsAnswered (command_question context.now env.now scope.now command.now (map string_bytes positional.now)) printed_in host.old.entries host.new.entries) }
 {
     let job = expression_job(alloc, context, env, scope, command, positional)?;
@@ -135,6 +136,7 @@ pub fn run_command<H: Host + Drop>(
     positional: &[String],
 ) -> Result<Text, HostFault>
     ensures asks { AsksQuestions H.goes host.old host.new }
+    ensures begun { MayAsk (command_question context.now env.now scope.now command.now (map string_bytes positional.now)) host.old.entries host.new.entries }
     ensures answered { (result ≡ Err Memory) ⊎ IsAnswered (command_question context.now env.now scope.now command.now (map string_bytes positional.now)) printed_in host.old.entries host.new.entries result }
 {
     match command_output(alloc, host, context, env, scope, command, positional) {

@@ -72,6 +72,7 @@ fn refusal(alloc: Global, names: &Value) -> FunctionFault
 }
 
 /// The variable's value, by the files of variables and then by the environment.
+#[tactic(auto, using(crate::proofs::Asking::without_memory))]
 fn looked_up<H: Host + Drop>(
     alloc: Global,
     host: &mut Recorded<H>,
@@ -102,6 +103,7 @@ fn in_files<'a>(dotenv: &'a BTreeMap<String, String>, name: &str) -> Option<&'a 
 }
 
 /// The value of the environment's variable.
+#[tactic(auto, using(crate::proofs::Asking::not_asked_for, crate::proofs::Asking::asked_without_memory))]
 fn in_environment<H: Host + Drop>(
     alloc: Global,
     host: &mut Recorded<H>,

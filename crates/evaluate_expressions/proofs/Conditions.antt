@@ -1,5 +1,5 @@
 -- Tests of values, and a comparison as a condition.
-use Rattle.std.proofs.Common.{◌≡◌, ◌≢◌, ◌<◌, ◌↔◌, Bool, true, false, not, IsTrue, List, [], ◌∷◌, length, Result, Ok, Err, refl, sym, ap, ◌∙◌, rules, arith}
+use Rattle.std.proofs.Common.{◌≡◌, ◌≢◌, ◌<◌, ◌↔◌, Bool, true, false, not, IsTrue, List, [], ◌∷◌, ◌++◌, length, Result, Ok, Err, refl, sym, ap, ◌∙◌, rules, arith}
 use Rattle.std.specs.Global.{Box}
 use Rattle.just_text.specs.declared.token.Token.{Token}
 use Rattle.tree_expressions.specs.declared.expression.Expression.{Expression, Comparison, the_lemmas}
@@ -46,7 +46,9 @@ goes_held reading (Asks q next) old new r h = (h.0, goes_held reading (next h.0)
 goes_held reading (Reads p x next) old new r h = weaker (reading p x) (λ v g. goes_held reading (next v) old new r g) (λ f g. g) h
 
 pub held : {reading : Reading} {d : Dialogue Bool} {old new : List Entry} {r : Result Bool Fault} → Evaluates reading d old new r → Evaluates reading (holding (d >>= λ b. Ends (Ok (truth b)))) old new r
-held {reading = reading} {d = d} {old = old} {new = new} {r = r} h = record { goes = λ n. goes_held reading d old new r (h.goes n) }
+held {reading = reading} {d = d} {old = old} {new = new} {r = r} h =
+    let b = h.begins in
+    record { goes = λ n. goes_held reading d old new r (h.goes n); begins = record { rest = b.rest; result = b.result; goes = goes_held reading d old (new ++ b.rest) b.result b.goes } }
 
 pub comparison_term : (l : Box Expression) (operator : ConditionalOperator) (r : Box Expression) (token : Token) → term_of (Comparison l operator r token) ≡ comparison operator (term_of l.value) (term_of r.value)
 comparison_term l operator r token = search (rules, the_lemmas)

@@ -12,6 +12,7 @@ use Rattle.tree_expressions.specs.declared.expression.Expression.{Expression, An
 use Rattle.meaning_dialogues.specs.Faults.{Fault, memory}
 use Rattle.meaning_dialogues.specs.Dialogue.{Ends, Reads, Evaluates, Reading, around}
 use Rattle.meaning_dialogues.specs.Evaluation.{Value}
+use Rattle.meaning_dialogues.proofs.Dialogues.{begins_here}
 use Rattle.meaning_dialogues.specs.Terms.{term_of, literal, command, variable, both, either, negation, paired, appended, group}
 
 pub and_term : (l r : Box Expression) → term_of (And l r) ≡ both (term_of l.value) (term_of r.value)
@@ -47,4 +48,7 @@ read_goes old (Err fault) r e = (refl, e)
 
 -- a variable that is read
 pub reads : {reading : Reading} {old : List Entry} {r : Result Value Fault} (name : List ℕ) (number : Option ℕ) → (r ≢ Err memory → r ≡ reading around (record { name = name; number = number })) → Evaluates reading (Reads around (record { name = name; number = number }) (λ value. Ends (Ok value))) old old r
-reads {reading = reading} {old = old} {r = r} name number e = record { goes = λ n. read_goes old (reading around (record { name = name; number = number })) r (e n) }
+reads {reading = reading} {old = old} {r = r} name number e = record {
+  goes = λ n. read_goes old (reading around (record { name = name; number = number })) r (e n);
+  begins = begins_here reading (Reads around (record { name = name; number = number }) (λ value. Ends (Ok value))) old;
+}

@@ -1,4 +1,5 @@
 pub mod Calling
+pub mod Commands
 pub mod Conditions
 pub mod Frames
 pub mod InterpreterWords

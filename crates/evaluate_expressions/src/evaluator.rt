@@ -366,7 +366,6 @@ impl<'run, 'src> Evaluator<'run, 'src> {
     /// The right side's value after a left side with an element, else the empty list.
     #[cycle(evaluate)]
     #[inline(never)]
-    #[tactic(auto, using(meaning_dialogues::proofs::Dialogues::then_goes, meaning_dialogues::proofs::Dialogues::then_stops, meaning_dialogues::proofs::Dialogues::ends))]
     fn evaluate_and<H: Host + Drop>(
         &self,
         memory: Memory,
@@ -388,7 +387,6 @@ impl<'run, 'src> Evaluator<'run, 'src> {
     /// The left side's value where it has an element, else the right side's.
     #[cycle(evaluate)]
     #[inline(never)]
-    #[tactic(auto, using(meaning_dialogues::proofs::Dialogues::then_goes, meaning_dialogues::proofs::Dialogues::then_stops, meaning_dialogues::proofs::Dialogues::ends))]
     fn evaluate_or<H: Host + Drop>(
         &self,
         memory: Memory,
@@ -410,7 +408,6 @@ impl<'run, 'src> Evaluator<'run, 'src> {
     /// `true` where the operand has no element, else the empty list.
     #[cycle(evaluate)]
     #[inline(never)]
-    #[tactic(auto, using(meaning_dialogues::proofs::Dialogues::then_goes, meaning_dialogues::proofs::Dialogues::then_stops, meaning_dialogues::proofs::Dialogues::ends))]
     fn evaluate_not<H: Host + Drop>(
         &self,
         memory: Memory,
@@ -427,7 +424,6 @@ impl<'run, 'src> Evaluator<'run, 'src> {
     /// What an assertion without a message gives.
     #[cycle(evaluate)]
     #[inline(never)]
-    #[tactic(auto, using(meaning_dialogues::proofs::Dialogues::then_goes, meaning_dialogues::proofs::Dialogues::then_stops, meaning_dialogues::proofs::Dialogues::ends))]
     fn evaluate_assertion<H: Host + Drop>(
         &self,
         memory: Memory,
@@ -448,7 +444,6 @@ impl<'run, 'src> Evaluator<'run, 'src> {
     /// What an assertion with a message gives.
     #[cycle(evaluate)]
     #[inline(never)]
-    #[tactic(auto, using(meaning_dialogues::proofs::Dialogues::then_goes, meaning_dialogues::proofs::Dialogues::then_stops, meaning_dialogues::proofs::Dialogues::ends))]
     fn evaluate_told_assertion<H: Host + Drop>(
         &self,
         memory: Memory,
@@ -470,7 +465,6 @@ impl<'run, 'src> Evaluator<'run, 'src> {
     /// The refusal of an assertion with this message.
     #[cycle(evaluate)]
     #[inline(never)]
-    #[tactic(auto, using(meaning_dialogues::proofs::Dialogues::then_goes, meaning_dialogues::proofs::Dialogues::then_stops, meaning_dialogues::proofs::Dialogues::ends))]
     fn evaluate_failure<H: Host + Drop>(
         &self,
         memory: Memory,
@@ -488,7 +482,6 @@ impl<'run, 'src> Evaluator<'run, 'src> {
     /// The value of the branch that the condition chooses.
     #[cycle(evaluate)]
     #[inline(never)]
-    #[tactic(auto, using(meaning_dialogues::proofs::Dialogues::then_goes, meaning_dialogues::proofs::Dialogues::then_stops, meaning_dialogues::proofs::Dialogues::ends))]
     fn evaluate_choice<H: Host + Drop>(
         &self,
         memory: Memory,
@@ -510,7 +503,6 @@ impl<'run, 'src> Evaluator<'run, 'src> {
     /// The value of the one branch where the condition holds, else the empty list.
     #[cycle(evaluate)]
     #[inline(never)]
-    #[tactic(auto, using(meaning_dialogues::proofs::Dialogues::then_goes, meaning_dialogues::proofs::Dialogues::then_stops, meaning_dialogues::proofs::Dialogues::ends))]
     fn evaluate_option<H: Host + Drop>(
         &self,
         memory: Memory,
@@ -531,7 +523,6 @@ impl<'run, 'src> Evaluator<'run, 'src> {
     /// Whether the condition holds: for a comparison what it says, else whether there is an element.
     #[cycle(evaluate)]
     #[inline(never)]
-    #[tactic(auto, using(meaning_dialogues::proofs::Dialogues::then_goes, meaning_dialogues::proofs::Dialogues::then_stops, meaning_dialogues::proofs::Dialogues::ends))]
     fn evaluate_condition<H: Host + Drop>(
         &self,
         memory: Memory,
@@ -557,7 +548,6 @@ impl<'run, 'src> Evaluator<'run, 'src> {
     /// A comparison's value: `true` or the empty list.
     #[cycle(evaluate)]
     #[inline(never)]
-    #[tactic(auto, using(meaning_dialogues::proofs::Dialogues::then_goes, meaning_dialogues::proofs::Dialogues::then_stops, meaning_dialogues::proofs::Dialogues::ends))]
     fn evaluate_truth<H: Host + Drop>(
         &self,
         memory: Memory,
@@ -577,7 +567,6 @@ impl<'run, 'src> Evaluator<'run, 'src> {
     /// What the comparison says. Patterns are refused once both sides are evaluated.
     #[cycle(evaluate)]
     #[inline(never)]
-    #[tactic(auto, using(meaning_dialogues::proofs::Dialogues::then_goes, meaning_dialogues::proofs::Dialogues::then_stops, meaning_dialogues::proofs::Dialogues::ends))]
     fn evaluate_comparison<H: Host + Drop>(
         &self,
         memory: Memory,
@@ -597,7 +586,6 @@ impl<'run, 'src> Evaluator<'run, 'src> {
     /// What the operator gives of each text with one or more others.
     #[cycle(evaluate)]
     #[inline(never)]
-    #[tactic(auto, using(meaning_dialogues::proofs::Dialogues::then_goes, meaning_dialogues::proofs::Dialogues::then_stops, meaning_dialogues::proofs::Dialogues::ends))]
     fn evaluate_pairing<H: Host + Drop>(
         &self,
         memory: Memory,
@@ -617,7 +605,6 @@ impl<'run, 'src> Evaluator<'run, 'src> {
     /// What `/` gives without a left side.
     #[cycle(evaluate)]
     #[inline(never)]
-    #[tactic(auto, using(meaning_dialogues::proofs::Dialogues::then_goes, meaning_dialogues::proofs::Dialogues::then_stops, meaning_dialogues::proofs::Dialogues::ends))]
     fn evaluate_root_join<H: Host + Drop>(
         &self,
         memory: Memory,
@@ -635,7 +622,6 @@ impl<'run, 'src> Evaluator<'run, 'src> {
     /// The elements of the left side's value, then those of the right side's.
     #[cycle(evaluate)]
     #[inline(never)]
-    #[tactic(auto, using(meaning_dialogues::proofs::Dialogues::then_goes, meaning_dialogues::proofs::Dialogues::then_stops, meaning_dialogues::proofs::Dialogues::ends))]
     fn evaluate_appended<H: Host + Drop>(
         &self,
         memory: Memory,
@@ -654,7 +640,6 @@ impl<'run, 'src> Evaluator<'run, 'src> {
     /// The values of the two sides, from the left.
     #[cycle(evaluate)]
     #[inline(never)]
-    #[tactic(auto, using(meaning_dialogues::proofs::Dialogues::then_goes, meaning_dialogues::proofs::Dialogues::then_stops, meaning_dialogues::proofs::Dialogues::ends))]
     fn evaluate_sides<H: Host + Drop>(
         &self,
         memory: Memory,
@@ -673,7 +658,6 @@ impl<'run, 'src> Evaluator<'run, 'src> {
     /// The elements of all values, in order.
     #[cycle(evaluate)]
     #[inline(never)]
-    #[tactic(auto, using(meaning_dialogues::proofs::Dialogues::then_goes, meaning_dialogues::proofs::Dialogues::then_stops, meaning_dialogues::proofs::Dialogues::ends))]
     fn evaluate_list<H: Host + Drop>(
         &self,
         memory: Memory,
@@ -695,7 +679,6 @@ impl<'run, 'src> Evaluator<'run, 'src> {
     /// it has three marks.
     #[cycle(evaluate)]
     #[inline(never)]
-    #[tactic(auto, using(meaning_dialogues::proofs::Dialogues::then_goes, meaning_dialogues::proofs::Dialogues::then_stops, meaning_dialogues::proofs::Dialogues::ends))]
     fn evaluate_format<H: Host + Drop>(
         &self,
         memory: Memory,
@@ -717,7 +700,6 @@ impl<'run, 'src> Evaluator<'run, 'src> {
     /// What the function of this name answers. A function of the justfile hides a built-in one.
     #[cycle(evaluate)]
     #[inline(never)]
-    #[tactic(auto, using(meaning_dialogues::proofs::Dialogues::then_goes, meaning_dialogues::proofs::Dialogues::then_stops, meaning_dialogues::proofs::Dialogues::ends))]
     fn call<H: Host + Drop>(
         &self,
         memory: Memory,
@@ -741,7 +723,6 @@ impl<'run, 'src> Evaluator<'run, 'src> {
     /// counted before any argument is evaluated.
     #[cycle(evaluate)]
     #[inline(never)]
-    #[tactic(auto, using(meaning_dialogues::proofs::Dialogues::then_goes, meaning_dialogues::proofs::Dialogues::then_stops, meaning_dialogues::proofs::Dialogues::ends))]
     fn call_defined<H: Host + Drop>(
         &self,
         memory: Memory,
@@ -781,7 +762,6 @@ impl<'run, 'src> Evaluator<'run, 'src> {
     /// The values in order.
     #[cycle(evaluate)]
     #[inline(never)]
-    #[tactic(auto, using(meaning_dialogues::proofs::Dialogues::then_goes, meaning_dialogues::proofs::Dialogues::then_stops, meaning_dialogues::proofs::Dialogues::ends))]
     fn evaluate_row<H: Host + Drop>(
         &self,
         memory: Memory,
@@ -801,7 +781,6 @@ impl<'run, 'src> Evaluator<'run, 'src> {
     /// What the built-in function of this name answers.
     #[cycle(evaluate)]
     #[inline(never)]
-    #[tactic(auto, using(meaning_dialogues::proofs::Dialogues::then_goes, meaning_dialogues::proofs::Dialogues::then_stops, meaning_dialogues::proofs::Dialogues::ends))]
     fn call_builtin<H: Host + Drop>(
         &self,
         memory: Memory,
@@ -823,7 +802,6 @@ impl<'run, 'src> Evaluator<'run, 'src> {
     /// before the next is evaluated.
     #[cycle(evaluate)]
     #[inline(never)]
-    #[tactic(auto, using(meaning_dialogues::proofs::Dialogues::then_goes, meaning_dialogues::proofs::Dialogues::then_stops, meaning_dialogues::proofs::Dialogues::ends))]
     fn evaluate_arguments<H: Host + Drop>(
         &self,
         memory: Memory,
@@ -861,7 +839,6 @@ impl<'run, 'src> Evaluator<'run, 'src> {
     }
 
     /// The one element of the expression's value.
-    #[tactic(auto, using(meaning_dialogues::proofs::Dialogues::then_goes, meaning_dialogues::proofs::Dialogues::then_stops, meaning_dialogues::proofs::Dialogues::ends))]
     fn one_text<H: Host + Drop>(
         &self,
         alloc: Global,

@@ -30,7 +30,6 @@ fn body_text(alloc: Global, lexeme: &str, is_trimmed: bool) -> Result<String, Al
 
 impl<'run, 'src> Evaluator<'run, 'src> {
     /// The fragment's text, or its value, joined.
-    #[tactic(auto, using(meaning_dialogues::proofs::Dialogues::then_goes, meaning_dialogues::proofs::Dialogues::then_stops, meaning_dialogues::proofs::Dialogues::ends))]
     fn fragment_text<H: Host + Drop>(
         &self,
         alloc: Global,

@@ -1,5 +1,5 @@
 -- One variable after another.
-use Rattle.std.proofs.Common.{◌≡◌, ◌≢◌, ℕ, suc, ◌+◌, ◌<◌, ◌≤◌, Bool, true, false, List, [], ◌∷◌, ◌++◌, length, get_or, drop, Option, Some, None, Ok, Err, refl, sym, ap, ◌∙◌, add-one, drop-cons, inl, inr}
+use Rattle.std.proofs.Common.{◌≡◌, ◌≢◌, ℕ, suc, ◌+◌, ◌<◌, ◌≤◌, Bool, true, false, List, [], ◌∷◌, ◌++◌, length, get_or, drop, Option, Some, None, Result, Ok, Err, refl, sym, ap, ◌∙◌, add-one, append_assoc, drop-cons, inl, inr, subst}
 use Rattle.std.specs.Prelude.{slice_get, is_some}
 use Rattle.std.specs.Option.{option_map}
 use Rattle.std.proofs.lemmas.List.{drop_all}
@@ -7,11 +7,12 @@ use Rattle.just_host.specs.declared.entry.Entry.{Entry}
 use Rattle.just_value.specs.Frames.{BoundRow, ByNumber, Frames, Rebinds, look_up}
 use Rattle.evaluate_context.specs.declared.context.AssignmentRef.{AssignmentRef}
 use Rattle.evaluate_context.specs.declared.context.ExecutionContext.{ExecutionContext}
-use Rattle.meaning_dialogues.specs.Dialogue.{Evaluates}
+use Rattle.meaning_dialogues.specs.Dialogue.{Begins, Evaluates}
 use Rattle.meaning_dialogues.specs.Evaluation.{Value}
 use Rattle.meaning_dialogues.specs.Faults.{Fault, memory}
-use Rattle.meaning_stages.specs.Assigned.{Assigned, assigned_dialogue, row_of, all, skipped, opened, refused}
-use Rattle.evaluate_variables.specs.Opened.{Opens, before, opening_reading, opening_stage, ordered, overridden}
+use Rattle.meaning_stages.specs.Assigned.{Assigned, BeginsAssigning, assigned_dialogue, row_of, all, skipped, opened, refused}
+use Rattle.meaning_stages.proofs.Assigning.{assigning_here, assigns_begins, value_begins}
+use Rattle.evaluate_variables.specs.Opened.{BeginsOpening, Opens, before, framed, opening_reading, opening_stage, ordered, overridden}
 
 module _ (context : ExecutionContext) (outer : List (List BoundRow)) (is_read : ℕ → Bool) where
   pub then_opens : {xs ys : List Assigned} {own mid last : List BoundRow} {old now new : List Entry} {f g : Option Fault}
@@ -27,6 +28,29 @@ module _ (context : ExecutionContext) (outer : List (List BoundRow)) (is_read : 
   then_refused ys e (skipped p m) = skipped p (then_refused ys e m)
   then_refused ys e (opened v r f d b s m) = opened v r f d b s (then_refused ys e m)
   then_refused ys e (refused r f d) = refused r f d
+
+  -- from each frame variables can be opened to an end
+  pub opening_here : (variables : List Assigned) (own : List BoundRow) (old : List Entry) → BeginsOpening context outer is_read variables own old old
+  opening_here variables own old = assigning_here outer (λ own. opening_stage context (framed outer own)) (λ own. opening_reading (framed outer own)) context.module.now.settings.now.export (overridden context.overrides.now) is_read variables own old
+
+  -- what opened variables record is a beginning
+  pub opens_begins : {variables : List Assigned} {own last : List BoundRow} {old new : List Entry} {fault : Option Fault} → Opens context outer is_read variables own old last new fault → BeginsOpening context outer is_read variables own old new
+  opens_begins h = assigns_begins outer (λ own. opening_stage context (framed outer own)) (λ own. opening_reading (framed outer own)) context.module.now.settings.now.export (overridden context.overrides.now) is_read h
+
+  -- what begins variables begins them and those behind them
+  pub begins_before : {xs : List Assigned} (ys : List Assigned) {own : List BoundRow} {old new : List Entry} → BeginsOpening context outer is_read xs own old new → BeginsOpening context outer is_read (xs ++ ys) own old new
+  begins_before {xs} ys {own} {old} {new} b = by_fault b.fault b.assigns
+    where
+      by_fault : (fault : Option Fault) → Opens context outer is_read xs own old b.last (new ++ b.rest) fault → BeginsOpening context outer is_read (xs ++ ys) own old new
+      by_fault None h =
+          let others = opening_here ys b.last (new ++ b.rest) in
+          record {
+            rest = b.rest ++ others.rest;
+            last = others.last;
+            fault = others.fault;
+            assigns = subst (λ n. Opens context outer is_read (xs ++ ys) own old others.last n others.fault) (append_assoc new b.rest others.rest) (then_opens refl h others.assigns);
+          }
+      by_fault (Some fault) h = record { rest = b.rest; last = b.last; fault = Some fault; assigns = then_refused ys refl h }
 
   -- whatever the rest leads to from here on, all leads to
   pub record OpensOn (variables rest : List Assigned) (own : List BoundRow) (old : List Entry) (now : List BoundRow) (mid : List Entry) : Type 0 where
@@ -63,6 +87,13 @@ module _ (context : ExecutionContext) (is_read : ℕ → Bool) (a : Assigned) (s
       → Opens context s.outer is_read (a ∷ []) s.own old s.own new (Some fault)
   opens_fault r f n e = refused r f (e.goes (λ q. n (cc)))
 
+  -- however the variable's value ended, what was recorded is a beginning
+  pub opening_begins : {old new : List Entry} {result : Result Value Fault} → is_read a.number ≡ true → look_up s a.number ≡ None
+      → Evaluates (opening_reading s) (assigned_dialogue (overridden context.overrides.now a.number) (opening_stage context s) a.value) old new result
+      → BeginsOpening context s.outer is_read (a ∷ []) s.own old new
+  opening_begins {old} {new} r f e =
+      value_begins s.outer (λ own. opening_stage context (framed s.outer own)) (λ own. opening_reading (framed s.outer own)) context.module.now.settings.now.export (overridden context.overrides.now) is_read a [] s.own old new r f (opening_here context s.outer is_read []) e.begins
+
 pub opens_none : (context : ExecutionContext) (outer : List (List BoundRow)) (is_read : ℕ → Bool) (own : List BoundRow) (old : List Entry) (o : Option AssignmentRef) → o ≡ None → Opens context outer is_read (before o []) own old own old None
 opens_none context outer is_read own old o h = rw h all
 
@@ -91,6 +122,18 @@ module _ (context : ExecutionContext) (outer : List (List BoundRow)) (is_read : 
       → Opens context outer is_read (ordered variables (place ∷ [])) now mid next new (Some fault) → Opens context outer is_read (ordered variables places) own old next new (Some fault)
   places_fail i place d now next mid new fault c h e o =
       c.on next new (Some fault) (rw (at_place variables places i place d h e) (then_refused context outer is_read (ordered variables (drop (i + 1) places)) refl o))
+
+  -- what begins the variable at a place begins all of them
+  pub places_begin : (i place d : ℕ) (now : List BoundRow) (mid new : List Entry) → OpensPlaces i now mid → i < length places → place ≡ get_or places i d
+      → BeginsOpening context outer is_read (ordered variables (place ∷ [])) now mid new → BeginsOpening context outer is_read (ordered variables places) own old new
+  places_begin i place d now mid new c h e b =
+      let others = begins_before context outer is_read (ordered variables (drop (i + 1) places)) b in
+      record {
+        rest = others.rest;
+        last = others.last;
+        fault = others.fault;
+        assigns = c.on others.last (new ++ others.rest) others.fault (rw (at_place variables places i place d h e) others.assigns);
+      }
 
   pub places_end : (i : ℕ) (now : List BoundRow) (mid : List Entry) → OpensPlaces i now mid → length places ≤ i → Opens context outer is_read (ordered variables places) own old now mid None
   places_end i now mid c h = c.on now mid None (rw (drop_all i places h) all)

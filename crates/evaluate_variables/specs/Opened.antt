@@ -19,7 +19,7 @@ use Rattle.meaning_dialogues.specs.Calls.{reading_in_frames}
 use Rattle.meaning_dialogues.specs.Dialogue.{Reading}
 use Rattle.meaning_dialogues.specs.Evaluation.{Stage}
 use Rattle.meaning_dialogues.specs.Faults.{Fault, memory}
-use Rattle.meaning_stages.specs.Assigned.{Assigned, Assigns, assigned_of}
+use Rattle.meaning_stages.specs.Assigned.{Assigned, Assigns, BeginsAssigning, assigned_of}
 
 abbrev pub assigned : Bor (Binding Expression) → Assigned
 assigned assignment = assigned_of (record { assignment = assignment })
@@ -57,6 +57,10 @@ opening_reading frames = reading_in_frames (λ number. false) frames frames
 abbrev pub Opens : ExecutionContext → List (List BoundRow) → (ℕ → Bool) → List Assigned → List BoundRow → List Entry → List BoundRow → List Entry → Option Fault → Type 0
 Opens context outer is_read = Assigns outer (λ own. opening_stage context (framed outer own)) (λ own. opening_reading (framed outer own)) context.module.now.settings.now.export (overridden context.overrides.now) is_read
 
+-- however opening variables ends, what was recorded is the beginning of what they record
+abbrev pub BeginsOpening : ExecutionContext → List (List BoundRow) → (ℕ → Bool) → List Assigned → List BoundRow → List Entry → List Entry → Type 0
+BeginsOpening context outer is_read = BeginsAssigning outer (λ own. opening_stage context (framed outer own)) (λ own. opening_reading (framed outer own)) context.module.now.settings.now.export (overridden context.overrides.now) is_read
+
 -- what it was refused for
 abbrev pub refusal : {A : Type 0} → Result A Error → Option Fault
 refusal (Ok a) = None
@@ -65,6 +69,10 @@ refusal (Err error) = Some (fault_of error)
 -- the same in a frame of its own inside the context's scope
 abbrev pub OpensInside : ExecutionContext → (ℕ → Bool) → List Entry → List BoundRow → List Entry → Option Fault → Type 0
 OpensInside context is_read old own new fault = Opens context (context.scope.now.own ∷ context.scope.now.outer) is_read (ordered context.module.now.assignments.now context.module.now.evaluation_order.now) [] old own new fault
+
+-- and what was recorded is the beginning of what they record
+abbrev pub BeginsInside : ExecutionContext → (ℕ → Bool) → List Entry → List Entry → Type 0
+BeginsInside context is_read old new = BeginsOpening context (context.scope.now.own ∷ context.scope.now.outer) is_read (ordered context.module.now.assignments.now context.module.now.evaluation_order.now) [] old new
 
 -- a refused one leaves some frame
 pub record LeavesFrame (context : ExecutionContext) (is_read : ℕ → Bool) (old new : List Entry) (fault : Fault) : Type 0 where

@@ -7,7 +7,7 @@ ghost use Rattle.meaning_dialogues.specs.Faults.{memory};
 ghost use Rattle.meaning_dialogues.specs.Terms.{term_of};
 ghost use Rattle.meaning_stages.specs.Assigned.{assigned_dialogue};
 ghost use Rattle.evaluate_variables.specs.Known.{IsProper, VariablesKnown};
-ghost use Rattle.evaluate_variables.specs.Opened.{Opens, OpensFrame, assigned, opening_reading, opening_stage, ordered, overridden, reads, refusal};
+ghost use Rattle.evaluate_variables.specs.Opened.{BeginsInside, BeginsOpening, Opens, OpensFrame, assigned, opening_reading, opening_stage, ordered, overridden, reads, refusal};
 
 use evaluate_context::{Error, ExecutionContext};
 use evaluate_expressions::Evaluator;
@@ -54,6 +54,7 @@ fn is_exported(context: &ExecutionContext, assignment: &Assignment) -> bool
 
 /// Evaluates the variable into the scope's innermost frame, if it is among those that are read and is
 /// not bound already.
+#[tactic(auto, using(crate::proofs::Opening::opening_here))]
 fn open_assignment<'src, H: Host + Drop>(
     alloc: Global,
     host: &mut Recorded<H>,
@@ -65,6 +66,7 @@ fn open_assignment<'src, H: Host + Drop>(
     ensures asks { AsksQuestions H.goes host.old host.new }
     ensures around { scope.new.outer ≡ scope.old.outer }
     ensures opens { seen result ≢ Err memory → Opens context.now scope.old.outer (reads references.entry) (assigned assignment.entry ∷ []) scope.old.own host.old.entries scope.new.own host.new.entries (refusal result) }
+    ensures begun { BeginsOpening context.now scope.old.outer (reads references.entry) (assigned assignment.entry ∷ []) scope.old.own host.old.entries host.new.entries }
 {
     let number = assignment.number;
     if !is_read(references, number) {
@@ -80,6 +82,7 @@ fn open_assignment<'src, H: Host + Drop>(
 }
 
 /// Evaluates the variable at the place so, if there is one there.
+#[tactic(auto, using(crate::proofs::Opening::opening_here))]
 fn open_place<'src, H: Host + Drop>(
     alloc: Global,
     host: &mut Recorded<H>,
@@ -91,6 +94,7 @@ fn open_place<'src, H: Host + Drop>(
     ensures asks { AsksQuestions H.goes host.old host.new }
     ensures around { scope.new.outer ≡ scope.old.outer }
     ensures opens { seen result ≢ Err memory → Opens context.now scope.old.outer (reads references.entry) (ordered context.now.module.now.assignments.now (place ∷ [])) scope.old.own host.old.entries scope.new.own host.new.entries (refusal result) }
+    ensures begun { BeginsOpening context.now scope.old.outer (reads references.entry) (ordered context.now.module.now.assignments.now (place ∷ [])) scope.old.own host.old.entries host.new.entries }
 {
     match context.module.assignments.get(place) {
         Some(variable) => {
@@ -113,6 +117,7 @@ pub fn open_assignments<'src, H: Host + Drop>(
     ensures asks { AsksQuestions H.goes host.old host.new }
     ensures around { scope.new.outer ≡ scope.old.outer }
     ensures opens { seen result ≢ Err memory → Opens context.now scope.old.outer (reads references.entry) (ordered context.now.module.now.assignments.now context.now.module.now.evaluation_order.now) scope.old.own host.old.entries scope.new.own host.new.entries (refusal result) }
+    ensures begun { BeginsOpening context.now scope.old.outer (reads references.entry) (ordered context.now.module.now.assignments.now context.now.module.now.evaluation_order.now) scope.old.own host.old.entries host.new.entries }
 {
     for place in context.module.evaluation_order {
         open_place(alloc, host, context, scope, references, *place)?;
@@ -130,12 +135,14 @@ pub fn evaluate_assignments<'a, 'src, H: Host + Drop>(
 ) -> Result<Scope<'a, 'src>, Error<'src>>
     ensures asks { AsksQuestions H.goes host.old host.new }
     ensures opens { OpensFrame context.now (reads references.entry) host.old.entries host.new.entries result }
+    ensures begun { BeginsInside context.now (reads references.entry) host.old.entries host.new.entries }
     ensures known { VariablesKnown context.now (reads references.entry) → IfErr result IsProper }
 {
     open_frame(alloc, host, context, references)
 }
 
 /// The module's frame inside the context's scope.
+#[tactic(auto, using(crate::proofs::Opening::opening_here))]
 fn open_frame<'a, 'src, H: Host + Drop>(
     alloc: Global,
     host: &mut Recorded<H>,
@@ -144,6 +151,7 @@ fn open_frame<'a, 'src, H: Host + Drop>(
 ) -> Result<Scope<'a, 'src>, Error<'src>>
     ensures asks { AsksQuestions H.goes host.old host.new }
     ensures opens { OpensFrame context.now (reads references.entry) host.old.entries host.new.entries result }
+    ensures begun { BeginsInside context.now (reads references.entry) host.old.entries host.new.entries }
 {
     let mut scope = context.scope.child(alloc)?;
     match open_assignments(alloc, host, context, &mut scope, references) {

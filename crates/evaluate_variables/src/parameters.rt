@@ -75,7 +75,6 @@ impl<'a, 'src> Site<'a, 'src> {
 }
 
 /// The pair that an `env` attribute gives; none where its value is empty.
-#[tactic(auto, using(meaning_dialogues::proofs::Dialogues::then_goes, meaning_dialogues::proofs::Dialogues::then_stops, meaning_dialogues::proofs::Dialogues::ends))]
 fn env_pair<'src, H: Host + Drop>(
     alloc: Global,
     host: &mut Recorded<H>,

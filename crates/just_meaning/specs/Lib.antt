@@ -8,5 +8,6 @@ pub mod Rows
 pub mod Steady
 pub mod Reach
 pub mod Actions
+pub mod Begun
 pub mod Defining
 pub mod Driving

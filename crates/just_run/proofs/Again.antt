@@ -1,8 +1,9 @@
 -- What is answered is read again.
-use Rattle.std.proofs.Common.{◌≡◌, inl, inr, ℕ, Bool, ◌&&◌, ◌||◌, true, false, List, [], ◌∷◌, codes, Option, Some, None, Result, Ok, Err, if◌then◌else◌, unwrap_or, refl, sym, subst}
+use Rattle.std.proofs.Common.{◌≡◌, ◌⊎◌, inl, inr, ℕ, Bool, ◌&&◌, ◌||◌, true, false, List, [], ◌∷◌, codes, Option, Some, None, Result, Ok, Err, if◌then◌else◌, unwrap_or, refl, sym, subst}
 use Rattle.std.specs.List.{list_any, list_all}
 use Rattle.std.specs.Option.{option_and_then}
 use Rattle.std.specs.Str.{bytes_eq}
+use Rattle.std.proofs.lemmas.Slice.Eq.{bytes_eq-Decides}
 use Rattle.just_text.specs.declared.os.Os.{Os}
 use Rattle.tree_attribute_sets.specs.Indentations as one_of
 use Rattle.tree_items.specs.Files.{item_shapes}
@@ -12,10 +13,17 @@ use Rattle.tree_items.specs.declared.ast.Item.{Item}
 use Rattle.justfile_syntax.specs.Bodies.{is_indentation}
 use Rattle.modules_compilation.specs.declared.module_node.File.{File}
 use Rattle.meaning_formatted.specs.Formatted.{PrintsBack}
-use Rattle.run_plain.proofs.Naming.{bytes_eq_cases}
 use Rattle.just_run.specs.Texts.{IsFormatted, IsReadAgain, answered_text, formatted_text}
 use Rattle.just_run.specs.declared.fault.Fault.{Fault}
 use Rattle.just_run.specs.declared.outcome.Outcome.{Outcome}
+
+decided : (b : Bool) (P : Type 0) → (b ≡ true → P) → (P → b ≡ true) → ((b ≡ true) × P) ⊎ ((b ≡ false) × (P → ⊥))
+decided true P t f = inl (refl, t refl)
+decided false P t f = inr (refl, λ p. let e : false ≡ true = f p in cc)
+
+-- two texts are the same or not
+bytes_eq_cases : (a b : List ℕ) → ((bytes_eq a b ≡ true) × (a ≡ b)) ⊎ ((bytes_eq a b ≡ false) × (a ≡ b → ⊥))
+bytes_eq_cases a b = let d = bytes_eq-Decides a b in decided (bytes_eq a b) (a ≡ b) d.0 d.1
 
 pub both : (a b : Bool) → (a && b) ≡ true → (a ≡ true) × (b ≡ true)
 both true true h = (refl, refl)

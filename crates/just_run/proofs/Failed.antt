@@ -13,10 +13,9 @@ use Rattle.analyze_calls.specs.declared.fault.OpeningFault.{OpeningFault}
 use Rattle.analyze_calls.specs.declared.fault.OpeningFault.TheVariants as openings
 use Rattle.run_tasks.specs.declared.fault.TaskFault.{TaskFault}
 use Rattle.run_tasks.specs.declared.fault.TaskFault.TheVariants as tasks
-use Rattle.run_plain.specs.declared.fault.Fault as plain_fault
-use Rattle.run_plain.specs.declared.fault.Fault.TheVariants as plain_faults
-use Rattle.just_run.specs.Passed.{word_fault, file_fault, name_fault, opening_fault, run_fault, task_fault}
-use Rattle.just_run.specs.Plain.{fault_of}
+use Rattle.just_run.specs.declared.root.RootFault.{RootFault}
+use Rattle.just_run.specs.declared.root.RootFault.TheVariants as roots
+use Rattle.just_run.specs.Passed.{word_fault, file_fault, name_fault, root_fault, opening_fault, run_fault, task_fault}
 use Rattle.just_run.specs.Plans.{IsEnd, IsOfRun}
 use Rattle.just_run.specs.Writes.{IsNoWrite, WriteFails}
 use Rattle.just_run.specs.declared.fault.Fault.{Fault}
@@ -27,7 +26,6 @@ use Rattle.just_run.specs.declared.outcome.Outcome.{Outcome}
 pub no_write_fails : (failed : ℕ) (fault : Fault) → IsNoWrite fault → WriteFails {T = Outcome} failed (Err fault) failed
 no_write_fails failed faults.OutOfMemory h = refl
 no_write_fails failed (faults.NoRootForWord word) h = refl
-no_write_fails failed (faults.Plain fault) h = refl
 no_write_fails failed (faults.Justfile refusal) h = refl
 no_write_fails failed (faults.Words fault) h = refl
 no_write_fails failed (faults.Dotenv fault) h = refl
@@ -49,7 +47,6 @@ answer_fails failed (Err fault) h = no_write_fails failed fault h
 pub of_run_is_no_write : (fault : Fault) → IsOfRun fault → IsNoWrite fault
 of_run_is_no_write faults.OutOfMemory h = tt
 of_run_is_no_write (faults.NoRootForWord word) h = tt
-of_run_is_no_write (faults.Plain fault) h = tt
 of_run_is_no_write (faults.Justfile refusal) h = tt
 of_run_is_no_write (faults.Words fault) h = tt
 of_run_is_no_write (faults.Dotenv fault) h = tt
@@ -110,22 +107,12 @@ name_is_no_write (of_names.UnknownDependency recipe dependency) = tt
 name_is_no_write (of_names.UnknownFunction x0) = tt
 name_is_no_write (of_names.UnknownOverride x0) = tt
 
--- nor is a fault of plain recipes
-pub plain_is_no_write : (fault : plain_fault.Fault) → IsNoWrite (fault_of fault)
-plain_is_no_write plain_faults.OutOfMemory = tt
-plain_is_no_write (plain_faults.NoRootForWord x0) = tt
-plain_is_no_write (plain_faults.MissingRoot x0) = tt
-plain_is_no_write (plain_faults.Syntax x0) = tt
-plain_is_no_write (plain_faults.Redefinition x0) = tt
-plain_is_no_write (plain_faults.UnknownDependency recipe dependency) = tt
-plain_is_no_write (plain_faults.CircularRecipe x0) = tt
-plain_is_no_write (plain_faults.UnknownOverride x0) = tt
-plain_is_no_write (plain_faults.UnknownRecipe x0) = tt
-plain_is_no_write (plain_faults.UnknownModule x0) = tt
-plain_is_no_write plain_faults.NoRecipes = tt
-plain_is_no_write (plain_faults.Code x0 x1) = tt
-plain_is_no_write (plain_faults.Signal x0 x1) = tt
-plain_is_no_write (plain_faults.CouldNotStart x0) = tt
+-- nor is why the root can't be read
+pub root_is_no_write : (fault : RootFault) → IsNoWrite (root_fault fault)
+root_is_no_write roots.OutOfMemory = tt
+root_is_no_write (roots.NoRootForWord word) = tt
+root_is_no_write (roots.MissingRoot path) = tt
+root_is_no_write (roots.Syntax error) = tt
 
 -- a run and a command end with faults of a run
 pub run_is_of_run : (fault : RunFault) → IsOfRun (run_fault fault)
@@ -152,7 +139,6 @@ sent_fails old (Ok x) (Ok outcome) new e h = h
 sent_fails old (Ok x) (Err fault) new e h = subst (λ n. WriteFails {T = Outcome} old (Err fault) n) (sym h) (no_write_fails old fault (of_run_is_no_write fault e))
 sent_fails old (Err faults.OutOfMemory) ended new e h = h
 sent_fails old (Err (faults.NoRootForWord word)) ended new e h = h
-sent_fails old (Err (faults.Plain fault)) ended new e h = h
 sent_fails old (Err (faults.Justfile refusal)) ended new e h = h
 sent_fails old (Err (faults.Words fault)) ended new e h = h
 sent_fails old (Err (faults.Dotenv fault)) ended new e h = h

@@ -1,7 +1,5 @@
 mod Added
 mod Again
-mod Determined
-mod Driven
 mod Early
 mod Failed
 mod Formatted

@@ -9,6 +9,7 @@ use Rattle.just_host.specs.declared.config.Config.{Config}
 use Rattle.just_host.specs.declared.entry.Entry.{Entry}
 use Rattle.modules_compilation.specs.declared.compilation.Compilation.{Compilation}
 use Rattle.resolve_analysis.specs.declared.analysis.Analysis.{Analysis}
+use Rattle.run_prepared.specs.Begun.{BeginsTask}
 use Rattle.run_prepared.specs.Performed.{PerformsTask}
 use Rattle.run_tasks.specs.Performed.{IfPerformed, TaskEnd}
 use Rattle.run_tasks.specs.declared.fault.TaskFault.{TaskFault}
@@ -68,3 +69,8 @@ pub from_nothing : (compilation : Compilation) (analysis : Analysis) (config : C
 from_nothing compilation analysis config root task exhausted performed old new part start grown goes =
     subst (λ (log : List Entry). IfPerformed task exhausted performed (PerformsTask compilation analysis config root task log part)) start
     (subst (λ (log : List Entry). IfPerformed task exhausted performed (PerformsTask compilation analysis config root task old log)) grown goes)
+
+pub begun_from_nothing : (compilation : Compilation) (analysis : Analysis) (config : Config) (root : List ℕ) (task : Task) (old new part : List Entry) → old ≡ [] → new ≡ part
+    → BeginsTask compilation analysis config root task old new → BeginsTask compilation analysis config root task [] part
+begun_from_nothing compilation analysis config root task old new part start grown begun =
+    subst (λ (log : List Entry). BeginsTask compilation analysis config root task log part) start (subst (λ (log : List Entry). BeginsTask compilation analysis config root task old log) grown begun)

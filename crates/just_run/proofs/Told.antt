@@ -22,6 +22,7 @@ use Rattle.run_tasks.specs.declared.task.Performed.{Performed}
 use Rattle.run_tasks.specs.declared.task.Performed.TheVariants.{Evaluated, Ran}
 use Rattle.run_tasks.specs.declared.task.Task.{Task}
 use Rattle.run_tasks.specs.declared.task.Task.TheVariants as of_task
+use Rattle.run_prepared.specs.Begun.{BeginsTask}
 use Rattle.run_prepared.specs.Performed.{PerformsTask}
 use Rattle.run_requests.specs.Asked.{IsAskedFor}
 use Rattle.run_requests.specs.Words.{InvokesAt, values_of}
@@ -47,6 +48,7 @@ use Rattle.just_resolve.specs.Rules.{IsResolvable}
 use Rattle.just_meaning.specs.Actions.{ActionEnd, CommandGoes, EvaluateGoes}
 use Rattle.just_meaning.specs.Actions as actions
 use Rattle.just_meaning.specs.Actions.{target_of as values_named}
+use Rattle.just_meaning.specs.Begun.{BeginsCommand, BeginsEvaluate, BeginsRun}
 use Rattle.just_meaning.specs.Runs.{Runs, call_in}
 use Rattle.just_meaning.specs.Runs as run_ends
 use Rattle.just_meaning.specs.Defining.{AreDefined}
@@ -75,6 +77,8 @@ use Rattle.meaning_defined.specs.Defined.{IsDefinedBy, named_call}
 use Rattle.meaning_defined.proofs.Calls.{words_invoke_recipes}
 use Rattle.meaning_running.specs.Running.{IsToldEnd, IsToldTask, action_end, outcome_of}
 use Rattle.meaning_running.proofs.Running.Commanding.{commands_are_named}
+use Rattle.meaning_running.proofs.Running.Begun.{calls_begin_named}
+use Rattle.meaning_running.proofs.Running.BegunActions.{commands_begin_named, evaluations_begin_named}
 use Rattle.meaning_running.proofs.Running.Calls.{calls_run_named}
 use Rattle.meaning_running.proofs.Running.Telling.{evaluations_are_named}
 use Rattle.meaning_running.proofs.Running.There.{root_there, target_there}
@@ -105,8 +109,8 @@ module _ (exhausted : Bool) (calls : Vec Call) (P : TaskEnd → Type 0) (Q : End
   ended_so (Ok Ran) h = λ e. there ran tt (h.1 e)
   ended_so (Ok (Evaluated text)) h = absurd h.0
   ended_so (Err (tasks.Opening openings.OutOfMemory)) h = tt
-  ended_so (Err (tasks.Opening (openings.Dotenv fault))) h = there (not_opened _) (λ e. absurd (cc e)) h.1
-  ended_so (Err (tasks.Opening (openings.Opening error))) h = λ n. there (not_opened _) (λ e. n (cc e)) h.1
+  ended_so (Err (tasks.Opening (openings.Dotenv fault))) h = there (not_opened _) tt h.1
+  ended_so (Err (tasks.Opening (openings.Opening error))) h = λ n. there (not_opened _) tt h.1
   ended_so (Err (tasks.Run faults.OutOfMemory)) h = tt
   ended_so (Err (tasks.Run (faults.Evaluation error))) h = λ e n. let told : evaluation (fault_of error) ≢ evaluation memory = λ q. n (cc q) in there (failed _) told (h.1 e told)
   ended_so (Err (tasks.Run (faults.Code recipe code silent))) h = λ e. there (failed _) (λ q. absurd (cc q)) (h.1 e (λ q. absurd (cc q)))
@@ -144,7 +148,6 @@ module _ (left : Left) (result : Result Outcome Fault) (Q : ActionEnd → Type 0
   written_so text (Err results.Write) a q = (text, a.0, q)
   written_so text (Err results.OutOfMemory) a q = tt
   written_so text (Err (results.NoRootForWord word)) a q = absurd a
-  written_so text (Err (results.Plain fault)) a q = absurd a
   written_so text (Err (results.Justfile error)) a q = absurd a
   written_so text (Err (results.Words fault)) a q = absurd a
   written_so text (Err (results.Dotenv fault)) a q = absurd a
@@ -162,8 +165,8 @@ module _ (left : Left) (result : Result Outcome Fault) (Q : ActionEnd → Type 0
     values_so target (Ok Ran) a h = absurd h.0
     values_so target (Ok (Evaluated text)) a h = written_so (string_bytes text) result a (there _ tt h.1)
     values_so target (Err (tasks.Opening openings.OutOfMemory)) a h = subst (λ r. IfTold left r Q) (sym a.0) tt
-    values_so target (Err (tasks.Opening (openings.Dotenv fault))) a h = subst (λ r. IfTold left r Q) (sym a.0) (there (ends_as (not_opened _)) (λ e. absurd (cc e)) h.1)
-    values_so target (Err (tasks.Opening (openings.Opening error))) a h = subst (λ r. IfTold left r Q) (sym a.0) (λ n. there (ends_as (not_opened _)) (λ e. n (cc e)) h.1)
+    values_so target (Err (tasks.Opening (openings.Dotenv fault))) a h = subst (λ r. IfTold left r Q) (sym a.0) (there (ends_as (not_opened _)) tt h.1)
+    values_so target (Err (tasks.Opening (openings.Opening error))) a h = subst (λ r. IfTold left r Q) (sym a.0) (λ n. there (ends_as (not_opened _)) tt h.1)
     values_so target (Err (tasks.Run fault)) a h =
         let memory_told : result ≡ Err results.OutOfMemory = subst (λ f. result ≡ Err (task_fault (tasks.Run f))) h.0 a.0 in
         subst (λ r. IfTold left r Q) (sym memory_told) tt
@@ -178,8 +181,8 @@ module _ (left : Left) (result : Result Outcome Fault) (Q : ActionEnd → Type 0
     commanded_so words (Ok Ran) a h = subst (λ r. IfCommanded left.exhausted r Q) (sym a.0) (λ e. there (ends_as ran) tt (h.1 e))
     commanded_so words (Ok (Evaluated text)) a h = absurd h.0
     commanded_so words (Err (tasks.Opening openings.OutOfMemory)) a h = subst (λ r. IfCommanded left.exhausted r Q) (sym a.0) tt
-    commanded_so words (Err (tasks.Opening (openings.Dotenv fault))) a h = subst (λ r. IfCommanded left.exhausted r Q) (sym a.0) (there (ends_as (not_opened _)) (λ e. absurd (cc e)) h.1)
-    commanded_so words (Err (tasks.Opening (openings.Opening error))) a h = subst (λ r. IfCommanded left.exhausted r Q) (sym a.0) (λ n. there (ends_as (not_opened _)) (λ e. n (cc e)) h.1)
+    commanded_so words (Err (tasks.Opening (openings.Dotenv fault))) a h = subst (λ r. IfCommanded left.exhausted r Q) (sym a.0) (there (ends_as (not_opened _)) tt h.1)
+    commanded_so words (Err (tasks.Opening (openings.Opening error))) a h = subst (λ r. IfCommanded left.exhausted r Q) (sym a.0) (λ n. there (ends_as (not_opened _)) tt h.1)
     commanded_so words (Err (tasks.Run fault)) a h =
         let memory_told : result ≡ Err results.OutOfMemory = subst (λ f. result ≡ Err (task_fault (tasks.Run f))) h.0 a.0 in
         subst (λ r. IfCommanded left.exhausted r Q) (sym memory_told) tt
@@ -288,6 +291,9 @@ module _ (source : Given) (w : World) (stands : StandsFor source w) (clear_of_fi
   abbrev Performs : Task → List Entry → List Entry → TaskEnd → Type 0
   Performs task = PerformsTask compilation analysis asked.config root task
 
+  abbrev Begins : Task → List Entry → List Entry → Type 0
+  Begins task = BeginsTask compilation analysis asked.config root task
+
   -- calls by their names
   named_calls : (calls : List CallRow) → map call_in (map (named_call compilation analysis) calls) ≡ map (λ (call : CallRow). let c : NamedCall = record { recipe = name_at compilation analysis.table.value call.recipe; groups = call.groups } in c) calls
   named_calls [] = refl
@@ -310,20 +316,26 @@ module _ (source : Given) (w : World) (stands : StandsFor source w) (clear_of_fi
         between source w stands clear_of_files (overrides_of asked.words.overrides) clear_of_names (string_bytes asked.config.base) (string_bytes asked.config.working_directory) d.defined d.are d.read d.rows
         configuration asked.words.arguments left result (map (named_call compilation analysis) (rows calls.items)) (d.invokes (rows calls.items) invokes) old new run.0 (outcome_of end) run.1
 
+    -- a beginning of calls by places is one by their names
+    named_begun : (calls : Vec Call) → Invokes calls → (old new : List Entry) → Begins (of_task.Run calls) old new → BeginsRun configuration d.defined (map call_in (map (named_call compilation analysis) (rows calls.items))) old nothing new
+    named_begun calls invokes old new begun =
+        subst (λ (q : Definitions × List NamedCall). BeginsRun configuration q.0 q.1 old nothing new) (λ i. (sym d.is i, sym (named_calls (rows calls.items)) i))
+        (calls_begin_named source w compilation stands resolvable asked.words.overrides asked.config analysis known d.settled root calls (calls_there calls invokes) old new begun)
+
     -- ---- runs
 
-    run_done : (calls : Vec Call) → Invokes calls → EndsTask left result (of_task.Run calls) (Performs (of_task.Run calls) left.before left.behind) → RunsNamed configuration d.defined asked.words.arguments left result
-    run_done calls invokes ends =
+    run_done : (calls : Vec Call) → Invokes calls → EndsTask left result (of_task.Run calls) (Performs (of_task.Run calls) left.before left.behind) → Begins (of_task.Run calls) left.before left.behind → RunsNamed configuration d.defined asked.words.arguments left result
+    run_done calls invokes ends begun =
         let told = run_told left result calls ends.performed ends.ended.0 ends.answers in
         named.runs _ (d.invokes (rows calls.items) invokes)
         (subst (λ r. IfRan left.exhausted r (Goes left.before left.behind calls)) (sym told.0)
         (ended_so left.exhausted calls (Performs (of_task.Run calls) left.before left.behind) (Goes left.before left.behind calls) (λ end so goes. named_run calls invokes left.before left.behind end so goes) ends.performed ends.ended))
-        told.1
+        (named_begun calls invokes left.before left.behind begun) told.1
 
-    run_so : (task : Task) → AskedFor requested.Run (requests.Task task) → EndsTask left result task (Performs task left.before left.behind) → RunsNamed configuration d.defined asked.words.arguments left result
-    run_so (of_task.Run calls) h ends = run_done calls (subst (InvokesAt compilation analysis.table.value analysis.values.value.settings.items asked.words.arguments) (sym h.2) h.1) ends
-    run_so (of_task.Evaluate target) h ends = absurd h.2
-    run_so (of_task.Command words) h ends = absurd h.2
+    run_so : (task : Task) → AskedFor requested.Run (requests.Task task) → EndsTask left result task (Performs task left.before left.behind) → Begins task left.before left.behind → RunsNamed configuration d.defined asked.words.arguments left result
+    run_so (of_task.Run calls) h ends begun = run_done calls (subst (InvokesAt compilation analysis.table.value analysis.values.value.settings.items asked.words.arguments) (sym h.2) h.1) ends begun
+    run_so (of_task.Evaluate target) h ends begun = absurd h.2
+    run_so (of_task.Command words) h ends begun = absurd h.2
 
     run_listed : (text : RootText) → AskedFor requested.Run (requests.Text text) → left.behind ≡ left.before → (text ≡ texts.List → IsListed left result) → RunsNamed configuration d.defined asked.words.arguments left result
     run_listed texts.List h same listed = named.none (d.invokes [] (subst (InvokesAt compilation analysis.table.value analysis.values.value.settings.items asked.words.arguments) h.2 h.1)) same (listed refl)
@@ -339,10 +351,10 @@ module _ (source : Given) (w : World) (stands : StandsFor source w) (clear_of_fi
     plan_ran calls invokes entries performed (unwritten (inl is)) = subst (λ r. IfRan false r (Goes [] entries calls)) (sym (ap as_run is)) tt
     plan_ran calls invokes entries performed (unwritten (inr is)) = subst (λ r. IfRan false r (Goes [] entries calls)) (sym (ap as_run is)) tt
 
-    plan_so : (calls : Vec Call) → AskedFor requested.Plan (requests.Plan calls) → PlansTask left result (of_task.Run calls) (Performs (of_task.Run calls) []) → PlansNamed configuration d.defined asked.words.arguments left result
+    plan_so : (calls : Vec Call) → AskedFor requested.Plan (requests.Plan calls) → PlansTask left result (of_task.Run calls) (Performs (of_task.Run calls) []) (Begins (of_task.Run calls) []) → PlansNamed configuration d.defined asked.words.arguments left result
     plan_so calls h p =
         let invokes = subst (InvokesAt compilation analysis.table.value analysis.values.value.settings.items asked.words.arguments) (sym h.2) h.1 in
-        named.plans _ (d.invokes (rows calls.items) invokes) (record { entries = p.entries; asked = p.asked; written = p.written; ran = plan_ran calls invokes p.entries p.performed p.ended })
+        named.plans _ (d.invokes (rows calls.items) invokes) (record { entries = p.entries; asked = p.asked; written = p.written; ran = plan_ran calls invokes p.entries p.performed p.ended; begun = named_begun calls invokes [] p.entries p.begun })
 
     plan_listed : (text : RootText) → AskedFor requested.Plan (requests.Text text) → left.behind ≡ left.before → (text ≡ texts.List → IsListed left result) → PlansNamed configuration d.defined asked.words.arguments left result
     plan_listed texts.List h same listed = named.none (d.invokes [] (subst (InvokesAt compilation analysis.table.value analysis.values.value.settings.items asked.words.arguments) h.2 h.1)) same (listed refl)
@@ -363,43 +375,51 @@ module _ (source : Given) (w : World) (stands : StandsFor source w) (clear_of_fi
         (subst (λ (defined : Definitions). values_named defined asked.words.arguments ≡ Some t.0) d.is t.1) true left.before left.behind end told goes)))
         target ends.performed ends.answers ends.ended
 
-    values_done : (task : Task) → AskedFor requested.Evaluate (requests.Task task) → EndsTask left result task (Performs task left.before left.behind) → IfTold left result (ValuesTo configuration d.defined asked.words.arguments left result)
-    values_done task h ends =
+    values_begun : (target : EvaluationTarget) → Begins (of_task.Evaluate target) left.before left.behind → BeginsEvaluate configuration d.defined left.before left.behind
+    values_begun target begun =
+        subst (λ defined. BeginsEvaluate configuration defined left.before left.behind) (sym d.is)
+        (evaluations_begin_named source w compilation stands resolvable asked.words.overrides asked.config analysis known d.settled root target left.before left.behind begun)
+
+    values_done : (task : Task) → AskedFor requested.Evaluate (requests.Task task) → EndsTask left result task (Performs task left.before left.behind) → Begins task left.before left.behind → IfTold left result (ValuesTo configuration d.defined asked.words.arguments left result) × BeginsEvaluate configuration d.defined left.before left.behind
+    values_done task h ends begun =
         let same : task ≡ of_task.Evaluate h.0 = cc h.2 in
-        values_told h.0 h.1 (subst (λ t. EndsTask left result t (Performs t left.before left.behind)) same ends)
+        (values_told h.0 h.1 (subst (λ t. EndsTask left result t (Performs t left.before left.behind)) same ends), values_begun h.0 (subst (λ t. Begins t left.before left.behind) same begun))
 
     -- ---- the command
 
-    command_done : (task : Task) → AskedFor requested.Command (requests.Task task) → EndsTask left result task (Performs task left.before left.behind)
-        → IfCommanded left.exhausted result (CommandTo configuration d.defined asked.words.arguments left result)
-    command_done (of_task.Run calls) h ends = absurd h
-    command_done (of_task.Evaluate target) h ends = absurd h
-    command_done (of_task.Command words) h ends =
-        commanded_so left result (CommandTo configuration d.defined asked.words.arguments left result) (Performs (of_task.Command words) left.before left.behind)
-        (λ end told goes. certain_command source w stands clear_of_files (overrides_of asked.words.overrides) clear_of_names (string_bytes asked.config.base) (string_bytes asked.config.working_directory)
-        d.defined d.are d.read d.rows configuration asked.words.arguments left result (action_end true end)
-        (subst (λ (q : Definitions × List (List ℕ)). CommandGoes configuration q.0 q.1 left.before left.behind (action_end true end)) (λ i. (sym d.is i, h.0 i))
-        (commands_are_named source w compilation stands resolvable asked.words.overrides asked.config analysis known d.settled root words (λ e. h.1 (sym h.0 ∙ e)) true left.before left.behind end told goes)))
-        words ends.performed ends.answers ends.ended
+    command_done : (task : Task) → AskedFor requested.Command (requests.Task task) → EndsTask left result task (Performs task left.before left.behind) → Begins task left.before left.behind
+        → IfCommanded left.exhausted result (CommandTo configuration d.defined asked.words.arguments left result) × BeginsCommand configuration d.defined asked.words.arguments left.before left.behind
+    command_done (of_task.Run calls) h ends begun = absurd h
+    command_done (of_task.Evaluate target) h ends begun = absurd h
+    command_done (of_task.Command words) h ends begun = (
+      commanded_so left result (CommandTo configuration d.defined asked.words.arguments left result) (Performs (of_task.Command words) left.before left.behind)
+          (λ end told goes. certain_command source w stands clear_of_files (overrides_of asked.words.overrides) clear_of_names (string_bytes asked.config.base) (string_bytes asked.config.working_directory)
+          d.defined d.are d.read d.rows configuration asked.words.arguments left result (action_end true end)
+          (subst (λ (q : Definitions × List (List ℕ)). CommandGoes configuration q.0 q.1 left.before left.behind (action_end true end)) (λ i. (sym d.is i, h.0 i))
+          (commands_are_named source w compilation stands resolvable asked.words.overrides asked.config analysis known d.settled root words (λ e. h.1 (sym h.0 ∙ e)) true left.before left.behind end told goes)))
+          words ends.performed ends.answers ends.ended,
+      subst (λ (q : Definitions × List (List ℕ)). BeginsCommand configuration q.0 q.1 left.before left.behind) (λ i. (sym d.is i, h.0 i))
+          (commands_begin_named source w compilation stands resolvable asked.words.overrides asked.config analysis known d.settled root words left.before left.behind begun),
+    )
 
     -- ---- whatever is asked for
 
     goes_so : (action : Action) → GoesPlaced compilation analysis asked.config root asked.words.arguments left result action → GoesNamed configuration d.defined asked.words.arguments left result action
-    goes_so requested.Run (does task h ends) = run_so task h ends
+    goes_so requested.Run (does task h ends begun) = run_so task h ends begun
     goes_so requested.Run (plans calls h p) = absurd h.2
     goes_so requested.Run (tells text h same listed) = run_listed text h same listed
-    goes_so requested.Plan (does task h ends) = absurd h.2
+    goes_so requested.Plan (does task h ends begun) = absurd h.2
     goes_so requested.Plan (plans calls h p) = plan_so calls h p
     goes_so requested.Plan (tells text h same listed) = plan_listed text h same listed
-    goes_so requested.Evaluate (does task h ends) = values_done task h ends
+    goes_so requested.Evaluate (does task h ends begun) = values_done task h ends begun
     goes_so requested.Evaluate (plans calls h p) = absurd (cc h.2)
     goes_so requested.Evaluate (tells text h same listed) = absurd (cc h.2)
-    goes_so requested.Command (does task h ends) = command_done task h ends
+    goes_so requested.Command (does task h ends begun) = command_done task h ends begun
     goes_so requested.Command (plans calls h p) = absurd h
     goes_so requested.Command (tells text h same listed) = absurd h
     goes_so requested.Dump g = tt
     goes_so requested.Format g = tt
-    goes_so requested.List (does task h ends) = absurd (cc h.1)
+    goes_so requested.List (does task h ends begun) = absurd (cc h.1)
     goes_so requested.List (plans calls h p) = absurd (cc h.1)
     goes_so requested.List (tells text h same listed) = listed (cc h.1)
 

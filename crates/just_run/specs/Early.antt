@@ -1,8 +1,7 @@
 -- What a call leaves that names a broken rule.
-use Rattle.std.specs.Prelude.{◌≡◌, ◌⊎◌, ℕ, List, false}
+use Rattle.std.specs.Prelude.{◌≡◌, ◌⊎◌, ℕ, List}
 use Rattle.just_host.specs.Record.{Record}
-use Rattle.run_plain.specs.Drives.{verdict}
-use Rattle.just_run.specs.Plans.{IsOfRun, breaks_rule}
+use Rattle.just_run.specs.Plans.{IsOfRun}
 use Rattle.just_run.specs.declared.fault.Fault.{Fault}
 use Rattle.just_run.specs.declared.fault.Fault.TheVariants as faults
 use Rattle.just_run.specs.declared.fault.Fault.TheVariants.{Write}
@@ -14,7 +13,6 @@ IsLate fault = (fault ≡ Write) ⊎ IsOfRun fault
 -- a fault of no rule of files, names and words: of a run, of the output, or of a text that can't be printed
 abbrev pub IsOfNoRule : Fault → Type 0
 IsOfNoRule (faults.NoRootForWord word) = ⊥
-IsOfNoRule (faults.Plain fault) = breaks_rule (verdict fault) ≡ false
 IsOfNoRule (faults.Justfile error) = ⊥
 IsOfNoRule (faults.Words fault) = ⊥
 IsOfNoRule fault = Unit {0}

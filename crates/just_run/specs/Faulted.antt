@@ -9,15 +9,13 @@ use Rattle.just_host.specs.declared.host.Status.TheVariants as ends
 use Rattle.evaluate_context.specs.Errors.{error_text}
 use Rattle.just_resolve.specs.Refusals.{refusal_place, refusal_text}
 use Rattle.analyze_words.specs.Faults as words
-use Rattle.run_plain.specs.Faulted as plain
 use Rattle.run_tasks.specs.Faulted.{command_text}
 use Rattle.just_run.specs.declared.fault.Fault.{Fault}
-use Rattle.just_run.specs.declared.fault.Fault.TheVariants.{OutOfMemory, NoRootForWord, Plain, Justfile, Words, Dotenv, Opening, Evaluation, Code, Signal, CouldNotStart, NotConfirmed, Command, Write, NotPrintable}
+use Rattle.just_run.specs.declared.fault.Fault.TheVariants.{OutOfMemory, NoRootForWord, Justfile, Words, Dotenv, Opening, Evaluation, Code, Signal, CouldNotStart, NotConfirmed, Command, Write, NotPrintable}
 
 -- the rule that is broken; no text of other faults
 abbrev pub rule_text : Fault → List ℕ
 rule_text (NoRootForWord word) = with_fields (codes "no root for word") (word ∷ [])
-rule_text (Plain fault) = plain.fault_text fault
 rule_text (Justfile refusal) = refusal_text refusal
 rule_text (Words fault) = words.fault_text fault
 rule_text (NotPrintable path) = with_fields (codes "not printable") (path ∷ [])
@@ -39,7 +37,6 @@ fault_text (Dotenv fault) = with_fields (codes "dotenv") (host.fault_text fault 
 fault_text (Opening error) = with_fields (codes "opening") (error_text error ∷ [])
 fault_text (Evaluation error) = with_fields (codes "evaluation") (error_text error ∷ [])
 fault_text (NoRootForWord word) = rule_text (NoRootForWord word)
-fault_text (Plain fault) = rule_text (Plain fault)
 fault_text (Justfile refusal) = rule_text (Justfile refusal)
 fault_text (Words fault) = rule_text (Words fault)
 fault_text (NotPrintable path) = rule_text (NotPrintable path)
@@ -47,7 +44,6 @@ fault_text fault = failure_text fault
 
 -- the token at whose beginning a fault stands, if it has a place
 abbrev pub fault_place : Fault → Option Token
-fault_place (Plain fault) = plain.fault_place fault
 fault_place (Justfile refusal) = refusal_place refusal
 fault_place _ = None
 

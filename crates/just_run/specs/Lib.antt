@@ -4,7 +4,7 @@ pub mod Faulted
 pub mod Kinds
 pub mod Named
 pub mod Passed
-pub mod Plain
+pub mod Root
 pub mod Plans
 pub mod Ran
 pub mod Sources

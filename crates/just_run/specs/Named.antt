@@ -19,6 +19,7 @@ use Rattle.meaning_calls.specs.Calling.{without_next}
 use Rattle.just_meaning.specs.Actions.{ActionEnd, CommandGoes, EvaluateGoes}
 use Rattle.just_meaning.specs.Actions as actions
 use Rattle.just_meaning.specs.Agreement.{AgreesRun}
+use Rattle.just_meaning.specs.Begun.{BeginsCommand, BeginsEvaluate, BeginsRun}
 use Rattle.just_meaning.specs.Menus.{menu_of}
 use Rattle.just_meaning.specs.Runs.{Runs, call_in}
 use Rattle.just_meaning.specs.Runs as named
@@ -75,7 +76,6 @@ IfRan exhausted (Ok (outcomes.Formatted path text)) P = ⊥
 IfRan exhausted (Ok outcomes.Listed) P = ⊥
 IfRan exhausted (Err faults.OutOfMemory) P = Unit {0}
 IfRan exhausted (Err (faults.NoRootForWord word)) P = ⊥
-IfRan exhausted (Err (faults.Plain fault)) P = ⊥
 IfRan exhausted (Err (faults.Justfile error)) P = ⊥
 IfRan exhausted (Err (faults.Words fault)) P = ⊥
 IfRan exhausted (Err (faults.Dotenv fault)) P = P (named.not_opened (dotenv fault))
@@ -99,7 +99,6 @@ IfTold left (Ok (outcomes.Formatted path text)) P = ⊥
 IfTold left (Ok outcomes.Listed) P = ⊥
 IfTold left (Err faults.OutOfMemory) P = Unit {0}
 IfTold left (Err (faults.NoRootForWord word)) P = ⊥
-IfTold left (Err (faults.Plain fault)) P = ⊥
 IfTold left (Err (faults.Justfile error)) P = ⊥
 IfTold left (Err (faults.Words fault)) P = ⊥
 IfTold left (Err (faults.Dotenv fault)) P = P (actions.not_opened (dotenv fault))
@@ -123,7 +122,6 @@ IfCommanded exhausted (Ok (outcomes.Formatted path text)) P = ⊥
 IfCommanded exhausted (Ok outcomes.Listed) P = ⊥
 IfCommanded exhausted (Err faults.OutOfMemory) P = Unit {0}
 IfCommanded exhausted (Err (faults.NoRootForWord word)) P = ⊥
-IfCommanded exhausted (Err (faults.Plain fault)) P = ⊥
 IfCommanded exhausted (Err (faults.Justfile error)) P = ⊥
 IfCommanded exhausted (Err (faults.Words fault)) P = ⊥
 IfCommanded exhausted (Err (faults.Dotenv fault)) P = P (actions.not_opened (dotenv fault))
@@ -162,17 +160,18 @@ module _ (c : Configuration) (defined : Definitions) (words : List (List ℕ)) (
   abbrev pub RunsTo : List (RecipeName × List (List (List ℕ))) → End → Type 0
   RunsTo = RunsBetween left.before left.behind
 
-  -- The words invoke nothing, nothing was asked, and the recipes are listed; or what they invoke runs, how that ended is answered, and nothing is written.
+  -- The words invoke nothing, nothing was asked, and the recipes are listed; or what they invoke runs, how that ended is answered, and nothing is written. However it ended, also where memory ran out, what was recorded is the beginning of what such a run records.
   pub data RunsNamed : Type 0 where
     none : Invoke (menu_of defined) words [] → left.behind ≡ left.before → IsListed left result → RunsNamed
-    runs : (invocations : List (RecipeName × List (List (List ℕ)))) → Invoke (menu_of defined) words invocations → IfRan left.exhausted result (RunsTo invocations) → left.sends.written ≡ left.sent.written → RunsNamed
+    runs : (invocations : List (RecipeName × List (List (List ℕ)))) → Invoke (menu_of defined) words invocations → IfRan left.exhausted result (RunsTo invocations) → BeginsRun c defined (map call_in invocations) left.before nothing left.behind → left.sends.written ≡ left.sent.written → RunsNamed
 
-  -- What the words invoke runs under a host of which the caller's answers the questions alone; what was recorded there is written, and how the run ended is answered.
+  -- What the words invoke runs under a host of which the caller's answers the questions alone; what was recorded there, which begins what such a run records however it ended, is written, and how the run ended is answered.
   pub record PlansRun (invocations : List (RecipeName × List (List (List ℕ)))) : Type 0 where
     pub entries : List Entry
     pub asked : left.exhausted ≡ false → left.behind ≡ left.before ++ questions entries
     pub written : IsWrittenPlan left.sent.written (plan_text entries) result left.sends.written
     pub ran : IfRan false (as_run result) (RunsBetween [] entries invocations)
+    pub begun : BeginsRun c defined (map call_in invocations) [] nothing entries
 
   -- the words invoke nothing, nothing was asked, and the recipes are listed; or the run of what they invoke is planned
   pub data PlansNamed : Type 0 where
@@ -187,12 +186,12 @@ module _ (c : Configuration) (defined : Definitions) (words : List (List ℕ)) (
   abbrev pub CommandTo : ActionEnd → Type 0
   CommandTo end = IsCertainActionEnd end × CommandGoes c defined words left.before left.behind end
 
-  -- what an action does that goes by what is defined; what a text of the root says is not said here
+  -- What an action does that goes by what is defined; what a text of the root says is not said here. However values and the command ended, what was recorded is the beginning of what they record.
   abbrev pub GoesNamed : Action → Type 0
   GoesNamed asked.Run = RunsNamed
   GoesNamed asked.Plan = PlansNamed
-  GoesNamed asked.Evaluate = IfTold left result ValuesTo
-  GoesNamed asked.Command = IfCommanded left.exhausted result CommandTo
+  GoesNamed asked.Evaluate = IfTold left result ValuesTo × BeginsEvaluate c defined left.before left.behind
+  GoesNamed asked.Command = IfCommanded left.exhausted result CommandTo × BeginsCommand c defined words left.before left.behind
   GoesNamed asked.Dump = Unit {0}
   GoesNamed asked.Format = Unit {0}
   GoesNamed asked.List = IsListed left result

@@ -11,8 +11,10 @@ use Rattle.analyze_calls.specs.declared.fault.OpeningFault.{OpeningFault}
 use Rattle.analyze_calls.specs.declared.fault.OpeningFault.TheVariants as openings
 use Rattle.run_tasks.specs.declared.fault.TaskFault.{TaskFault}
 use Rattle.run_tasks.specs.declared.fault.TaskFault.TheVariants as tasks
+use Rattle.just_run.specs.declared.root.RootFault.{RootFault}
+use Rattle.just_run.specs.declared.root.RootFault.TheVariants as roots
 use Rattle.just_run.specs.declared.fault.Fault.{Fault}
-use Rattle.just_run.specs.declared.fault.Fault.TheVariants.{OutOfMemory, Justfile, Words, Dotenv, Opening, Evaluation, Code, Signal, CouldNotStart, NotConfirmed, Command}
+use Rattle.just_run.specs.declared.fault.Fault.TheVariants.{OutOfMemory, NoRootForWord, Justfile, Words, Dotenv, Opening, Evaluation, Code, Signal, CouldNotStart, NotConfirmed, Command}
 
 -- a rule of words
 abbrev pub word_fault : WordFault → Fault
@@ -23,6 +25,13 @@ word_fault fault = Words fault
 abbrev pub file_fault : files.Error → Fault
 file_fault of_files.OutOfMemory = OutOfMemory
 file_fault error = Justfile (of_names.Compile error)
+
+-- why the root file can't be read: for a rule of files, but that there is none
+abbrev pub root_fault : RootFault → Fault
+root_fault roots.OutOfMemory = OutOfMemory
+root_fault (roots.NoRootForWord word) = NoRootForWord word
+root_fault (roots.MissingRoot path) = file_fault (of_files.MissingRoot path)
+root_fault (roots.Syntax error) = file_fault (of_files.Syntax error)
 
 -- a rule of files, modules, names and orders
 abbrev pub name_fault : names.Error → Fault

@@ -3,7 +3,6 @@ use Rattle.std.specs.Prelude.{◌≡◌, ◌++◌, ◌⊎◌, ℕ, Bool, true, f
 use Rattle.just_host.specs.Record.{Record}
 use Rattle.just_host.specs.Follows.{Follows, questions}
 use Rattle.just_host.specs.declared.entry.Entry.{Entry}
-use Rattle.run_plain.specs.Drives.{Verdict, breaks, verdict}
 use Rattle.just_host.specs.Out.{IsPartOf}
 use Rattle.run_plan.specs.Plans.{plan_text}
 use Rattle.just_run.specs.Writes.{IsKept, GrewBy}
@@ -14,15 +13,9 @@ use Rattle.run_requests.specs.declared.action.Action.TheVariants as actions
 use Rattle.just_run.specs.declared.outcome.Outcome.{Outcome}
 use Rattle.just_run.specs.declared.outcome.Outcome.TheVariants as outcomes
 
--- a rule of plain recipes or of words for them is broken
-abbrev pub breaks_rule : Verdict → Bool
-breaks_rule (breaks rule) = true
-breaks_rule _ = false
-
 -- a fault that a run may end with, once no rule of files and words is broken
 abbrev pub IsOfRun : Fault → Type 0
 IsOfRun (faults.NoRootForWord word) = ⊥
-IsOfRun (faults.Plain fault) = breaks_rule (verdict fault) ≡ false
 IsOfRun (faults.Justfile error) = ⊥
 IsOfRun (faults.Words fault) = ⊥
 IsOfRun (faults.NotPrintable path) = ⊥

@@ -15,6 +15,7 @@ use Rattle.run_tasks.specs.declared.task.Performed.{Performed}
 use Rattle.run_tasks.specs.declared.task.Performed.TheVariants.{Evaluated, Ran}
 use Rattle.run_tasks.specs.declared.task.Task.{Task}
 use Rattle.run_tasks.specs.declared.task.Task.TheVariants as tasks
+use Rattle.run_prepared.specs.Begun.{BeginsTask}
 use Rattle.run_prepared.specs.Performed.{PerformsTask}
 use Rattle.run_requests.specs.Asked.{IsAskedFor}
 use Rattle.run_requests.specs.declared.action.Action.{Action}
@@ -57,16 +58,17 @@ pub data PlanEnds (result : Result Outcome Fault) (task : Task) (performed : Res
   unwritten : (result ≡ Err faults.Write) ⊎ (result ≡ Err faults.OutOfMemory) → PlanEnds result task performed Performs
 
 -- A run was planned: it went on under a host of which the caller's answered the questions alone, from an empty record to these entries, whose text is written.
-pub record PlansTask (left : Left) (result : Result Outcome Fault) (task : Task) (Performs : List Entry → TaskEnd → Type 0) : Type 0 where
+pub record PlansTask (left : Left) (result : Result Outcome Fault) (task : Task) (Performs : List Entry → TaskEnd → Type 0) (Begins : List Entry → Type 0) : Type 0 where
   pub entries : List Entry
   pub asked : left.exhausted ≡ false → left.behind ≡ left.before ++ questions entries
   pub written : IsWrittenPlan left.sent.written (plan_text entries) result left.sends.written
   pub performed : Result Performed TaskFault
   pub ended : PlanEnds result task performed (Performs entries)
+  pub begun : Begins entries
 
 module _ (compilation : Compilation) (analysis : Analysis) (config : Config) (root : List ℕ) (words : List (List ℕ)) (left : Left) (result : Result Outcome Fault) where
-  -- what the action and the words ask for was done: a task, a plan, or a text of the root module
+  -- what the action and the words ask for was done: a task, a plan, or a text of the root module; however a task ended, what was recorded is its beginning
   pub data GoesPlaced (action : Action) : Type 0 where
-    does : (task : Task) → IsAskedFor compilation analysis words action (requests.Task task) → EndsTask left result task (PerformsTask compilation analysis config root task left.before left.behind) → GoesPlaced action
-    plans : (calls : Vec Call) → IsAskedFor compilation analysis words action (requests.Plan calls) → PlansTask left result (tasks.Run calls) (PerformsTask compilation analysis config root (tasks.Run calls) []) → GoesPlaced action
+    does : (task : Task) → IsAskedFor compilation analysis words action (requests.Task task) → EndsTask left result task (PerformsTask compilation analysis config root task left.before left.behind) → BeginsTask compilation analysis config root task left.before left.behind → GoesPlaced action
+    plans : (calls : Vec Call) → IsAskedFor compilation analysis words action (requests.Plan calls) → PlansTask left result (tasks.Run calls) (PerformsTask compilation analysis config root (tasks.Run calls) []) (BeginsTask compilation analysis config root (tasks.Run calls) []) → GoesPlaced action
     tells : (text : RootText) → IsAskedFor compilation analysis words action (requests.Text text) → left.behind ≡ left.before → (text ≡ texts.List → IsListed left result) → GoesPlaced action

@@ -10,11 +10,8 @@ use Rattle.meaning_calls.specs.Named.{Definitions}
 use Rattle.just_meaning.specs.Defining.{AreDefined}
 use Rattle.run_requests.specs.Words.{BreaksNamed, BreaksPlaced, MeansNamed, MeansPlaced}
 use Rattle.modules_compilation.specs.declared.error.Error.{Error}
-use Rattle.run_plain.specs.Inputs.{Inputs}
-use Rattle.run_plain.specs.Rules.{Broken, not_yet}
-use Rattle.run_plain.specs.Drives.{verdict}
-use Rattle.run_plain.specs.Stages.{IsTold}
-use Rattle.run_plain.specs.declared.fault.Fault as plain_fault
+use Rattle.just_run.specs.Root.{Inputs, IsUnread}
+use Rattle.just_run.specs.declared.root.RootFault.{RootFault}
 use Rattle.meaning_worlds.specs.Given.{Given, Text, World}
 use Rattle.meaning_worlds.specs.Standing.{StandsFor}
 use Rattle.just_modules.specs.Worlds.{BreaksNone, BreaksTold}
@@ -26,16 +23,11 @@ use Rattle.just_run.specs.Named.{GoesNamed, Left}
 use Rattle.just_run.specs.Ran.{GoesPlaced}
 use Rattle.meaning_grounds.specs.Alike.{configuration_of}
 use Rattle.meaning_known.specs.Known.{HaveRows, IsRead}
-use Rattle.just_run.specs.Passed.{file_fault, name_fault, word_fault}
-use Rattle.just_run.specs.Plain.{fault_of}
+use Rattle.just_run.specs.Passed.{file_fault, name_fault, root_fault, word_fault}
 use Rattle.just_run.specs.declared.fault.Fault.{Fault}
 use Rattle.run_requests.specs.declared.action.Action.{Action}
 use Rattle.run_requests.specs.declared.action.Action.TheVariants as actions
 use Rattle.just_run.specs.declared.outcome.Outcome.{Outcome}
-
--- all files are looked at: whatever is asked for but a run, or a plan, of plain recipes alone
-abbrev pub LooksAtAll : Action → Inputs → Type 0
-LooksAtAll action i = (action ≡ actions.Run) ⊎ (action ≡ actions.Plan) → (path : List ℕ) × Broken i (not_yet path)
 
 -- what is asked for, the words, and the configuration
 pub record Asked : Type 0 where
@@ -74,7 +66,7 @@ module _ (asked : Asked) (root : Text) (left : Left) (result : Result Outcome Fa
 
 -- The root file can't be read, and the fault names why; or it is read, and so it is in each world that the sources stand for.
 pub data AnswersSources (given : Text → Given) (i : Inputs) (asked : Asked) (left : Left) (result : Result Outcome Fault) : Type 0 where
-  unread : (fault : plain_fault.Fault) → result ≡ Err (fault_of fault) → IsTold i (verdict fault) → AnswersSources given i asked left result
+  unread : (fault : RootFault) → result ≡ Err (root_fault fault) → IsUnread i fault → AnswersSources given i asked left result
   read : (path : List ℕ) → i.root ≡ Some path → ((w : World) → StandsFor (given path) w → TellsSources asked path left result w) → AnswersSources given i asked left result
 
 -- ---- by places

@@ -1,7 +1,6 @@
 //! The whole: from texts and words to what is done.
-ghost use Rattle.std.specs.Prelude.{◌≡◌, ◌≤◌, ◌⊎◌, Bool, None, IfErr, length, option_map};
+ghost use Rattle.std.specs.Prelude.{◌≡◌, ◌≤◌, Bool, IfErr, length};
 ghost use Rattle.just_text.specs.Numbers.{Numbers};
-ghost use Rattle.justfile_syntax.specs.PlainShapes.{shape_of};
 ghost use Rattle.modules_sources.specs.Loaded.{IsRootRead};
 ghost use Rattle.meaning_files.specs.Views.{given_of};
 ghost use Rattle.just_value.specs.Constants.{constant_rows};
@@ -11,30 +10,29 @@ ghost use Rattle.meaning_names.specs.Meant.{IsMeantWhole};
 ghost use Rattle.meaning_worlds.specs.Given.{Given, World};
 ghost use Rattle.meaning_worlds.specs.Standing.{StandsFor};
 ghost use Rattle.resolve_recipes.specs.Named.{AllByName};
-ghost use Rattle.run_plain.specs.Inputs.{Inputs, inputs_of, reader_of};
-ghost use Rattle.run_plain.specs.Setup.{setup_of};
-ghost use Rattle.run_plain.specs.Stages.{IsRead, IsRoot};
+ghost use Rattle.just_run.specs.Root.{inputs_of, reader_of};
 ghost use Rattle.just_run.specs.Drives.{Drives};
 ghost use Rattle.just_run.specs.Early.{IsEarly, IsLate};
 ghost use Rattle.just_run.specs.Formatted.{InEachFormatted};
-ghost use Rattle.just_run.specs.Plain.{IsPlain, AnswersPlain, IsWay};
 ghost use Rattle.just_run.specs.Plans.{IsKeptBy, Plans};
 ghost use Rattle.run_requests.specs.Requests.{IsText};
-ghost use Rattle.just_run.specs.Sources.{AnswersSources, LooksAtAll, TellsNames, TellsPlaced, TellsSources, asked_of};
-ghost use Rattle.just_run.specs.Writes.{IsKept, IsNoWrite, WriteFails};
-ghost use Rattle.run_requests.specs.declared.action.Action.TheVariants.{Plan, Run};
+ghost use Rattle.just_run.specs.Sources.{AnswersSources, TellsNames, TellsPlaced, TellsSources, asked_of};
+ghost use Rattle.just_run.specs.Writes.{IsKept, WriteFails};
+ghost use Rattle.run_requests.specs.declared.action.Action.TheVariants.{Plan};
 ghost use Rattle.just_host.specs.Asking.{IsAsked};
 ghost use Rattle.just_host.specs.Kinds.{Only};
 ghost use Rattle.just_host.specs.declared.entry.Entry.{Entry};
 ghost use Rattle.just_run.specs.Kinds.{AsksFor, MayAdd};
 ghost use Rattle.run_tasks.specs.Kinds as tasks;
+ghost use Rattle.run_prepared.specs.Begun.{BeginsTask};
 ghost use Rattle.run_prepared.specs.Performed.{PerformsTask};
 ghost use Rattle.just_run.specs.Named.{left_of};
 ghost use Rattle.just_run.specs.Ran.{EndsTask};
 
 use crate::fault::Fault;
 use crate::outcome::Outcome;
-use crate::plan::{drive_plan, plan_file};
+use crate::plan::drive_plan;
+use crate::root::{Root, read_root};
 use crate::texts::{tell, write_performed};
 use just_host::{Config, Out, Recorded, RunHost};
 use just_modules::{Compilation, Compiler, Parsed};
@@ -42,8 +40,6 @@ use just_resolve::{Analysis, Analyzer, number_variables};
 use just_value::Positional;
 use justfile_syntax::Expander;
 use justfile_syntax::file_law::file_law;
-use justfile_syntax::plain_files::Ast as PlainAst;
-use run_plain::{Root, read_root, run_file};
 use run_prepared::perform_task;
 use run_requests::{Action, Request, request_of};
 use run_tasks::Task;
@@ -68,6 +64,8 @@ fn drive_task<'src, H: RunHost + Drop, O: Out>(
     ensures asks { tasks.AsksFor task.entry config.now.dry_run H.goes host.old host.new }
     // It is answered, and written, how the task over what is known of the justfile ended.
     ensures ends { EndsTask (left_of host.old (O.written out.old) (O.failed out.old) host.new (O.written out.new) (O.failed out.new)) result task.entry (PerformsTask compilation.now analysis.now config.now root.now task.entry host.old.entries host.new.entries) }
+    // However it ended, what was recorded is the beginning of what the task records.
+    ensures begun { BeginsTask compilation.now analysis.now config.now root.now task.entry host.old.entries host.new.entries }
 {
     let performed = perform_task(alloc, compilation, analysis, config, root, host, task)?;
     write_performed(performed, out)
@@ -239,101 +237,6 @@ fn drive_files<'src, E: Expander, H: RunHost + Drop, O: Out>(
     }
 }
 
-/// Runs what the words name of a root file of plain recipes.
-fn run_plain<'src, H: RunHost + Drop>(
-    alloc: Global,
-    config: &Config,
-    recipes: &PlainAst<'src>,
-    words: &Positional,
-    host: &mut Recorded<H>,
-) -> Result<Outcome, Fault<'src>>
-    ensures plain { (i : Inputs) → i.words ≡ words.now → IsRead i (shape_of recipes.now) → AnswersPlain H.goes i (setup_of config.now) result host.old host.new }
-    ensures no_write { IfErr result IsNoWrite }
-    ensures asks { AsksFor Run config.now.dry_run H.goes host.old host.new }
-{
-    match run_file(alloc, config, recipes, words, host) {
-        Ok(_) => Ok(Outcome::Ran),
-        Err(fault) => Err(Fault::from(fault)),
-    }
-}
-
-/// How a call goes.
-#[derive(Drop)]
-enum Way<'src> {
-    /// The plain recipes run.
-    Run(PlainAst<'src>),
-    /// What a run of the plain recipes would hand over is written.
-    Plan(PlainAst<'src>),
-    /// All that the root file names is read.
-    Files,
-}
-
-/// How a call with this action goes, of a root file that has plain recipes alone or has more.
-fn way_of<'src>(action: Action, plain: Option<PlainAst<'src>>) -> Way<'src>
-    ensures { IsWay action plain.entry result }
-{
-    let Some(recipes) = plain else {
-        return Way::Files;
-    };
-    match action {
-        Action::Run => Way::Run(recipes),
-        Action::Plan => Way::Plan(recipes),
-        Action::Evaluate | Action::Command | Action::Dump | Action::Format | Action::List => {
-            Way::Files
-        }
-    }
-}
-
-/// Does what is asked of the root file that was read.
-fn drive_root<'src, E: Expander, H: RunHost + Drop, O: Out>(
-    alloc: Global,
-    config: &Config,
-    expander: &E,
-    sources: &'src BTreeMap<String, String>,
-    root: Root<'src>,
-    words: &Positional,
-    action: Action,
-    trees: Trees,
-    host: &mut Recorded<H>,
-    out: &mut O,
-) -> Result<Outcome, Fault<'src>>
-    ensures kept { IfErr result (λ fault. IsKeptBy action (O.written out.old) fault (O.written out.new)) }
-    ensures unfailed { WriteFails (O.failed out.old) result (O.failed out.new) }
-    ensures planned { action ≡ Plan → (i : Inputs) → i.words ≡ words.now → IsRoot i root.entry.path.now (option_map shape_of root.entry.plain) → Plans H.goes host.old (O.written out.old) result host.new (O.written out.new) }
-    ensures plain { action ≡ Run → (i : Inputs) → IsPlain i → i.words ≡ words.now → IsRoot i root.entry.path.now (option_map shape_of root.entry.plain) → AnswersPlain H.goes i (setup_of config.now) result host.old host.new }
-    ensures unwritten { action ≡ Run → (i : Inputs) → IsPlain i → IsRoot i root.entry.path.now (option_map shape_of root.entry.plain) → O.written out.new ≡ O.written out.old }
-    ensures early { (i : Inputs) → i.words ≡ words.now → IsRoot i root.entry.path.now (option_map shape_of root.entry.plain) → IfErr result (λ fault. IsEarly fault host.old (O.written out.old) host.new (O.written out.new)) }
-    ensures silent { IsText action → host.new ≡ host.old }
-    ensures asks { AsksFor action config.now.dry_run H.goes host.old host.new }
-    ensures sources { ((action ≡ Run) ⊎ (action ≡ Plan) → root.entry.plain ≡ None) → (start : Numbers) → length constant_rows ≤ start.bindings → IsRootRead sources.now (E.expansion expander.now) config.now.version start root.entry.path.now (record { ast = root.entry.file; numerator = root.entry.numerator }) → InEachWorld config.now.os config.now.unstable sources.now (E.expansion expander.now) config.now.version root.entry.path.now (TellsSources (asked_of action words.now config.now) root.entry.path.now (left_of host.old (O.written out.old) (O.failed out.old) host.new (O.written out.new) (O.failed out.new)) result) }
-{
-    let Root {
-        path,
-        file,
-        plain,
-        numerator,
-    } = root;
-    match way_of(action, plain) {
-        Way::Run(recipes) => {
-            drop(file);
-            run_plain(alloc, config, &recipes, words, host)
-        }
-        Way::Plan(recipes) => {
-            drop(file);
-            plan_file(alloc, config, &recipes, words, host, out)
-        }
-        Way::Files => {
-            let parsed = Parsed {
-                ast: file,
-                numerator,
-            };
-            drive_files(
-                alloc, config, expander, sources, path, parsed, words, action, trees, host, out,
-            )
-        }
-    }
-}
-
 /// Reads the root file that the words name, and does what is asked of it.
 fn drive_words<'src, E: Expander, H: RunHost + Drop, O: Out>(
     alloc: Global,
@@ -347,12 +250,10 @@ fn drive_words<'src, E: Expander, H: RunHost + Drop, O: Out>(
     host: &mut Recorded<H>,
     out: &mut O,
 ) -> Result<Outcome, Fault<'src>>
-    // Where no root file that can be read says more than plain recipes, a run is one of plain recipes.
-    ensures plain { action ≡ Run → IsPlain (inputs_of (reader_of (E.expansion expander.now) config.now.version) sources.now roots.now words.now) → AnswersPlain H.goes (inputs_of (reader_of (E.expansion expander.now) config.now.version) sources.now roots.now words.now) (setup_of config.now) result host.old host.new }
     // Whatever is asked for: a fault that is none of a run or of the output names a rule that is broken; then nothing was asked, handed over or written.
     ensures early { IfErr result (λ fault. IsEarly fault host.old (O.written out.old) host.new (O.written out.new)) }
-    // Where all files are looked at, the call is refused by a rule of files, modules, definitions, names or words exactly where one is broken, and else a run goes by what is defined by name.
-    ensures sources { LooksAtAll action (inputs_of (reader_of (E.expansion expander.now) config.now.version) sources.now roots.now words.now) → AnswersSources (given_of sources.now config.now.os config.now.unstable (E.expansion expander.now) config.now.version) (inputs_of (reader_of (E.expansion expander.now) config.now.version) sources.now roots.now words.now) (asked_of action (inputs_of (reader_of (E.expansion expander.now) config.now.version) sources.now roots.now words.now).words config.now) (left_of host.old (O.written out.old) (O.failed out.old) host.new (O.written out.new) (O.failed out.new)) result }
+    // The call is refused by a rule of files, modules, definitions, names or words exactly where one is broken, and else what is done goes by what is defined by name.
+    ensures sources { AnswersSources (given_of sources.now config.now.os config.now.unstable (E.expansion expander.now) config.now.version) (inputs_of (reader_of (E.expansion expander.now) config.now.version) sources.now roots.now words.now) (asked_of action (inputs_of (reader_of (E.expansion expander.now) config.now.version) sources.now roots.now words.now).words config.now) (left_of host.old (O.written out.old) (O.failed out.old) host.new (O.written out.new) (O.failed out.new)) result }
     // Where the text of the root file or the list of recipes is asked for, nothing is asked and nothing handed over.
     ensures silent { IsText action → host.new ≡ host.old }
     // Where the call is refused nothing is written, unless the output takes no more, or a run fails whose plan is written.
@@ -361,15 +262,14 @@ fn drive_words<'src, E: Expander, H: RunHost + Drop, O: Out>(
     ensures unfailed { WriteFails (O.failed out.old) result (O.failed out.new) }
     // A plan hands nothing over: what is asked are questions and requests for files of variables alone, and what is written tells what a run would hand over.
     ensures planned { action ≡ Plan → Plans H.goes host.old (O.written out.old) result host.new (O.written out.new) }
-    // A run of plain recipes writes nothing.
-    ensures unwritten { action ≡ Run → IsPlain (inputs_of (reader_of (E.expansion expander.now) config.now.version) sources.now roots.now words.now) → O.written out.new ≡ O.written out.old }
     // Whatever is asked for: the record has grown by just what was asked, by entries that the action may add alone, and the host went along by it.
     ensures asked { (kinds : Entry → Bool) → MayAdd action config.now.dry_run kinds → IsAsked (Only kinds H.goes) host.old host.new }
 {
     let words = Positional::from_values(alloc, words)?;
     let root = read_root(alloc, &words, sources, roots, expander, &config.version)?;
-    drive_root(
-        alloc, config, expander, sources, root, &words, action, trees, host, out,
+    let Root { path, parsed } = root;
+    drive_files(
+        alloc, config, expander, sources, path, parsed, &words, action, trees, host, out,
     )
 }
 
@@ -380,8 +280,7 @@ fn drive_words<'src, E: Expander, H: RunHost + Drop, O: Out>(
 /// are reached, of their modules, names and orders, or of the words. Else all modules open, parents
 /// first, and the recipes that the words name run, each after all that it depends on, none twice
 /// with the same values, up to the first command that fails; or what they would hand over up to there
-/// is written, and nothing is handed over; or the variables are written, or the one command runs. A
-/// file of plain recipes that names no other runs, or is planned, by a shorter way, to the same end.
+/// is written, and nothing is handed over; or the variables are written, or the one command runs.
 /// Want of memory, or of numbers for recipes and bindings, may come in the place of any answer. The
 /// trees of the files are dropped at the end.
 ///
@@ -421,7 +320,7 @@ pub fn drive<'src, E: Expander, H: RunHost + Drop, O: Out>(
 }
 
 /// Does what `drive` does, for a process that ends after the call: the trees of the files are leaked,
-/// so that the system takes their memory back at once. Those of plain recipes are dropped.
+/// so that the system takes their memory back at once.
 ///
 /// # Errors
 ///

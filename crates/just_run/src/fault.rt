@@ -7,12 +7,12 @@ ghost use Rattle.just_run.specs.Faulted as spec;
 ghost use Rattle.just_run.specs.Statuses.{command_status, status_of};
 ghost use Rattle.just_run.specs.declared.fault.Fault.TheVariants.{OutOfMemory, Write};
 
+use crate::root::RootFault;
 use analyze_runs::{OpeningFault, RunFault};
 use analyze_words::WordFault;
 use just_host::{HostFault, Status, WriteFailed};
 use justfile_evaluator::Error as EvaluationError;
 use justfile_syntax::{Name, Text, Token};
-use run_plain::Fault as PlainFault;
 use run_tasks::{CommandFault, TaskFault};
 use std::alloc::{AllocError, AllocFailed};
 use std::fmt;
@@ -26,8 +26,6 @@ pub enum Fault<'src> {
     OutOfMemory,
     /// There is no root file for this search directory, which is empty where none was given.
     NoRootForWord(Text),
-    /// A rule of a file of plain recipes, of words for it, or how its run failed.
-    Plain(PlainFault<'src>),
     /// A rule of files, modules, names or orders.
     Justfile(just_resolve::Error<'src>),
     /// A rule of words.
@@ -82,7 +80,6 @@ impl<'src> Fault<'src> {
         ensures { result ≡ status_of self.now }
     {
         match self {
-            Fault::Plain(fault) => fault.status(),
             Fault::Code { code, .. } => *code,
             Fault::Signal { signal, .. } => signal.saturating_add(128),
             Fault::Command(fault) => status_code(fault.status),
@@ -95,7 +92,6 @@ impl<'src> Fault<'src> {
         ensures { option_map start_of result ≡ option_map start_of (spec.fault_place self.now) }
     {
         match self {
-            Fault::Plain(fault) => fault.place(),
             Fault::Justfile(error) => error.place(),
             _ => None,
         }
@@ -136,7 +132,6 @@ fn write_rule<W: fmt::Write>(f: &mut fmt::Formatter<W>, fault: &Fault) -> fmt::R
     ensures { WritesOnOk W.write_str_gives f.old result (spec.rule_text fault.now) f.new }
 {
     match fault {
-        Fault::Plain(fault) => fmt::Display::fmt(fault, f),
         Fault::Justfile(error) => fmt::Display::fmt(error, f),
         Fault::Words(fault) => fmt::Display::fmt(fault, f),
         Fault::NoRootForWord(word) => write!(f, "no root for word: `{word}`"),
@@ -155,8 +150,7 @@ impl fmt::Display for Fault<'_> {
             Fault::Dotenv(fault) => write!(f, "dotenv: `{fault}`"),
             Fault::Opening(error) => write!(f, "opening: `{error}`"),
             Fault::Evaluation(error) => write!(f, "evaluation: `{error}`"),
-            Fault::Plain(_)
-            | Fault::Justfile(_)
+            Fault::Justfile(_)
             | Fault::Words(_)
             | Fault::NoRootForWord(_)
             | Fault::NotPrintable(_) => write_rule(f, self),
@@ -195,16 +189,17 @@ impl From<WriteFailed> for Fault<'_> {
     }
 }
 
-impl<'src> From<PlainFault<'src>> for Fault<'src> {
-    ghost use Rattle.just_run.specs.Plain.{fault_of};
+impl<'src> From<RootFault<'src>> for Fault<'src> {
+    ghost use Rattle.just_run.specs.Passed.{root_fault};
 
-    ghost from_gives = { λ f e. e ≡ fault_of f };
+    ghost from_gives = { λ fault e. e ≡ root_fault fault };
 
-    fn from(fault: PlainFault<'src>) -> Self {
+    fn from(fault: RootFault<'src>) -> Self {
         match fault {
-            PlainFault::OutOfMemory => Fault::OutOfMemory,
-            PlainFault::NoRootForWord(word) => Fault::NoRootForWord(word),
-            other => Fault::Plain(other),
+            RootFault::OutOfMemory => Fault::OutOfMemory,
+            RootFault::NoRootForWord(word) => Fault::NoRootForWord(word),
+            RootFault::MissingRoot(path) => Fault::from(just_modules::Error::MissingRoot(path)),
+            RootFault::Syntax(error) => Fault::from(just_modules::Error::Syntax(error)),
         }
     }
 }

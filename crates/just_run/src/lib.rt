@@ -5,6 +5,7 @@ pub mod driver;
 pub mod fault;
 pub mod outcome;
 mod plan;
+mod root;
 mod texts;
 
 pub use driver::{drive, drive_and_leak};

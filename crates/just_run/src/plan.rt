@@ -1,23 +1,17 @@
 //! What a run would hand over, as it is written.
 ghost use Rattle.std.specs.Prelude.{◌≡◌, ◌⊎◌, ℕ, [], Err, false, IfErr, IfSome, IsSome, List, OnOk, true};
 ghost use Rattle.std.specs.String.{string_bytes};
-ghost use Rattle.justfile_syntax.specs.PlainShapes.{shape_of};
 ghost use Rattle.just_host.specs.Follows.{Follows, questions};
 ghost use Rattle.just_host.specs.declared.entry.Entry.{Entry};
-ghost use Rattle.run_plain.specs.Drives.{verdict};
-ghost use Rattle.run_plain.specs.Inputs.{Inputs};
-ghost use Rattle.run_plain.specs.Stages.{IsRead};
 ghost use Rattle.run_plan.specs.Plans.{plan_text};
+ghost use Rattle.run_prepared.specs.Begun.{BeginsTask};
 ghost use Rattle.run_prepared.specs.Performed.{PerformsTask};
 ghost use Rattle.run_tasks.specs.declared.task.Task.TheVariants as tasks;
 ghost use Rattle.just_run.specs.Named.{left_of};
 ghost use Rattle.just_run.specs.Ran.{PlansTask, WasSent, plan_answer};
 ghost use Rattle.just_run.specs.declared.fault.Fault.TheVariants.{OutOfMemory, Write};
-ghost use Rattle.just_run.specs.Plain.{fault_of};
-ghost use Rattle.just_run.specs.Plans as spec;
-ghost use Rattle.just_run.specs.Plans.{IsEnd, IsKeptBy, IsPlanned, IsSent, IsWrittenPlan, Plans};
+ghost use Rattle.just_run.specs.Plans.{IsEnd, IsPlanned, IsSent, IsWrittenPlan};
 ghost use Rattle.just_run.specs.Writes.{WriteFails};
-ghost use Rattle.run_requests.specs.declared.action.Action.TheVariants.{Plan};
 
 use crate::fault::Fault;
 use crate::outcome::Outcome;
@@ -26,10 +20,6 @@ use analyze_runs::Call;
 use just_host::{Config, Out, Recorded, RunHost};
 use just_modules::Compilation;
 use just_resolve::Analysis;
-use just_text::CompileErrorKind;
-use just_value::Positional;
-use justfile_syntax::plain_files::Ast as PlainAst;
-use run_plain::{Fault as PlainFault, run_file};
 use run_plan::{Planning, plan_text};
 use run_prepared::perform_task;
 use run_tasks::{Performed, Task, TaskFault};
@@ -102,8 +92,8 @@ pub(crate) fn drive_plan<'src, H: RunHost + Drop, O: Out>(
     out: &mut O,
 ) -> Result<Outcome, Fault<'src>>
     ensures planned { IsPlanned H.goes host.old (O.written out.old) result host.new (O.written out.new) }
-    // What is planned is the run of the calls over what is known of the justfile, and how it ended is answered.
-    ensures ends { PlansTask (left_of host.old (O.written out.old) (O.failed out.old) host.new (O.written out.new) (O.failed out.new)) result (tasks.Run calls) (PerformsTask compilation.now analysis.now config.now root.now (tasks.Run calls) []) }
+    // What is planned is the run of the calls over what is known of the justfile, and how it ended is answered; however it ended, what was recorded is its beginning.
+    ensures ends { PlansTask (left_of host.old (O.written out.old) (O.failed out.old) host.new (O.written out.new) (O.failed out.new)) result (tasks.Run calls) (PerformsTask compilation.now analysis.now config.now root.now (tasks.Run calls) []) (BeginsTask compilation.now analysis.now config.now root.now (tasks.Run calls) []) }
     ensures unfailed { WriteFails (O.failed out.old) result (O.failed out.new) }
 {
     let mut planned = Recorded::new(alloc, Planning { caller: host });
@@ -120,70 +110,4 @@ pub(crate) fn drive_plan<'src, H: RunHost + Drop, O: Out>(
     let text = text_of(alloc, &planned);
     let Planning { caller: _caller } = planned.into_host();
     write_plan(text, ended(performed), out)
-}
-
-/// Whether a rule is broken, so that no run began.
-fn breaks_rule(fault: &PlainFault) -> bool
-    ensures { result ≡ spec.breaks_rule (verdict fault.now) }
-{
-    match fault {
-        PlainFault::NoRootForWord(_)
-        | PlainFault::MissingRoot(_)
-        | PlainFault::Redefinition(_)
-        | PlainFault::UnknownDependency { .. }
-        | PlainFault::CircularRecipe(_)
-        | PlainFault::UnknownOverride(_)
-        | PlainFault::UnknownRecipe(_)
-        | PlainFault::UnknownModule(_)
-        | PlainFault::NoRecipes => true,
-        PlainFault::Syntax(error) => !matches!(error.kind, CompileErrorKind::NumbersUsed),
-        PlainFault::OutOfMemory
-        | PlainFault::Code(_, _)
-        | PlainFault::Signal(_, _)
-        | PlainFault::CouldNotStart(_) => false,
-    }
-}
-
-/// Answers the rule that is broken; or writes the text, and answers how the run failed.
-fn write_failed<'src, O: Out>(
-    text: Option<String>,
-    fault: PlainFault<'src>,
-    out: &mut O,
-) -> Result<Outcome, Fault<'src>>
-    ensures refused { spec.breaks_rule (verdict fault.entry) ≡ true → (result ≡ Err (fault_of fault.entry)) × (O.written out.new ≡ O.written out.old) }
-    ensures failed { spec.breaks_rule (verdict fault.entry) ≡ false → (plan : List ℕ) → IfSome text (λ written. string_bytes written ≡ plan) → IsWrittenPlan (O.written out.old) plan result (O.written out.new) }
-    ensures unfailed { WriteFails (O.failed out.old) result (O.failed out.new) }
-{
-    let is_refused = breaks_rule(&fault);
-    let fault = Fault::from(fault);
-    if is_refused {
-        return Err(fault);
-    }
-    write_plan(text, Err(fault), out)
-}
-
-/// Runs what the words name of a root file of plain recipes under a host that hands nothing over, and
-/// writes what the run hands over to that host, up to its first failure. Nothing is written where a
-/// rule of the recipes or of the words is broken.
-pub(crate) fn plan_file<'src, H: RunHost + Drop, O: Out>(
-    alloc: Global,
-    config: &Config,
-    recipes: &PlainAst<'src>,
-    words: &Positional,
-    host: &mut Recorded<H>,
-    out: &mut O,
-) -> Result<Outcome, Fault<'src>>
-    ensures planned { (i : Inputs) → i.words ≡ words.now → IsRead i (shape_of recipes.now) → Plans H.goes host.old (O.written out.old) result host.new (O.written out.new) }
-    ensures kept { IfErr result (λ fault. IsKeptBy Plan (O.written out.old) fault (O.written out.new)) }
-    ensures unfailed { WriteFails (O.failed out.old) result (O.failed out.new) }
-    ensures followed { (entries : List Entry) × Follows H.goes host.old (questions entries) host.new }
-{
-    let mut planned = Recorded::new(alloc, Planning { caller: host });
-    let ran = run_file(alloc, config, recipes, words, &mut planned);
-    let text = text_of(alloc, &planned);
-    let Planning { caller: _caller } = planned.into_host();
-    match ran {
-        Ok(_) => write_plan(text, Ok(Outcome::Planned), out),
-        Err(fault) => write_failed(text, fault, out),
-    }
 }

@@ -16,15 +16,15 @@ use Rattle.tree_items.specs.declared.line.Line.{Line}
 use Rattle.tree_items.specs.declared.line.Sigils.{Sigils}
 use Rattle.evaluate_context.specs.Refusals.{fault_of}
 use Rattle.evaluate_context.specs.declared.error.Error.{Error}
-use Rattle.meaning_dialogues.specs.Dialogue.{Evaluates, Reading}
-use Rattle.meaning_dialogues.specs.Faults.{Fault, memory}
+use Rattle.meaning_dialogues.specs.Dialogue.{Evaluates}
+use Rattle.meaning_dialogues.specs.Faults.{Fault}
 use Rattle.meaning_runs.specs.Failures.{Failure, evaluation, Next, goes_on, next_by}
 use Rattle.meaning_runs.specs.Task.{Task}
 use Rattle.meaning_calls.specs.Bodies.{first_of, goes_on_below, line_text}
 use Rattle.meaning_calls.specs.Calling.{handing, running}
 use Rattle.meaning_bodies.specs.Left.{added, left, marks_with, text_with}
 use Rattle.meaning_bodies.specs.Marked.{BeginsMarked}
-use Rattle.meaning_bodies.specs.Performing.{LeadsOn, Performs, WasOpen}
+use Rattle.meaning_bodies.specs.Performing.{LeadsOn, Performs, Stays}
 use Rattle.meaning_bodies.proofs.Jobs.{handed_dry, handed_line, runs_none, runs_shown, runs_hidden}
 use Rattle.meaning_bodies.proofs.Commands.{LeadsWhole, lines_first, lines_passed, lines_read, lines_stop, lines_open, lines_closed, lines_cut_off, lines_more, lines_ended, lines_failed, lines_end}
 use Rattle.meaning_bodies.proofs.Put.{put_marked}
@@ -37,10 +37,6 @@ use Rattle.justfile_evaluator.specs.declared.body.Command.{Command}
 use Rattle.justfile_evaluator.specs.declared.fault.RunFault.{RunFault}
 use Rattle.justfile_evaluator.specs.declared.site.Site.{Site}
 use Rattle.justfile_evaluator.proofs.Sites.{job_by_name, shows_by_name}
-
--- where memory was wanting nothing is said
-pub without_memory : {H A : Type 0} (reading : Reading) (task : Task A) (old new : Record H) (r : Result A Failure) → r ≡ Err (evaluation memory) → Performs reading task old new r
-without_memory reading task old new r e = record { goes = λ still n. absurd (n e) }
 
 -- ---- the places of lines
 
@@ -85,11 +81,11 @@ module _ {H : Type 0} (goes : H → List Entry → H → Type 0) (b : NamedBody)
 
   -- another is shown or not, and then handed over
   runs_either : (command : Command) (old mid new : Record H) (next : Result Next Failure) → unmarked_text command ≢ [] → (shown : Bool) → shows_in site.manner site.context.now.config.now command.sigils.quiet ≡ shown
-      → (shown ≡ true → Follows goes old (Show (unmarked_text command) ∷ []) mid) → (shown ≡ false → mid ≡ old) → WasOpen mid new
+      → (shown ≡ true → Follows goes old (Show (unmarked_text command) ∷ []) mid) → (shown ≡ false → mid ≡ old) → Stays mid new
       → Performs b.reading (Handing b.configuration.dry_run command) mid new next → Performs b.reading (run b command) old new next
-  runs_either command old mid new next some true e first same open_before g =
-      runs_shown b.configuration b.scene b.name b.recipe b.flag b.bound b.reading goes command.sigils (unmarked_text command) old mid new next some (sym (shows_by_name b site h command.sigils) ∙ e) (first refl) open_before g
-  runs_either command old mid new next some false e first same open_before g =
+  runs_either command old mid new next some true e first same stays g =
+      runs_shown b.configuration b.scene b.name b.recipe b.flag b.bound b.reading goes command.sigils (unmarked_text command) old mid new next some (sym (shows_by_name b site h command.sigils) ∙ e) (first refl) stays g
+  runs_either command old mid new next some false e first same stays g =
       runs_hidden b.configuration b.scene b.name b.recipe b.flag b.bound b.reading goes command.sigils (unmarked_text command) old new next some (sym (shows_by_name b site h command.sigils) ∙ e)
       (subst (λ m. Performs b.reading (Handing b.configuration.dry_run command) m new next) (same refl) g)
 
@@ -98,16 +94,16 @@ module _ {H : Type 0} (goes : H → List Entry → H → Type 0) (b : NamedBody)
 
   -- a text that is not empty is shown or not, and handed over
   pub runs_handed : (command : Command) (shown : List ℕ) (old mid new : Record H) (next : Result Next Failure) → shown ≡ unmarked_text command → (length shown == 0) ≡ false → (Shown command ≡ true → Follows goes old (Show shown ∷ []) mid)
-      → (Shown command ≡ false → mid ≡ old) → WasOpen mid new → site.context.now.config.now.dry_run ≡ false → Performs b.reading (handed b command) mid new next → Performs b.reading (run b command) old new next
-  runs_handed command shown old mid new next is some first same open_before dry g =
-      runs_either command old mid new next (some_text shown (unmarked_text command) is some) (Shown command) refl (λ e. subst (λ t. Follows goes old (Show t ∷ []) mid) is (first e)) same open_before
+      → (Shown command ≡ false → mid ≡ old) → Stays mid new → site.context.now.config.now.dry_run ≡ false → Performs b.reading (handed b command) mid new next → Performs b.reading (run b command) old new next
+  runs_handed command shown old mid new next is some first same stays dry g =
+      runs_either command old mid new next (some_text shown (unmarked_text command) is some) (Shown command) refl (λ e. subst (λ t. Follows goes old (Show t ∷ []) mid) is (first e)) same stays
       (subst (λ d. Performs b.reading (Handing d command) mid new next) (sym (sym h.configuration.dry_run ∙ dry)) g)
 
   -- in a dry run it is not handed over
   pub runs_dry : (command : Command) (shown : List ℕ) (old mid : Record H) → shown ≡ unmarked_text command → (length shown == 0) ≡ false → (Shown command ≡ true → Follows goes old (Show shown ∷ []) mid) → (Shown command ≡ false → mid ≡ old)
       → site.context.now.config.now.dry_run ≡ true → Performs b.reading (run b command) old mid (Ok goes_on)
   runs_dry command shown old mid is some first same dry =
-      runs_either command old mid mid (Ok goes_on) (some_text shown (unmarked_text command) is some) (Shown command) refl (λ e. subst (λ t. Follows goes old (Show t ∷ []) mid) is (first e)) same (λ still. still)
+      runs_either command old mid mid (Ok goes_on) (some_text shown (unmarked_text command) is some) (Shown command) refl (λ e. subst (λ t. Follows goes old (Show t ∷ []) mid) is (first e)) same (λ full. refl)
       (handed_dry b.configuration b.scene b.name b.recipe b.flag b.bound b.reading goes b.configuration.dry_run command.sigils (unmarked_text command) mid (sym h.configuration.dry_run ∙ dry))
 
 -- ---- one line
@@ -174,17 +170,17 @@ module _ {H : Type 0} (b : NamedBody) (site : Site) (h : IsSiteOf b site) (start
   }
 
   -- a line has a fault
-  pub stops_at : (mid new : Record H) (command : Command) (line : List Piece) (lines : List (List Piece)) (error : Error) (fault : RunFault) → is_left_out site command line ≡ false → WasOpen mid new
+  pub stops_at : (mid new : Record H) (command : Command) (line : List Piece) (lines : List (List Piece)) (error : Error) (fault : RunFault) → is_left_out site command line ≡ false → Stays mid new
       → GoesOn b command (line ∷ lines) start mid → Evaluates b.reading (line_text b.configuration b.scene b.name b.recipe b.flag b.bound command.is_open line) mid.entries new.entries (Err (fault_of error))
       → failure_of fault ≡ evaluation (fault_of error) → Performs b.reading (lines_of b) start new (Err (failure_of fault))
-  stops_at mid new command line lines error fault e open_before g given same =
-      rw same (lines_stop b.configuration b.scene b.name b.recipe b.flag b.bound b.reading Skips b.recipe.body start mid new command.is_open command.sigils (string_bytes command.text) line lines (fault_of error) g.leads (kept command.is_open _ Skips (is_comment (first_of line)) h.settings.ignore_comments e) open_before given)
+  stops_at mid new command line lines error fault e stays g given same =
+      rw same (lines_stop b.configuration b.scene b.name b.recipe b.flag b.bound b.reading Skips b.recipe.body start mid new command.is_open command.sigils (string_bytes command.text) line lines (fault_of error) g.leads (kept command.is_open _ Skips (is_comment (first_of line)) h.settings.ignore_comments e) stays given)
 
   -- a line was read, after which its command is open
-  pub opens : (mid new : Record H) (old command : Command) (line : List Piece) (lines : List (List Piece)) → is_left_out site old line ≡ false → WasOpen mid new → GoesOn b old (line ∷ lines) start mid
+  pub opens : (mid new : Record H) (old command : Command) (line : List Piece) (lines : List (List Piece)) → is_left_out site old line ≡ false → Stays mid new → GoesOn b old (line ∷ lines) start mid
       → HasRead b old line command mid new → command.is_open ≡ true → GoesOn b command lines start new
-  opens mid new old command line lines e open_before g given is_open =
-      let read = lines_read b.configuration b.scene b.name b.recipe b.flag b.bound b.reading Skips b.recipe.body start mid new old.is_open old.sigils (string_bytes old.text) line lines given.text g.leads (kept old.is_open _ Skips (is_comment (first_of line)) h.settings.ignore_comments e) open_before given.evaluates in
+  opens mid new old command line lines e stays g given is_open =
+      let read = lines_read b.configuration b.scene b.name b.recipe b.flag b.bound b.reading Skips b.recipe.body start mid new old.is_open old.sigils (string_bytes old.text) line lines given.text g.leads (kept old.is_open _ Skips (is_comment (first_of line)) h.settings.ignore_comments e) stays given.evaluates in
       let left_on = lines_open b.configuration b.scene b.name b.recipe b.flag b.bound b.reading Skips b.recipe.body start new (marks_with b.configuration b.scene b.name b.recipe b.flag b.bound old.is_open old.sigils line) (text_with b.configuration b.scene b.name b.recipe b.flag b.bound old.is_open (string_bytes old.text) line given.text) line lines read (sym given.goes_on ∙ is_open) in
       let marked = subst (λ s. LeadsOn b.reading (lines_of b) (left b.configuration b.scene b.name b.recipe b.flag b.bound Skips true s (text_with b.configuration b.scene b.name b.recipe b.flag b.bound old.is_open (string_bytes old.text) line given.text) lines) start new) (sym given.marks) left_on in
       let whole = subst (λ t. LeadsOn b.reading (lines_of b) (left b.configuration b.scene b.name b.recipe b.flag b.bound Skips true command.sigils t lines) start new) (sym given.whole) marked in
@@ -192,24 +188,24 @@ module _ {H : Type 0} (b : NamedBody) (site : Site) (h : IsSiteOf b site) (start
 
   -- what a command that is whole, and that ran, leads to
   ran_to : (ran new : Record H) (sigils : Sigils) (whole : List ℕ) (after : Command) (lines : List (List Piece)) (result : Result Bool RunFault) → LeadsWhole b.configuration b.scene b.name b.recipe b.flag b.bound b.reading Skips b.recipe.body sigils whole lines start ran
-      → WasOpen ran new → after.is_open ≡ false → Performs b.reading (running b.configuration b.scene b.name b.recipe b.flag b.bound sigils (drop (sigil_count sigils) whole)) ran new (next_of result) → Turned b after lines start new result
-  ran_to ran new sigils whole after lines (Ok true) leads still closed g = record {
-    leads = subst (λ o. LeadsOn b.reading (lines_of b) (left b.configuration b.scene b.name b.recipe b.flag b.bound Skips o after.sigils (string_bytes after.text) lines) start new) (sym closed) (lines_more b.configuration b.scene b.name b.recipe b.flag b.bound b.reading Skips b.recipe.body start ran new sigils whole lines leads still after.sigils (string_bytes after.text) g);
+      → Stays ran new → after.is_open ≡ false → Performs b.reading (running b.configuration b.scene b.name b.recipe b.flag b.bound sigils (drop (sigil_count sigils) whole)) ran new (next_of result) → Turned b after lines start new result
+  ran_to ran new sigils whole after lines (Ok true) leads stays closed g = record {
+    leads = subst (λ o. LeadsOn b.reading (lines_of b) (left b.configuration b.scene b.name b.recipe b.flag b.bound Skips o after.sigils (string_bytes after.text) lines) start new) (sym closed) (lines_more b.configuration b.scene b.name b.recipe b.flag b.bound b.reading Skips b.recipe.body start ran new sigils whole lines leads stays after.sigils (string_bytes after.text) g);
     sound = λ o. absurd (cc (closed, o));
   }
-  ran_to ran new sigils whole after lines (Ok false) leads still closed g = lines_ended b.configuration b.scene b.name b.recipe b.flag b.bound b.reading Skips b.recipe.body start ran new sigils whole lines leads still g
-  ran_to ran new sigils whole after lines (Err fault) leads still closed g = lines_failed b.configuration b.scene b.name b.recipe b.flag b.bound b.reading Skips b.recipe.body start ran new sigils whole lines leads still (failure_of fault) g
+  ran_to ran new sigils whole after lines (Ok false) leads stays closed g = lines_ended b.configuration b.scene b.name b.recipe b.flag b.bound b.reading Skips b.recipe.body start ran new sigils whole lines leads stays g
+  ran_to ran new sigils whole after lines (Err fault) leads stays closed g = lines_failed b.configuration b.scene b.name b.recipe b.flag b.bound b.reading Skips b.recipe.body start ran new sigils whole lines leads stays (failure_of fault) g
 
   -- a line was read that ends its command, which then ran
-  pub runs_to : (mid ran new : Record H) (old command after : Command) (line : List Piece) (lines : List (List Piece)) (result : Result Bool RunFault) → is_left_out site old line ≡ false → WasOpen mid ran → GoesOn b old (line ∷ lines) start mid
-      → HasRead b old line command mid ran → command.is_open ≡ false → WasOpen ran new → after ≡ command → Performs b.reading (run b command) ran new (next_of result) → Turned b after lines start new result
-  runs_to mid ran new old command after line lines result e open_before g given closed still same performed =
-      let read = lines_read b.configuration b.scene b.name b.recipe b.flag b.bound b.reading Skips b.recipe.body start mid ran old.is_open old.sigils (string_bytes old.text) line lines given.text g.leads (kept old.is_open _ Skips (is_comment (first_of line)) h.settings.ignore_comments e) open_before given.evaluates in
+  pub runs_to : (mid ran new : Record H) (old command after : Command) (line : List Piece) (lines : List (List Piece)) (result : Result Bool RunFault) → is_left_out site old line ≡ false → Stays mid ran → GoesOn b old (line ∷ lines) start mid
+      → HasRead b old line command mid ran → command.is_open ≡ false → Stays ran new → after ≡ command → Performs b.reading (run b command) ran new (next_of result) → Turned b after lines start new result
+  runs_to mid ran new old command after line lines result e stays g given closed stays_then same performed =
+      let read = lines_read b.configuration b.scene b.name b.recipe b.flag b.bound b.reading Skips b.recipe.body start mid ran old.is_open old.sigils (string_bytes old.text) line lines given.text g.leads (kept old.is_open _ Skips (is_comment (first_of line)) h.settings.ignore_comments e) stays given.evaluates in
       let whole = lines_closed b.configuration b.scene b.name b.recipe b.flag b.bound b.reading Skips b.recipe.body start ran (marks_with b.configuration b.scene b.name b.recipe b.flag b.bound old.is_open old.sigils line) (text_with b.configuration b.scene b.name b.recipe b.flag b.bound old.is_open (string_bytes old.text) line given.text) line lines read (sym given.goes_on ∙ closed) in
       let now : after.is_open ≡ false = ap (λ c. c.is_open) same ∙ closed in
       let marked = subst (λ s. LeadsWhole b.configuration b.scene b.name b.recipe b.flag b.bound b.reading Skips b.recipe.body s (text_with b.configuration b.scene b.name b.recipe b.flag b.bound old.is_open (string_bytes old.text) line given.text) lines start ran) (sym given.marks) whole in
       let all = subst (λ t. LeadsWhole b.configuration b.scene b.name b.recipe b.flag b.bound b.reading Skips b.recipe.body command.sigils t lines start ran) (sym given.whole) marked in
-      ran_to ran new command.sigils (string_bytes command.text) after lines result all still now performed
+      ran_to ran new command.sigils (string_bytes command.text) after lines result all stays_then now performed
 
   -- a line after which the body ends, and one after which it goes on
   pub turned_false : (now : Record H) (command : Command) (lines : List (List Piece)) (more : Bool) → more ≡ false → Turned b command lines start now (Ok more) → Performs b.reading (lines_of b) start now (Ok tt)
@@ -226,14 +222,14 @@ module _ {H : Type 0} (b : NamedBody) (site : Site) (h : IsSiteOf b site) (start
       lines_end b.configuration b.scene b.name b.recipe b.flag b.bound b.reading Skips b.recipe.body start now command.sigils (string_bytes command.text) lines (subst (λ o. LeadsOn b.reading (lines_of b) (left b.configuration b.scene b.name b.recipe b.flag b.bound Skips o command.sigils (string_bytes command.text) lines) start now) closed g.leads) none
 
   -- the body ends where a command is open, which then runs
-  pub ends_open : (ran new : Record H) (command : Command) (lines : List (List Piece)) (result : Result Bool RunFault) → GoesOn b command lines start ran → lines ≡ [] → command.is_open ≡ true → WasOpen ran new
+  pub ends_open : (ran new : Record H) (command : Command) (lines : List (List Piece)) (result : Result Bool RunFault) → GoesOn b command lines start ran → lines ≡ [] → command.is_open ≡ true → Stays ran new
       → Performs b.reading (run b command) ran new (next_of result) → Performs b.reading (lines_of b) start new (ended (ended_as result))
-  ends_open ran new command lines result g none is_open still performed =
+  ends_open ran new command lines result g none is_open stays performed =
       ending result (lines_cut_off b.configuration b.scene b.name b.recipe b.flag b.bound b.reading Skips b.recipe.body start ran command.sigils (string_bytes command.text) lines (subst (λ o. LeadsOn b.reading (lines_of b) (left b.configuration b.scene b.name b.recipe b.flag b.bound Skips o command.sigils (string_bytes command.text) lines) start ran) is_open g.leads) none) performed
     where
       ending : (r : Result Bool RunFault) → LeadsWhole b.configuration b.scene b.name b.recipe b.flag b.bound b.reading Skips b.recipe.body command.sigils (string_bytes command.text) [] start ran → Performs b.reading (run b command) ran new (next_of r) → Performs b.reading (lines_of b) start new (ended (ended_as r))
       ending (Ok true) leads p =
-          let more = lines_more b.configuration b.scene b.name b.recipe b.flag b.bound b.reading Skips b.recipe.body start ran new command.sigils (string_bytes command.text) [] leads still command.sigils (string_bytes command.text) p in
+          let more = lines_more b.configuration b.scene b.name b.recipe b.flag b.bound b.reading Skips b.recipe.body start ran new command.sigils (string_bytes command.text) [] leads stays command.sigils (string_bytes command.text) p in
           lines_end b.configuration b.scene b.name b.recipe b.flag b.bound b.reading Skips b.recipe.body start new command.sigils (string_bytes command.text) [] more refl
-      ending (Ok false) leads p = lines_ended b.configuration b.scene b.name b.recipe b.flag b.bound b.reading Skips b.recipe.body start ran new command.sigils (string_bytes command.text) [] leads still p
-      ending (Err fault) leads p = lines_failed b.configuration b.scene b.name b.recipe b.flag b.bound b.reading Skips b.recipe.body start ran new command.sigils (string_bytes command.text) [] leads still (failure_of fault) p
+      ending (Ok false) leads p = lines_ended b.configuration b.scene b.name b.recipe b.flag b.bound b.reading Skips b.recipe.body start ran new command.sigils (string_bytes command.text) [] leads stays p
+      ending (Err fault) leads p = lines_failed b.configuration b.scene b.name b.recipe b.flag b.bound b.reading Skips b.recipe.body start ran new command.sigils (string_bytes command.text) [] leads stays (failure_of fault) p

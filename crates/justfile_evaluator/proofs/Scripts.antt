@@ -41,18 +41,15 @@ use Rattle.meaning_calls.specs.Bodies.{first_words, has_shebang, in_lines, scrip
 use Rattle.meaning_calls.specs.Bodies as calls
 use Rattle.meaning_calls.specs.Calling.{without_next}
 use Rattle.meaning_bodies.specs.Marked.{BeginsAs, BeginsShebang}
-use Rattle.meaning_bodies.specs.Performing.{Performs, WasOpen}
-use Rattle.meaning_bodies.proofs.Scripts.{LeadsTexts, texts_first, texts_more, texts_stop, texts_end, words_written, words_stop, words_unnamed, words_plain, script_shown, script_hidden}
+use Rattle.meaning_bodies.specs.Performing.{Performs, Stays}
+use Rattle.meaning_bodies.proofs.Performing.{stays_through}
+use Rattle.meaning_bodies.proofs.Scripts.{LeadsTexts, texts_first, texts_more, texts_stop, texts_memory, texts_end, words_written, words_stop, words_unnamed, words_plain, script_shown, script_hidden}
 use Rattle.justfile_evaluator.specs.Bodies.{IsBodyOf, IsSiteOf, MeansInterpreter, NamedBody, script_of}
 use Rattle.justfile_evaluator.specs.Ended.{failure_of, next_of}
 use Rattle.justfile_evaluator.specs.Scripts.{GivesWords, IsScriptOf, handed_of, plain_words, positional_in, script_job_in, script_name, set_interpreter, shows_script_in, texts_of, words_of}
 use Rattle.justfile_evaluator.specs.Sites.{attribute_in, extension_in, folder_in, interpreter_at, interpreter_in, script_shape, standing_at}
 use Rattle.justfile_evaluator.specs.declared.fault.RunFault.{RunFault}
 use Rattle.justfile_evaluator.specs.declared.site.Site.{Site}
-
--- where memory ran out nothing is said
-pub evaluates_memory : {A : Type 0} (reading : Reading) (d : Dialogue A) (old new : List Entry) → Evaluates reading d old new (Err memory)
-evaluates_memory reading d old new = record { goes = λ n. absurd (n refl) }
 
 -- ---- the texts of lines
 
@@ -88,6 +85,9 @@ module _ (b : NamedBody) (site : Site) (evaluator : Evaluator) (body : List Line
     lines_stop old mid new texts i x f h lt e g =
         texts_stop b.configuration b.scene b.name b.recipe b.flag b.bound b.reading old mid new texts (pieces_of x) (map pieces_of (drop (i + 1) body)) f
         (subst (λ lines. LeadsTexts b.configuration b.scene b.name b.recipe b.flag b.bound b.reading lines old mid texts) (pieces_at body i x lt e) h) (by_name_at i x mid new (Err f) lt e g)
+
+    pub lines_memory : (old now : List Entry) (texts : List (List ℕ)) (i : ℕ) → Leads i old now texts → Evaluates b.reading (texts_of b) old now (Err memory)
+    lines_memory old now texts i h = texts_memory b.configuration b.scene b.name b.recipe b.flag b.bound b.reading old now texts (map pieces_of (drop i body)) h
 
     pub lines_end : (old new : List Entry) (texts : List (List ℕ)) (i : ℕ) → Leads i old new texts → length body ≤ i → Evaluates b.reading (texts_of b) old new (Ok texts)
     lines_end old new texts i h over =
@@ -195,17 +195,17 @@ module _ {H : Type 0} (b : NamedBody) (site : Site) (is : IsSiteOf b site) (goes
   shows_same : shows_script_in site ≡ shows_script b.configuration b.scene b.name b.recipe b.flag b.bound
   shows_same = rw (is.configuration.dry_run, is.configuration.loquacious, is.recipe.is_quiet) refl
 
-  shown_by : (v : Bool) (old mid seen new : Record H) (texts : List (List ℕ)) (end : Result (Unit {0}) Failure) → shows_script_in site ≡ v → Evaluates b.reading (texts_of b) old.entries mid.entries (Ok texts) → WasOpen mid seen
-      → (v ≡ true → Follows goes mid (Show (in_lines texts) ∷ []) seen) → (v ≡ false → seen ≡ mid) → WasOpen seen new → Performs b.reading (handed_of b b.configuration.dry_run texts) seen new end → Performs b.reading (script_of b) old new end
+  shown_by : (v : Bool) (old mid seen new : Record H) (texts : List (List ℕ)) (end : Result (Unit {0}) Failure) → shows_script_in site ≡ v → Evaluates b.reading (texts_of b) old.entries mid.entries (Ok texts) → Stays mid seen
+      → (v ≡ true → Follows goes mid (Show (in_lines texts) ∷ []) seen) → (v ≡ false → seen ≡ mid) → Stays seen new → Performs b.reading (handed_of b b.configuration.dry_run texts) seen new end → Performs b.reading (script_of b) old new end
   shown_by true old mid seen new texts end e h before shown hidden after g =
       script_shown b.configuration b.scene b.name b.recipe b.flag b.bound b.reading goes old mid seen new texts (in_lines texts) end h before (sym shows_same ∙ e) refl (shown refl) after g
   shown_by false old mid seen new texts end e h before shown hidden after g =
-      script_hidden b.configuration b.scene b.name b.recipe b.flag b.bound b.reading goes old mid new texts end h (λ still. before (after still)) (sym shows_same ∙ e)
+      script_hidden b.configuration b.scene b.name b.recipe b.flag b.bound b.reading goes old mid new texts end h (stays_through mid seen new before after) (sym shows_same ∙ e)
       (subst (λ r. Performs b.reading (handed_of b b.configuration.dry_run texts) r new end) (hidden refl) g)
 
   -- the lines have texts, which are shown where they are to be, and then handed over
-  pub script_then : (old mid seen new : Record H) (texts : List (List ℕ)) (end : Result (Unit {0}) Failure) → Evaluates b.reading (texts_of b) old.entries mid.entries (Ok texts) → WasOpen mid seen
-      → (shows_script_in site ≡ true → Follows goes mid (Show (in_lines texts) ∷ []) seen) → (shows_script_in site ≡ false → seen ≡ mid) → WasOpen seen new → Performs b.reading (handed_of b b.configuration.dry_run texts) seen new end
+  pub script_then : (old mid seen new : Record H) (texts : List (List ℕ)) (end : Result (Unit {0}) Failure) → Evaluates b.reading (texts_of b) old.entries mid.entries (Ok texts) → Stays mid seen
+      → (shows_script_in site ≡ true → Follows goes mid (Show (in_lines texts) ∷ []) seen) → (shows_script_in site ≡ false → seen ≡ mid) → Stays seen new → Performs b.reading (handed_of b b.configuration.dry_run texts) seen new end
       → Performs b.reading (script_of b) old new end
   script_then old mid seen new texts end h before shown hidden after g = shown_by (shows_script_in site) old mid seen new texts end refl h before shown hidden after g
 

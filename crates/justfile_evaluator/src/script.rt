@@ -321,6 +321,7 @@ fn show<H: RunHost + Drop>(
     ensures asks { AsksWork site.now.context.now.config.now.dry_run H.goes host.old host.new }
     ensures shown { shows_script_in site.now ≡ true → IfOk result (λ _. Follows H.goes host.old (Show (in_lines lines.now) ∷ []) host.new) }
     ensures hidden { shows_script_in site.now ≡ false → host.new ≡ host.old }
+    ensures unshown { IfErr result (λ _. host.new ≡ host.old) }
 {
     if !shows_script(site) {
         return Ok(());

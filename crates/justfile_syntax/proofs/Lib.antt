@@ -14,8 +14,6 @@ pub mod PartsBack
 pub mod Shrinks
 pub mod Lexemes
 pub mod Beside
-pub mod Each
-pub mod Lone
 pub mod Answered
 pub mod AnyShape
 pub mod EntriesExact

@@ -7,8 +7,6 @@ pub mod Bodies
 pub mod WholeBodies
 pub mod Lexemes
 pub mod Beside
-pub mod PlainShapes
-pub mod Plain
 pub mod Files
 pub mod Reading
 pub mod Features

@@ -1,6 +1,6 @@
 //! Justfiles by one name: their tokens and refusals, their trees with their printed texts, names of
 //! variables and attributes, and the parser of whole files; words, and when they are the tokens of their
-//! joined text; and files of plain recipes.
+//! joined text.
 #![tactic(auto)]
 
 mod features;
@@ -9,7 +9,6 @@ pub mod file_law;
 mod item;
 pub mod law;
 pub mod parser;
-pub mod plain_files;
 mod printer;
 mod refusal;
 

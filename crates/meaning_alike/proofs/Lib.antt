@@ -1,3 +1,4 @@
 pub mod Named
 pub mod Runs
 pub mod Counted
+pub mod Cut

@@ -1,25 +1,27 @@
 -- The lines of a body, one after another.
-use Rattle.std.proofs.Common.{◌≡◌, ℕ, List, [], ◌∷◌, ◌++◌, append_assoc, append-nil, Bool, true, false, not, cond, ◌&&◌, Result, Ok, Err, sym, ap, subst, drop}
+use Rattle.std.proofs.Common.{◌≡◌, ℕ, List, [], ◌∷◌, ◌++◌, append_assoc, append-nil, Bool, true, false, not, cond, ◌&&◌, Result, Ok, Err, refl, sym, ap, subst, drop}
 use Rattle.std.specs.List.{onto_first}
 use Rattle.just_host.specs.declared.entry.Entry.{Entry}
 use Rattle.just_host.specs.Record.{Record}
 use Rattle.tree_items.specs.Lines.{Piece, sigil_count, is_comment}
 use Rattle.tree_items.specs.declared.line.Sigils.{Sigils}
-use Rattle.meaning_dialogues.specs.Faults.{Fault}
-use Rattle.meaning_dialogues.specs.Dialogue.{Dialogue, Ends, Evaluates, Reading}
+use Rattle.meaning_dialogues.specs.Faults.{Fault, memory}
+use Rattle.meaning_dialogues.specs.Dialogue.{Begins, Dialogue, Ends, Evaluates, Reading}
 use Rattle.meaning_dialogues.specs.Dialogue as dialogues
 use Rattle.meaning_stages.specs.Parameters.{Bound}
 use Rattle.meaning_runs.specs.Failures.{Failure, evaluation, Next, goes_on, stops}
-use Rattle.meaning_runs.specs.Task.{Task, lift, ◌>>=◌, TaskLeads}
+use Rattle.meaning_runs.specs.Task.{Task, as_failure, lift, ◌>>=◌, TaskBegins, TaskLeads}
 use Rattle.meaning_runs.proofs.Tasks.{lift_goes}
+use Rattle.meaning_runs.proofs.Beginnings.{task_begins_first, task_begins_here}
+use Rattle.just_host.specs.Steps.{was_open}
 use Rattle.meaning_calls.specs.Named.{RecipeRow}
 use Rattle.meaning_calls.specs.Scopes.{Configuration, Scene}
 use Rattle.meaning_calls.specs.Bodies.{first_of, goes_on_below, cut, commands, closed_if, line_text, command_text, marks_of}
 use Rattle.meaning_calls.specs.Calling.{running, and_others, lines_task}
-use Rattle.meaning_bodies.specs.Performing.{Performs, WasOpen, LeadsOn}
+use Rattle.meaning_bodies.specs.Performing.{Performs, Stays, LeadsOn}
 use Rattle.meaning_bodies.specs.Left.{added, left_after, runs_then, rest_of, opened, left, marks_with, text_with}
 use Rattle.meaning_bodies.proofs.Orders.{leads_regrouped, leads_lifted, leads_then, leads_stops, leads_alike}
-use Rattle.meaning_bodies.proofs.Performing.{performs_then, performs_stops, performs_ends, leads_first, leads_end}
+use Rattle.meaning_bodies.proofs.Performing.{performs_cut, performs_then, performs_stops, performs_ends, leads_first, leads_end, leads_more, on_begins}
 
 module _ (c : Configuration) (scene : Scene) (name : List ℕ) (recipe : RecipeRow) (flag : Bool) (bound : Bound) (reading : Reading) where
   abbrev Text : Bool → List Piece → Dialogue (List ℕ)
@@ -124,6 +126,22 @@ module _ (c : Configuration) (scene : Scene) (name : List ℕ) (recipe : RecipeR
   read_stops skips false sigils so_far line lines old new f e h =
       subst (λ l. TaskLeads reading (Others l) old new (Err f)) (sym (commands_at skips line lines e)) (begun_stops line (left_after skips line lines) old new f h)
 
+  -- what begins the text of a line begins what is left with it
+  read_begins : (skips inside : Bool) (sigils : Sigils) (so_far : List ℕ) (line : List Piece) (lines : List (List Piece)) (old new : List Entry) → is_passed skips inside line ≡ false
+      → Begins reading (Text inside line) old new → TaskBegins reading (left c scene name recipe flag bound skips inside sigils so_far (line ∷ lines)) old new
+  read_begins skips inside sigils so_far line lines old new e b = by_end b.result (lift_goes reading (Text inside line) old (new ++ b.rest) b.result b.goes)
+    where
+      by_end : (r : Result (List ℕ) Fault) → TaskLeads reading (lift (Text inside line)) old (new ++ b.rest) (as_failure r) → TaskBegins reading (left c scene name recipe flag bound skips inside sigils so_far (line ∷ lines)) old new
+      by_end (Ok text) h =
+          let next = task_begins_here reading (left_read skips inside sigils so_far line lines text) (new ++ b.rest) in
+          record {
+            rest = b.rest ++ next.rest;
+            result = next.result;
+            leads = subst (λ last. TaskLeads reading (left c scene name recipe flag bound skips inside sigils so_far (line ∷ lines)) old last next.result) (append_assoc new b.rest next.rest)
+                (read_leads skips inside sigils so_far line lines old (new ++ b.rest) ((new ++ b.rest) ++ next.rest) text next.result e h next.leads);
+          }
+      by_end (Err f) h = record { rest = b.rest; result = Err (evaluation f); leads = read_stops skips inside sigils so_far line lines old (new ++ b.rest) (evaluation f) e h }
+
   -- ---- the loop over the lines
 
   abbrev pub all_lines : Bool → List (List Piece) → Task (Unit {0})
@@ -150,20 +168,28 @@ module _ (c : Configuration) (scene : Scene) (name : List ℕ) (recipe : RecipeR
 
     -- a line is read: its text is put to that of its command
     pub lines_read : (old mid new : Record H) (inside : Bool) (sigils : Sigils) (so_far : List ℕ) (line : List Piece) (lines : List (List Piece)) (text : List ℕ) → LeadsLines inside sigils so_far (line ∷ lines) old mid → is_passed skips inside line ≡ false
-        → WasOpen mid new → Evaluates reading (Text inside line) mid.entries new.entries (Ok text)
+        → Stays mid new → Evaluates reading (Text inside line) mid.entries new.entries (Ok text)
         → LeadsRead (marks_with c scene name recipe flag bound inside sigils line) (text_with c scene name recipe flag bound inside so_far line text) (left_after skips line lines) old new
-    lines_read old mid new inside sigils so_far line lines text h e open_before g = record {
-      on = λ still last r d. h.on (open_before still) last r
-          (read_leads skips inside sigils so_far line lines mid.entries new.entries last text r e (lift_goes reading (Text inside line) mid.entries new.entries (Ok text) (g.goes (λ q. cc))) d);
-    }
+    lines_read old mid new inside sigils so_far line lines text h e stays g =
+        leads_more reading (all_lines skips body) (left c scene name recipe flag bound skips inside sigils so_far (line ∷ lines)) (left_read skips inside sigils so_far line lines text) old mid new h stays
+        (λ still last r d. read_leads skips inside sigils so_far line lines mid.entries new.entries last text r e (lift_goes reading (Text inside line) mid.entries new.entries (Ok text) (g.goes (λ q. cc))) d)
+        (read_begins skips inside sigils so_far line lines mid.entries new.entries e g.begins)
 
     -- a line has a fault
     pub lines_stop : (old mid new : Record H) (inside : Bool) (sigils : Sigils) (so_far : List ℕ) (line : List Piece) (lines : List (List Piece)) (f : Fault) → LeadsLines inside sigils so_far (line ∷ lines) old mid → is_passed skips inside line ≡ false
-        → WasOpen mid new → Evaluates reading (Text inside line) mid.entries new.entries (Err f) → Performs reading (all_lines skips body) old new (Err (evaluation f))
-    lines_stop old mid new inside sigils so_far line lines f h e open_before g = record {
-      goes = λ still n. h.on (open_before still) new.entries (Err (evaluation f))
+        → Stays mid new → Evaluates reading (Text inside line) mid.entries new.entries (Err f) → Performs reading (all_lines skips body) old new (Err (evaluation f))
+    lines_stop old mid new inside sigils so_far line lines f h e stays g = record {
+      goes = λ still n. h.on (was_open mid new stays still) new.entries (Err (evaluation f))
           (read_stops skips inside sigils so_far line lines mid.entries new.entries (evaluation f) e (lift_goes reading (Text inside line) mid.entries new.entries (Err f) (g.goes (λ q. n (cc)))));
+      begins = on_begins reading (all_lines skips body) (left c scene name recipe flag bound skips inside sigils so_far (line ∷ lines)) old mid new h stays (read_begins skips inside sigils so_far line lines mid.entries new.entries e g.begins);
     }
+
+    -- memory ran out about a line that was read
+    pub lines_memory : (old mid new : Record H) (inside : Bool) (sigils : Sigils) (so_far : List ℕ) (line : List Piece) (lines : List (List Piece)) (r : Result (List ℕ) Fault) → LeadsLines inside sigils so_far (line ∷ lines) old mid → is_passed skips inside line ≡ false
+        → Stays mid new → Evaluates reading (Text inside line) mid.entries new.entries r → Performs reading (all_lines skips body) old new (Err (evaluation memory))
+    lines_memory old mid new inside sigils so_far line lines r h e stays g =
+        performs_cut reading (all_lines skips body) old new
+        (on_begins reading (all_lines skips body) (left c scene name recipe flag bound skips inside sigils so_far (line ∷ lines)) old mid new h stays (read_begins skips inside sigils so_far line lines mid.entries new.entries e g.begins))
 
     -- the line goes on: its command is open
     pub lines_open : (old now : Record H) (sigils : Sigils) (text : List ℕ) (line : List Piece) (lines : List (List Piece)) → LeadsRead sigils text (left_after skips line lines) old now → goes_on_below line ≡ true → LeadsLines true sigils text lines old now
@@ -185,24 +211,25 @@ module _ (c : Configuration) (scene : Scene) (name : List ℕ) (recipe : RecipeR
     pub lines_cut_off : (old now : Record H) (sigils : Sigils) (text : List ℕ) (lines : List (List Piece)) → LeadsLines true sigils text lines old now → lines ≡ [] → LeadsWhole sigils text [] old now
     lines_cut_off old now sigils text lines h e = whole_text old now sigils text [] (subst (λ l. LeadsLines true sigils text l old now) e h)
 
-    module _ (old mid new : Record H) (sigils : Sigils) (text : List ℕ) (lines : List (List Piece)) (h : LeadsWhole sigils text lines old mid) (open_before : WasOpen mid new) where
+    module _ (old mid new : Record H) (sigils : Sigils) (text : List ℕ) (lines : List (List Piece)) (h : LeadsWhole sigils text lines old mid) (stays : Stays mid new) where
       abbrev Runs : Result Next Failure → Type 0
       Runs next = Performs reading (running c scene name recipe flag bound sigils (drop (sigil_count sigils) text)) mid new next
 
       -- a command after which the body goes on
       pub lines_more : (after : Sigils) (so_far : List ℕ) → Runs (Ok goes_on) → LeadsLines false after so_far lines old new
-      lines_more after so_far g = record {
-        on = λ still last r d. h.on (open_before still) last r (leads_then reading _ _ mid.entries new.entries last goes_on r (g.goes still (λ q. cc)) d);
-      }
+      lines_more after so_far g =
+          leads_more reading (all_lines skips body) (Then sigils text (Others (commands skips lines))) (Others (commands skips lines)) old mid new h stays
+          (λ still last r d. leads_then reading _ _ mid.entries new.entries last goes_on r (g.goes still (λ q. cc)) d)
+          (task_begins_first reading (running c scene name recipe flag bound sigils (drop (sigil_count sigils) text)) (and_others c scene name recipe flag bound (Others (commands skips lines))) mid.entries new.entries g.begins)
 
       -- a command that ends the body with success
       pub lines_ended : Runs (Ok stops) → Performs reading (all_lines skips body) old new (Ok tt)
-      lines_ended g = leads_end reading (all_lines skips body) _ old mid new (Ok tt) h open_before (performs_then reading _ _ mid new new stops (Ok tt) g (λ still. still) (performs_ends reading new (Ok tt)))
+      lines_ended g = leads_end reading (all_lines skips body) _ old mid new (Ok tt) h stays (performs_then reading _ _ mid new new stops (Ok tt) g (λ full. refl) (performs_ends reading new (Ok tt)))
 
       -- a command that fails
       pub lines_failed : (f : Failure) → Runs (Err f) → Performs reading (all_lines skips body) old new (Err f)
-      lines_failed f g = leads_end reading (all_lines skips body) _ old mid new (Err f) h open_before (performs_stops reading _ _ mid new f g)
+      lines_failed f g = leads_end reading (all_lines skips body) _ old mid new (Err f) h stays (performs_stops reading _ _ mid new f g)
 
     -- no line is left, and no command is open
     pub lines_end : (old now : Record H) (sigils : Sigils) (so_far : List ℕ) (lines : List (List Piece)) → LeadsLines false sigils so_far lines old now → lines ≡ [] → Performs reading (all_lines skips body) old now (Ok tt)
-    lines_end old now sigils so_far lines h e = leads_end reading (all_lines skips body) _ old now now (Ok tt) (subst (λ l. LeadsLines false sigils so_far l old now) e h) (λ still. still) (performs_ends reading now (Ok tt))
+    lines_end old now sigils so_far lines h e = leads_end reading (all_lines skips body) _ old now now (Ok tt) (subst (λ l. LeadsLines false sigils so_far l old now) e h) (λ full. refl) (performs_ends reading now (Ok tt))

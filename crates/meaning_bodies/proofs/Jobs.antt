@@ -16,7 +16,7 @@ use Rattle.meaning_calls.specs.Named.{RecipeRow}
 use Rattle.meaning_calls.specs.Scopes.{Configuration, Scene}
 use Rattle.meaning_calls.specs.Bodies.{line_job, shows_line}
 use Rattle.meaning_calls.specs.Calling.{handing, running, shown_if}
-use Rattle.meaning_bodies.specs.Performing.{Performs, WasOpen}
+use Rattle.meaning_bodies.specs.Performing.{Performs, Stays}
 use Rattle.meaning_bodies.specs.Left.{failed_with}
 use Rattle.meaning_bodies.proofs.Performing.{performs_ends, performs_handed, shown_first, not_shown}
 
@@ -76,9 +76,9 @@ module _ {H : Type 0} (c : Configuration) (scene : Scene) (name : List ℕ) (rec
   runs_as sigils (b ∷ bs) n = refl
 
   -- a command that is to be shown is shown, and then handed over
-  pub runs_shown : (sigils : Sigils) (command : List ℕ) (old mid new : Record H) (next : Result Next Failure) → command ≢ [] → shows_line c scene name recipe flag bound sigils ≡ true → Follows goes old (Show command ∷ []) mid → WasOpen mid new
+  pub runs_shown : (sigils : Sigils) (command : List ℕ) (old mid new : Record H) (next : Result Next Failure) → command ≢ [] → shows_line c scene name recipe flag bound sigils ≡ true → Follows goes old (Show command ∷ []) mid → Stays mid new
       → Performs reading (handing c scene name recipe flag bound c.dry_run sigils command) mid new next → Performs reading (running c scene name recipe flag bound sigils command) old new next
-  runs_shown sigils command old mid new next n e f open_before h = rw (runs_as sigils command n) (shown_first reading goes _ command _ old mid new next e f open_before h)
+  runs_shown sigils command old mid new next n e f stays h = rw (runs_as sigils command n) (shown_first reading goes _ command _ old mid new next e f stays h)
 
   -- a command that is not to be shown is handed over at once
   pub runs_hidden : (sigils : Sigils) (command : List ℕ) (old new : Record H) (next : Result Next Failure) → command ≢ [] → shows_line c scene name recipe flag bound sigils ≡ false

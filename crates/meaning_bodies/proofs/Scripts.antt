@@ -8,8 +8,8 @@ use Rattle.just_host.specs.Record.{Record}
 use Rattle.just_host.specs.Follows.{Follows}
 use Rattle.tree_attributes.specs.Settings.{InterpreterShape}
 use Rattle.tree_items.specs.Lines.{Piece, no_sigils}
-use Rattle.meaning_dialogues.specs.Faults.{Fault}
-use Rattle.meaning_dialogues.specs.Dialogue.{Dialogue, Ends, DialogueGoes, Evaluates, Reading}
+use Rattle.meaning_dialogues.specs.Faults.{Fault, memory}
+use Rattle.meaning_dialogues.specs.Dialogue.{Begins, Dialogue, Ends, DialogueGoes, Evaluates, Reading}
 use Rattle.meaning_dialogues.specs.Dialogue as dialogues
 use Rattle.meaning_dialogues.specs.Evaluation.{interpreter_dialogue}
 use Rattle.meaning_dialogues.proofs.Dialogues.{then_goes, then_stops}
@@ -22,8 +22,8 @@ use Rattle.meaning_calls.specs.Scopes.{Configuration, Scene, valued}
 use Rattle.meaning_calls.specs.Groups.{each}
 use Rattle.meaning_calls.specs.Bodies.{in_lines, script_job, line_text, script_texts, first_words, has_shebang, interpreter, shows_script}
 use Rattle.meaning_calls.specs.Calling.{without_next, script_handed, script_task}
-use Rattle.meaning_bodies.specs.Performing.{Performs, WasOpen, in_front, LeadsRow}
-use Rattle.meaning_bodies.proofs.Performing.{performs_then, performs_stops, performs_ends, performs_evaluated, performs_handed, open_followed, shown_first, not_shown}
+use Rattle.meaning_bodies.specs.Performing.{Performs, Stays, in_front, LeadsRow}
+use Rattle.meaning_bodies.proofs.Performing.{performs_then, performs_stops, performs_ends, performs_evaluated, performs_handed, shown_first, not_shown, stays_through}
 
 -- ---- one dialogue after another, all values in a list
 
@@ -49,6 +49,10 @@ module _ {A : Type 0} (reading : Reading) where
     pub row_first : (old : List Entry) → LeadsRow reading all all old old []
     row_first old = record { on = λ new r h. rw (front_none r) h }
 
+    -- what begins those that are left begins all
+    row_begins : (old mid new : List Entry) (values : List A) (rest : List (Dialogue A)) → LeadsRow reading all rest old mid values → Begins reading (each rest) mid new → Begins reading (each all) old new
+    row_begins old mid new values rest h b = record { rest = b.rest; result = in_front values b.result; goes = h.on (new ++ b.rest) b.result b.goes }
+
     -- one more value
     pub row_more : (old mid new : List Entry) (values : List A) (d : Dialogue A) (rest : List (Dialogue A)) (a : A) → LeadsRow reading all (d ∷ rest) old mid values → Evaluates reading d mid new (Ok a) → LeadsRow reading all rest old new (values ++ a ∷ [])
     row_more old mid new values d rest a h g = record {
@@ -59,13 +63,18 @@ module _ {A : Type 0} (reading : Reading) where
     pub row_stop : (old mid new : List Entry) (values : List A) (d : Dialogue A) (rest : List (Dialogue A)) (f : Fault) → LeadsRow reading all (d ∷ rest) old mid values → Evaluates reading d mid new (Err f) → Evaluates reading (each all) old new (Err f)
     row_stop old mid new values d rest f h g = record {
       goes = λ n. h.on new (Err f) (laws.stops reading d (λ a. dialogues.◌>>=◌ (each rest) (λ others. Ends (Ok (a ∷ others)))) mid new f (g.goes (λ q. n (cc))));
+      begins = row_begins old mid new values (d ∷ rest) h (laws.begins_first reading d (λ a. dialogues.◌>>=◌ (each rest) (λ others. Ends (Ok (a ∷ others)))) mid new g.begins);
     }
+
+    -- where memory ran out between two
+    pub row_memory : (old now : List Entry) (values : List A) (rest : List (Dialogue A)) → LeadsRow reading all rest old now values → Evaluates reading (each all) old now (Err memory)
+    row_memory old now values rest h = record { goes = λ n. absurd (n refl); begins = row_begins old now now values rest h (laws.begins_here reading (each rest) now) }
 
     -- none is left
     pub row_end : (old new : List Entry) (values : List A) (rest : List (Dialogue A)) → LeadsRow reading all rest old new values → rest ≡ [] → Evaluates reading (each all) old new (Ok values)
-    row_end old new values rest h e = record {
-      goes = λ n. rw (← append-nil values) (h.on new (Ok []) (rw e (refl, refl)));
-    }
+    row_end old new values rest h e =
+        let whole : DialogueGoes reading (each all) old new (Ok values) = rw (← append-nil values) (h.on new (Ok []) (rw e (refl, refl))) in
+        record { goes = λ n. whole; begins = laws.whole_begins reading (each all) old new (Ok values) whole }
 
 module _ (c : Configuration) (scene : Scene) (name : List ℕ) (recipe : RecipeRow) (flag : Bool) (bound : Bound) (reading : Reading) where
   -- ---- the texts of all lines
@@ -91,6 +100,10 @@ module _ (c : Configuration) (scene : Scene) (name : List ℕ) (recipe : RecipeR
   -- a line with a fault
   pub texts_stop : (old mid new : List Entry) (texts : List (List ℕ)) (line : List Piece) (lines : List (List Piece)) (f : Fault) → LeadsTexts (line ∷ lines) old mid texts → Evaluates reading (Text line) mid new (Err f) → Evaluates reading all_texts old new (Err f)
   texts_stop old mid new texts line lines f h g = row_stop reading (map Text recipe.body) old mid new texts (Text line) (map Text lines) f h g
+
+  -- where memory ran out between two lines
+  pub texts_memory : (old now : List Entry) (texts : List (List ℕ)) (lines : List (List Piece)) → LeadsTexts lines old now texts → Evaluates reading all_texts old now (Err memory)
+  texts_memory old now texts lines h = row_memory reading (map Text recipe.body) old now texts (map Text lines) h
 
   -- no line is left
   pub texts_end : (old new : List Entry) (texts : List (List ℕ)) (lines : List (List Piece)) → LeadsTexts lines old new texts → lines ≡ [] → Evaluates reading all_texts old new (Ok texts)
@@ -139,7 +152,7 @@ module _ {H : Type 0} (c : Configuration) (scene : Scene) (name : List ℕ) (rec
       → Follows goes mid (ScriptEntry job status ∷ []) new → without_next (next_by name no_sigils status) ≡ end → Performs reading (Handed dry texts) old new end
   script_given dry texts words job status old mid new end e h is f by =
       rw (e, ← by) (performs_then reading (lift (words_by c scene name recipe flag bound reading recipe.script texts)) (λ words. hands (script (script_job c scene name recipe flag bound words texts)) (λ status. ends (without_next (next_by name no_sigils status)))) old mid new words (without_next (next_by name no_sigils status))
-      (performs_evaluated reading _ old mid (Ok words) h) (open_followed goes mid new _ f)
+      (performs_evaluated reading _ old mid (Ok words) h) f.stays
       (performs_handed reading goes (script (script_job c scene name recipe flag bound words texts)) (λ status. without_next (next_by name no_sigils status)) mid new status (subst (λ j. Follows goes mid (ScriptEntry j status ∷ []) new) is f)))
 
   -- ---- the whole script
@@ -152,14 +165,14 @@ module _ {H : Type 0} (c : Configuration) (scene : Scene) (name : List ℕ) (rec
   script_stop old new f h = performs_stops reading _ _ old new (evaluation f) (performs_evaluated reading _ old new (Err f) h)
 
   -- all lines have texts, which are to be shown, and then handed over
-  pub script_shown : (old mid seen new : Record H) (texts : List (List ℕ)) (text : List ℕ) (end : Result (Unit {0}) Failure) → Evaluates reading (script_texts c scene name recipe flag bound) old.entries mid.entries (Ok texts) → WasOpen mid seen
-      → shows_script c scene name recipe flag bound ≡ true → text ≡ in_lines texts → Follows goes mid (Show text ∷ []) seen → WasOpen seen new → Performs reading (Handed c.dry_run texts) seen new end → Performs reading whole_script old new end
-  script_shown old mid seen new texts text end h open_first shows is f open_then g =
-      performs_then reading _ _ old mid new texts end (performs_evaluated reading _ old mid (Ok texts) h) (λ still. open_first (open_then still))
-      (shown_first reading goes _ (in_lines texts) _ mid seen new end shows (subst (λ t. Follows goes mid (Show t ∷ []) seen) is f) open_then g)
+  pub script_shown : (old mid seen new : Record H) (texts : List (List ℕ)) (text : List ℕ) (end : Result (Unit {0}) Failure) → Evaluates reading (script_texts c scene name recipe flag bound) old.entries mid.entries (Ok texts) → Stays mid seen
+      → shows_script c scene name recipe flag bound ≡ true → text ≡ in_lines texts → Follows goes mid (Show text ∷ []) seen → Stays seen new → Performs reading (Handed c.dry_run texts) seen new end → Performs reading whole_script old new end
+  script_shown old mid seen new texts text end h stays_first shows is f stays_then g =
+      performs_then reading _ _ old mid new texts end (performs_evaluated reading _ old mid (Ok texts) h) (stays_through mid seen new stays_first stays_then)
+      (shown_first reading goes _ (in_lines texts) _ mid seen new end shows (subst (λ t. Follows goes mid (Show t ∷ []) seen) is f) stays_then g)
 
   -- all lines have texts, which are not to be shown, but handed over
-  pub script_hidden : (old mid new : Record H) (texts : List (List ℕ)) (end : Result (Unit {0}) Failure) → Evaluates reading (script_texts c scene name recipe flag bound) old.entries mid.entries (Ok texts) → WasOpen mid new
+  pub script_hidden : (old mid new : Record H) (texts : List (List ℕ)) (end : Result (Unit {0}) Failure) → Evaluates reading (script_texts c scene name recipe flag bound) old.entries mid.entries (Ok texts) → Stays mid new
       → shows_script c scene name recipe flag bound ≡ false → Performs reading (Handed c.dry_run texts) mid new end → Performs reading whole_script old new end
-  script_hidden old mid new texts end h open_before hides g =
-      performs_then reading _ _ old mid new texts end (performs_evaluated reading _ old mid (Ok texts) h) open_before (not_shown reading _ (in_lines texts) _ mid new end hides g)
+  script_hidden old mid new texts end h stays hides g =
+      performs_then reading _ _ old mid new texts end (performs_evaluated reading _ old mid (Ok texts) h) stays (not_shown reading _ (in_lines texts) _ mid new end hides g)

@@ -1,5 +1,5 @@
 -- Where one dialogue leads another one leads: by other readings, one after the other, and in a row.
-use Rattle.std.proofs.Common.{◌≡◌, List, [], ◌∷◌, Option, Some, None, Result, Ok, Err, refl, sym, subst, MatchResult}
+use Rattle.std.proofs.Common.{◌≡◌, List, [], ◌∷◌, ◌++◌, Option, Some, None, Result, Ok, Err, refl, sym, subst, MatchResult}
 use Rattle.just_host.specs.declared.entry.Entry.{Entry}
 use Rattle.meaning_dialogues.specs.Faults.{Fault}
 use Rattle.meaning_dialogues.specs.Dialogue.{Dialogue, Ends, Asks, Reads, ◌>>=◌, DialogueGoes, Evaluates, Reading, Lookup, around, in_module, Variable}
@@ -79,6 +79,9 @@ module _ (first second : Reading) where
   row_goes_as [] (e ∷ es) h = absurd h
   row_goes_as (d ∷ ds) [] h = absurd h
 
-  -- where memory suffices
+  -- where the first is evaluated, so is the second
   pub evaluates_as : {A : Type 0} (t u : Dialogue A) (old new : List Entry) (r : Result A Fault) → GoesAs t u → Evaluates first t old new r → Evaluates second u old new r
-  evaluates_as t u old new r as' h = record { goes = λ enough. as' old new r (h.goes enough) }
+  evaluates_as t u old new r as' h = record {
+    goes = λ enough. as' old new r (h.goes enough);
+    begins = record { rest = h.begins.rest; result = h.begins.result; goes = as' old (new ++ h.begins.rest) h.begins.result h.begins.goes };
+  }

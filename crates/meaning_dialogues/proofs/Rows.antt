@@ -6,12 +6,12 @@ use Rattle.just_host.specs.declared.entry.Entry.{Entry}
 use Rattle.tree_expressions.specs.declared.expression.Expression.{Expression}
 use Rattle.tree_expressions.specs.declared.string_literal.StringLiteral.{StringLiteral}
 use Rattle.just_value.specs.Values.{joined}
-use Rattle.meaning_dialogues.specs.Faults.{Fault}
+use Rattle.meaning_dialogues.specs.Faults.{Fault, memory}
 use Rattle.meaning_dialogues.specs.Terms.{term_of, terms_of, holes_of, listing}
-use Rattle.meaning_dialogues.specs.Dialogue.{Dialogue, Ends, ◌>>=◌, DialogueGoes, Evaluates, Reading}
+use Rattle.meaning_dialogues.specs.Dialogue.{Dialogue, Ends, ◌>>=◌, Begins, DialogueGoes, Evaluates, Reading}
 use Rattle.meaning_dialogues.specs.Evaluation.{Value, Stage, row, dialogue, dialogues, filled}
 use Rattle.meaning_dialogues.specs.Calls.{arguments, as_argument}
-use Rattle.meaning_dialogues.proofs.Dialogues.{goes_on, stops, then_goes, then_stops, ends}
+use Rattle.meaning_dialogues.proofs.Dialogues.{goes_on, stops, begins_here, begins_first, begins_on, whole_begins, then_goes, then_stops, ends}
 
 -- values in front
 abbrev pub after : List Value → Result (List Value) Fault → Result (List Value) Fault
@@ -50,6 +50,20 @@ module _ (reading : Reading) where
   one_first d ds mid new last v (Err e) h g =
       goes_on reading d _ mid new last v (Err e) h (stops reading (row ds) _ new last e g)
 
+  -- what begins the rest begins all
+  pub leads_begins : (all rest : Dialogue (List Value)) (old mid new : List Entry) (values : List Value) → Leads reading all rest old mid values → Begins reading rest mid new → Begins reading all old new
+  leads_begins all rest old mid new values c b = record { rest = b.rest; result = after values b.result; goes = c.on (new ++ b.rest) b.result b.goes }
+
+  pub fills_begins : (all rest : Dialogue (List ℕ)) (old mid new : List Entry) → Fills reading all rest old mid → Begins reading rest mid new → Begins reading all old new
+  fills_begins all rest old mid new c b = record { rest = b.rest; result = b.result; goes = c.on (new ++ b.rest) b.result b.goes }
+
+  -- memory ran out before the rest
+  pub leads_memory : (all rest : Dialogue (List Value)) (old now : List Entry) (values : List Value) → Leads reading all rest old now values → Evaluates reading all old now (Err memory)
+  leads_memory all rest old now values c = record { goes = λ n. absurd (n refl); begins = leads_begins all rest old now now values c (begins_here reading rest now) }
+
+  pub fills_memory : (all rest : Dialogue (List ℕ)) (old now : List Entry) → Fills reading all rest old now → Evaluates reading all old now (Err memory)
+  fills_memory all rest old now c = record { goes = λ n. absurd (n refl); begins = fills_begins all rest old now now c (begins_here reading rest now) }
+
   pub leads_first : (all : Dialogue (List Value)) (old : List Entry) → Leads reading all all old old []
   leads_first all old = record { on = λ new r h. rw (← after_none r) h }
 
@@ -66,12 +80,14 @@ module _ (reading : Reading) where
     goes = λ n.
         let here = stops reading (dialogue stage (term_of x)) (λ value. row (dialogues stage (terms_of (drop (i + 1) es))) >>= λ values. Ends (Ok (value ∷ values))) mid new f (g.goes (λ q. n (cc))) in
         c.on new (Err f) (rw (at_place es i x h e) here);
+    begins = leads_begins all (row (dialogues stage (terms_of (drop i es)))) old mid new values c
+        (rw (at_place es i x h e) (begins_first reading (dialogue stage (term_of x)) (λ value. row (dialogues stage (terms_of (drop (i + 1) es))) >>= λ values. Ends (Ok (value ∷ values))) mid new g.begins));
   }
 
   pub leads_end : (all : Dialogue (List Value)) (stage : Stage) (es : List Expression) (old new : List Entry) (values : List Value) (i : ℕ) → Leads reading all (row (dialogues stage (terms_of (drop i es)))) old new values → length es ≤ i → Evaluates reading all old new (Ok values)
-  leads_end all stage es old new values i c h = record {
-    goes = λ n. rw (← append-nil values) (c.on new (Ok []) (rw (drop_all i es h) (refl, refl)));
-  }
+  leads_end all stage es old new values i c h =
+      let whole : DialogueGoes reading all old new (Ok values) = rw (← append-nil values) (c.on new (Ok []) (rw (drop_all i es h) (refl, refl))) in
+      record { goes = λ n. whole; begins = whole_begins reading all old new (Ok values) whole }
 
   -- a format string
   pub fills_first : (all : Dialogue (List ℕ)) (old : List Entry) → Fills reading all all old old
@@ -89,12 +105,14 @@ module _ (reading : Reading) where
     goes = λ n.
         let here = stops reading (dialogue stage (term_of x.0)) (λ value. filled stage (so_far ++ (joined value ++ x.1.cooked)) (holes_of (drop (i + 1) es))) mid new f (g.goes (λ q. n (cc))) in
         c.on new (Err f) (rw (at_place es i x h e) here);
+    begins = fills_begins all (filled stage so_far (holes_of (drop i es))) old mid new c
+        (rw (at_place es i x h e) (begins_first reading (dialogue stage (term_of x.0)) (λ value. filled stage (so_far ++ (joined value ++ x.1.cooked)) (holes_of (drop (i + 1) es))) mid new g.begins));
   }
 
   pub fills_end : (all : Dialogue (List ℕ)) (stage : Stage) (es : List (Expression × StringLiteral)) (old new : List Entry) (so_far : List ℕ) (i : ℕ) → Fills reading all (filled stage so_far (holes_of (drop i es))) old new → length es ≤ i → Evaluates reading all old new (Ok so_far)
-  fills_end all stage es old new so_far i c h = record {
-    goes = λ n. c.on new (Ok so_far) (rw (drop_all i es h) (refl, refl));
-  }
+  fills_end all stage es old new so_far i c h =
+      let whole : DialogueGoes reading all old new (Ok so_far) = c.on new (Ok so_far) (rw (drop_all i es h) (refl, refl)) in
+      record { goes = λ n. whole; begins = whole_begins reading all old new (Ok so_far) whole }
 
   -- arguments of a built-in function
   module _ (takes : ℕ → Bool) (name : List ℕ) where
@@ -119,20 +137,32 @@ module _ (reading : Reading) where
       goes = λ n.
           let here = stops reading (dialogue stage (term_of x)) (λ value. Ends (as_argument (takes (length values)) name value) >>= λ argument. arguments takes name (length values + 1) (dialogues stage (terms_of (drop (i + 1) es))) >>= λ values. Ends (Ok (argument ∷ values))) mid new f (g.goes (λ q. n (cc))) in
           c.on new (Err f) (rw (at_place es i x h e) here);
+      begins = leads_begins all (arguments takes name (length values) (dialogues stage (terms_of (drop i es)))) old mid new values c
+          (rw (at_place es i x h e) (begins_first reading (dialogue stage (term_of x)) (λ value. Ends (as_argument (takes (length values)) name value) >>= λ argument. arguments takes name (length values + 1) (dialogues stage (terms_of (drop (i + 1) es))) >>= λ values. Ends (Ok (argument ∷ values))) mid new g.begins));
     }
 
     pub arguments_refuse : (all : Dialogue (List Value)) (stage : Stage) (es : List Expression) (old mid new : List Entry) (values : List Value) (i : ℕ) (x : Expression) (v : Value) (f : Fault) → Leads reading all (arguments takes name (length values) (dialogues stage (terms_of (drop i es)))) old mid values → i < length es → x ≡ get_or es i x → Evaluates reading (dialogue stage (term_of x)) mid new (Ok v) → Err f ≡ as_argument (takes (length values)) name v → Evaluates reading all old new (Err f)
-    arguments_refuse all stage es old mid new values i x v f c h e g is = record {
-      goes = λ n.
-          let here : DialogueGoes reading (arguments takes name (length values) (dialogue stage (term_of x) ∷ dialogues stage (terms_of (drop (i + 1) es)))) mid new (Err f)
-          = goes_on reading (dialogue stage (term_of x)) _ mid new new v (Err f) (g.goes (λ q. cc)) (rw (← is) (refl, refl)) in
-          c.on new (Err f) (rw (at_place es i x h e) here);
-    }
+    arguments_refuse all stage es old mid new values i x v f c h e g is =
+        let here : DialogueGoes reading (arguments takes name (length values) (dialogue stage (term_of x) ∷ dialogues stage (terms_of (drop (i + 1) es)))) mid new (Err f)
+        = goes_on reading (dialogue stage (term_of x)) _ mid new new v (Err f) (g.goes (λ q. cc)) (rw (← is) (refl, refl)) in
+        let whole : DialogueGoes reading all old new (Err f) = c.on new (Err f) (rw (at_place es i x h e) here) in
+        record { goes = λ n. whole; begins = whole_begins reading all old new (Err f) whole }
+
+    -- what was evaluated behind an argument begins all, whatever becomes of the argument
+    pub arguments_begin : (all : Dialogue (List Value)) (stage : Stage) (es : List Expression) (old mid new : List Entry) (values : List Value) (i : ℕ) (x : Expression) (v : Value) → Leads reading all (arguments takes name (length values) (dialogues stage (terms_of (drop i es)))) old mid values → i < length es → x ≡ get_or es i x → Evaluates reading (dialogue stage (term_of x)) mid new (Ok v) → Begins reading all old new
+    arguments_begin all stage es old mid new values i x v c h e g =
+        let more : Value → Dialogue (List Value) = λ value. Ends (as_argument (takes (length values)) name value) >>= λ argument. arguments takes name (length values + 1) (dialogues stage (terms_of (drop (i + 1) es))) >>= λ values. Ends (Ok (argument ∷ values)) in
+        leads_begins all (arguments takes name (length values) (dialogues stage (terms_of (drop i es)))) old mid new values c
+        (rw (at_place es i x h e) (begins_on reading (dialogue stage (term_of x)) more mid new new v (g.goes (λ q. cc)) (begins_here reading (more v) new)))
+
+    -- memory ran out behind an argument
+    pub arguments_memory : (all : Dialogue (List Value)) (stage : Stage) (es : List Expression) (old mid new : List Entry) (values : List Value) (i : ℕ) (x : Expression) (v : Value) → Leads reading all (arguments takes name (length values) (dialogues stage (terms_of (drop i es)))) old mid values → i < length es → x ≡ get_or es i x → Evaluates reading (dialogue stage (term_of x)) mid new (Ok v) → Evaluates reading all old new (Err memory)
+    arguments_memory all stage es old mid new values i x v c h e g = record { goes = λ n. absurd (n refl); begins = arguments_begin all stage es old mid new values i x v c h e g }
 
     pub arguments_end : (all : Dialogue (List Value)) (stage : Stage) (es : List Expression) (old new : List Entry) (values : List Value) (i : ℕ) → Leads reading all (arguments takes name (length values) (dialogues stage (terms_of (drop i es)))) old new values → length es ≤ i → Evaluates reading all old new (Ok values)
-    arguments_end all stage es old new values i c h = record {
-      goes = λ n. rw (← append-nil values) (c.on new (Ok []) (rw (drop_all i es h) (refl, refl)));
-    }
+    arguments_end all stage es old new values i c h =
+        let whole : DialogueGoes reading all old new (Ok values) = rw (← append-nil values) (c.on new (Ok []) (rw (drop_all i es h) (refl, refl))) in
+        record { goes = λ n. whole; begins = whole_begins reading all old new (Ok values) whole }
 
   -- a list
   flat_more : (values : List Value) (v : Value) → flat_map (λ w. w) (values ++ v ∷ []) ≡ flat_map (λ w. w) values ++ v
@@ -152,6 +182,10 @@ module _ (reading : Reading) where
   pub lists_stop : (stage : Stage) (es : List Expression) (old mid new : List Entry) (list : Value) (i : ℕ) (x : Expression) (f : Fault) → Lists reading (row (dialogues stage (terms_of es))) (row (dialogues stage (terms_of (drop i es)))) old mid list → i < length es → x ≡ get_or es i x → Evaluates reading (dialogue stage (term_of x)) mid new (Err f) → Evaluates reading (dialogue stage (listing (terms_of es))) old new (Err f)
   lists_stop stage es old mid new list i x f c h e g =
       then_stops _ _ (leads_stop (row (dialogues stage (terms_of es))) stage es old mid new c.values i x f c.leads h e g)
+
+  -- memory ran out before the rest
+  pub lists_memory : (stage : Stage) (es : List Expression) (old now : List Entry) (list : Value) (i : ℕ) → Lists reading (row (dialogues stage (terms_of es))) (row (dialogues stage (terms_of (drop i es)))) old now list → Evaluates reading (dialogue stage (listing (terms_of es))) old now (Err memory)
+  lists_memory stage es old now list i c = then_stops _ _ (leads_memory (row (dialogues stage (terms_of es))) (row (dialogues stage (terms_of (drop i es)))) old now c.values c.leads)
 
   pub lists_end : (stage : Stage) (es : List Expression) (old new : List Entry) (list : Value) (i : ℕ) → Lists reading (row (dialogues stage (terms_of es))) (row (dialogues stage (terms_of (drop i es)))) old new list → length es ≤ i → Evaluates reading (dialogue stage (listing (terms_of es))) old new (Ok list)
   lists_end stage es old new list i c h =

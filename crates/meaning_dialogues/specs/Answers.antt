@@ -39,6 +39,11 @@ pub record IsAnswered {A : Type 0} (question : Question) (tells : Answer → A) 
   pub entries : new ≡ old ++ Asked question answer ∷ []
   pub is : told ≡ tells answer
 
+-- a question was asked, or memory ran out before it
+pub data MayAsk (question : Question) (old new : List Entry) : Type 0 where
+  not_asked : new ≡ old → MayAsk question old new
+  asked : (answer : Answer) → new ≡ old ++ Asked question answer ∷ [] → MayAsk question old new
+
 -- a text without one line end at its end
 abbrev pub without_line_end : List ℕ → List ℕ
 without_line_end text = if ends text (codes "\r\n") then without_back (codes "\r\n") text else without_back (codes "\n") text

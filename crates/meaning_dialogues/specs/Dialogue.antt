@@ -44,6 +44,13 @@ DialogueGoes reading (Asks question next) old new result =
 DialogueGoes reading (Reads place variable next) old new result =
     MatchResult (reading place variable) (λ value. DialogueGoes reading (next value) old new result) (λ fault. (new ≡ old) × (result ≡ Err fault))
 
--- an evaluation by a dialogue: where memory suffices it leads from the old record to the new one and to the result
+-- what was recorded is the beginning of what the dialogue records: behind it the dialogue can go on to an end
+pub record Begins {A : Type 0} (reading : Reading) (dialogue : Dialogue A) (old new : List Entry) : Type 0 where
+  pub rest : List Entry
+  pub result : Result A Fault
+  pub goes : DialogueGoes reading dialogue old (new ++ rest) result
+
+-- an evaluation by a dialogue: where memory suffices it leads from the old record to the new one and to the result; however it ends, what was recorded is the beginning of what the dialogue records
 pub record Evaluates {A : Type 0} (reading : Reading) (dialogue : Dialogue A) (old new : List Entry) (result : Result A Fault) : Type 0 where
   pub goes : result ≢ Err memory → DialogueGoes reading dialogue old new result
+  pub begins : Begins reading dialogue old new

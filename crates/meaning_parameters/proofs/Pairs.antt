@@ -9,12 +9,12 @@ use Rattle.tree_attributes.specs.declared.attribute.Attribute.TheVariants.{Env}
 use Rattle.tree_expressions.specs.declared.expression.Expression.{Expression}
 use Rattle.tree_attribute_sets.specs.declared.attribute_item.AttributeItem.{AttributeItem}
 use Rattle.just_value.specs.Values.{joined}
-use Rattle.meaning_dialogues.specs.Faults.{Fault, env_key}
-use Rattle.meaning_dialogues.specs.Dialogue.{Dialogue, Ends, Asks, Reads, ◌>>=◌, DialogueGoes, Evaluates, Reading}
+use Rattle.meaning_dialogues.specs.Faults.{Fault, env_key, memory}
+use Rattle.meaning_dialogues.specs.Dialogue.{Dialogue, Ends, Asks, Reads, ◌>>=◌, Begins, DialogueGoes, Evaluates, Reading}
 use Rattle.meaning_dialogues.specs.Terms.{Term, term_of}
 use Rattle.meaning_dialogues.specs.Evaluation.{Value, Stage, dialogue, text_dialogue}
 use Rattle.meaning_stages.specs.Parameters.{pair_of, env_dialogue}
-use Rattle.meaning_dialogues.proofs.Dialogues.{weaker, goes_on, stops, then_goes, then_stops, ends}
+use Rattle.meaning_dialogues.proofs.Dialogues.{weaker, goes_on, stops, begins_first, whole_begins, then_goes, then_stops, ends, not_begun}
 use Rattle.meaning_parameters.specs.Bindings.{env_term, env_terms, pair_dialogue, attribute_dialogue}
 
 -- whatever the attributes that are left give after these pairs, all attributes give
@@ -43,6 +43,10 @@ module _ (reading : Reading) where
   -- the value has a fault
   pub pair_value_stops : (stage : Stage) (key value : Term) (old mid new : List Entry) (name : List ℕ) (f : Fault) → Evaluates reading (text_dialogue env_key (dialogue stage key)) old mid (Ok name) → Evaluates reading (dialogue stage value) mid new (Err f) → Evaluates reading (pair_dialogue stage key value) old new (Err f)
   pair_value_stops stage key value old mid new name f h g = then_goes _ _ h (then_stops _ _ g)
+
+  -- memory ran out behind the value
+  pub pair_memory : (stage : Stage) (key value : Term) (old mid new : List Entry) (name : List ℕ) (v : Value) → Evaluates reading (text_dialogue env_key (dialogue stage key)) old mid (Ok name) → Evaluates reading (dialogue stage value) mid new (Ok v) → Evaluates reading (pair_dialogue stage key value) old new (Err memory)
+  pair_memory stage key value old mid new name v h g = then_goes _ _ h (then_goes _ _ g (not_begun _ new))
 
   -- the value has no element
   pub pair_none : (stage : Stage) (key value : Term) (old mid new : List Entry) (name : List ℕ) (v : Value) → Evaluates reading (text_dialogue env_key (dialogue stage key)) old mid (Ok name) → Evaluates reading (dialogue stage value) mid new (Ok v) → v ≡ [] → Evaluates reading (pair_dialogue stage key value) old new (Ok [])
@@ -89,9 +93,9 @@ module _ (reading : Reading) where
 
       -- no attribute is left
       pub pairs_end : (old new : List Entry) (pairs : List Pair) (rest : List AttributeItem) → LeadsPairs reading stage_with items rest old new pairs → rest ≡ [] → Evaluates reading all_pairs old new (Ok pairs)
-      pairs_end old new pairs rest c over = record {
-        goes = λ n. c.on new (Ok pairs) (rw over (refl, refl));
-      }
+      pairs_end old new pairs rest c over =
+          let whole : DialogueGoes reading all_pairs old new (Ok pairs) = c.on new (Ok pairs) (rw over (refl, refl)) in
+          record { goes = λ n. whole; begins = whole_begins reading all_pairs old new (Ok pairs) whole }
 
       module _ (old mid new : List Entry) (pairs : List Pair) (rest : List AttributeItem) (c : LeadsPairs reading stage_with items rest old mid pairs) (x : AttributeItem) (others : List AttributeItem) (is : rest ≡ x ∷ others) where
         abbrev here : Dialogue (List Pair)
@@ -102,6 +106,12 @@ module _ (reading : Reading) where
 
         leads : (last : List Entry) (r : Result (List Pair) Fault) → DialogueGoes reading (here >>= following) mid last r → DialogueGoes reading all_pairs old last r
         leads last r h = c.on last r (rw is (attribute_then (env_term x.attribute) (env_terms others) pairs mid last r h))
+
+        -- what begins the attribute begins all of them
+        pairs_begin : Begins reading here mid new → Begins reading all_pairs old new
+        pairs_begin b =
+            let next = begins_first reading here following mid new b in
+            record { rest = next.rest; result = next.result; goes = leads (new ++ next.rest) next.result next.goes }
 
         pairs_on : (more : List Pair) → Evaluates reading here mid new (Ok more) → LeadsPairs reading stage_with items others old new (pairs ++ more)
         pairs_on more g = record { on = λ last r d. leads last r (goes_on reading here following mid new last more r (g.goes (λ q. cc)) d) }
@@ -116,4 +126,8 @@ module _ (reading : Reading) where
 
         -- an attribute with a fault
         pub pairs_stop : (f : Fault) → Evaluates reading here mid new (Err f) → Evaluates reading all_pairs old new (Err f)
-        pairs_stop f g = record { goes = λ n. leads new (Err f) (stops reading here following mid new f (g.goes (λ q. n (cc)))) }
+        pairs_stop f g = record { goes = λ n. leads new (Err f) (stops reading here following mid new f (g.goes (λ q. n (cc)))); begins = pairs_begin g.begins }
+
+        -- memory ran out behind an attribute
+        pub pairs_memory : (r : Result (List Pair) Fault) → Evaluates reading here mid new r → Evaluates reading all_pairs old new (Err memory)
+        pairs_memory r g = record { goes = λ n. absurd (n refl); begins = pairs_begin g.begins }

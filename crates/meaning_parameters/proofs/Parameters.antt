@@ -1,9 +1,9 @@
 -- The loop over parameters: the values of those before are bound in the innermost frame, and their words are put in order.
-use Rattle.std.proofs.Common.{◌≡◌, ◌⊎◌, inl, inr, ℕ, ◌+◌, ◌<◌, Bool, true, false, if◌then◌else◌, List, [], ◌∷◌, ◌++◌, length, get_or, drop, map, Ok, Err, ap}
+use Rattle.std.proofs.Common.{◌≡◌, ◌⊎◌, inl, inr, ℕ, ◌+◌, ◌<◌, Bool, true, false, if◌then◌else◌, List, [], ◌∷◌, ◌++◌, length, get_or, drop, map, Result, Ok, Err, ap}
 use Rattle.just_host.specs.declared.entry.Entry.{Entry}
 use Rattle.just_value.specs.Frames.{BoundRow, Frames, Rebinds}
 use Rattle.tree_items.specs.declared.recipe.Parameter.{Parameter}
-use Rattle.meaning_dialogues.specs.Faults.{Fault, value_count}
+use Rattle.meaning_dialogues.specs.Faults.{Fault, memory, value_count}
 use Rattle.meaning_dialogues.specs.Dialogue.{Evaluates}
 use Rattle.meaning_dialogues.specs.Evaluation.{Value, Stage}
 use Rattle.meaning_dialogues.specs.Calls.{HasValues, empty}
@@ -11,7 +11,7 @@ use Rattle.meaning_stages.specs.Parameters.{Formal, formal_of, bound_value, posi
 use Rattle.meaning_parameters.specs.Bindings.{GivesParameters, HasParameters, frame_after, run_reading}
 use Rattle.meaning_parameters.proofs.Frames.{at_place, has_more, has_none, place_from}
 use Rattle.meaning_parameters.proofs.Under.{under_goes}
-use Rattle.meaning_parameters.proofs.Values.{LeadsParameters, parameters_first, parameters_more, parameters_stop, parameters_refused, parameters_end}
+use Rattle.meaning_parameters.proofs.Values.{LeadsParameters, parameters_first, parameters_memory, parameters_more, parameters_stop, parameters_refused, parameters_end}
 
 -- of parameters as their dialogue has them, what is left from a place on begins with the one there
 pub formals_at : (parameters : List Parameter) (i : ℕ) (x : Parameter) → i < length parameters → x ≡ get_or parameters i x → map formal_of (drop i parameters) ≡ formal_of x ∷ map formal_of (drop (i + 1) parameters)
@@ -69,6 +69,12 @@ module _ (here there : Frames) (stage : Stage) (is_dependency : Bool) (recipe : 
     binds_stop f g =
         let given = under_goes here inner there (frame_after lists formals h.values) none h.is.has lies (parameter_dialogue stage is_dependency recipe x group) mid new (Err f) g in
         parameters_stop (run_reading here there) stage is_dependency recipe check lists formals groups old mid new h.values x after group others f leads given
+
+    -- memory ran out behind a parameter's value
+    pub binds_memory : (r : Result Value Fault) → Evaluates (run_reading inner there) (parameter_dialogue stage is_dependency recipe x group) mid new r → Evaluates (run_reading here there) (values_dialogue stage is_dependency recipe check lists empty formals groups) old new (Err memory)
+    binds_memory r g =
+        let given = under_goes here inner there (frame_after lists formals h.values) none h.is.has lies (parameter_dialogue stage is_dependency recipe x group) mid new r g in
+        parameters_memory (run_reading here there) stage is_dependency recipe check lists formals groups old mid new h.values x after group others r leads given
 
     -- a parameter's value that the check refuses
     pub binds_refused : (v : Value) → Evaluates (run_reading inner there) (parameter_dialogue stage is_dependency recipe x group) mid new (Ok v) → check x (length v) ≡ false

@@ -1,10 +1,10 @@
 -- A dialogue in frames, of which the innermost one is read first.
-use Rattle.std.proofs.Common.{◌≡◌, ℕ, List, Option, Some, None, Result, Ok, Err, refl, sym, ap, ◌∙◌, subst, MatchResult}
+use Rattle.std.proofs.Common.{◌≡◌, ℕ, List, ◌++◌, Option, Some, None, Result, Ok, Err, refl, sym, ap, ◌∙◌, subst, MatchResult}
 use Rattle.std.specs.Option.{option_map, option_or}
 use Rattle.just_host.specs.declared.entry.Entry.{Entry}
 use Rattle.just_value.specs.Frames.{BoundRow, Frames, bound_in, found_in}
 use Rattle.meaning_dialogues.specs.Faults.{Fault}
-use Rattle.meaning_dialogues.specs.Dialogue.{Dialogue, Ends, Asks, Reads, DialogueGoes, Evaluates, around, in_module, Variable}
+use Rattle.meaning_dialogues.specs.Dialogue.{Dialogue, Ends, Asks, Reads, Begins, DialogueGoes, Evaluates, around, in_module, Variable}
 use Rattle.meaning_dialogues.specs.Evaluation.{Value}
 use Rattle.meaning_dialogues.specs.Calls.{Frame, HasValues, empty, in_frame, value_found}
 use Rattle.meaning_stages.specs.Parameters.{or_around, under}
@@ -50,6 +50,10 @@ module _ (here inner there : Frames) (frame : Frame) (none : HasValues here.own 
   goes_under (Reads in_module x next) old new r h =
       weaker (run_reading here there in_module x) (λ v g. goes_under (next v) old new r g) (λ fault p. p) h
 
+  -- the same of a beginning
+  under_begins : {A : Type 0} (t : Dialogue A) (old new : List Entry) → Begins (run_reading inner there) t old new → Begins (run_reading here there) (under frame t) old new
+  under_begins t old new b = record { rest = b.rest; result = b.result; goes = goes_under t old (new ++ b.rest) b.result b.goes }
+
   -- the same of an evaluation
   pub under_goes : {A : Type 0} (t : Dialogue A) (old new : List Entry) (r : Result A Fault) → Evaluates (run_reading inner there) t old new r → Evaluates (run_reading here there) (under frame t) old new r
-  under_goes t old new r h = record { goes = λ n. goes_under t old new r (h.goes n) }
+  under_goes t old new r h = record { goes = λ n. goes_under t old new r (h.goes n); begins = under_begins t old new h.begins }

@@ -1,13 +1,13 @@
 -- The values of parameters, one after another.
 use Rattle.std.proofs.Common.{◌≡◌, ◌⊎◌, inl, inr, ℕ, Bool, true, false, List, [], ◌∷◌, ◌++◌, length, drop, map, Result, Ok, Err, refl, sym, ap, append_assoc, append-nil, add-one, length-append}
 use Rattle.just_host.specs.declared.entry.Entry.{Entry}
-use Rattle.meaning_dialogues.specs.Faults.{Fault, value_count}
-use Rattle.meaning_dialogues.specs.Dialogue.{Dialogue, Ends, ◌>>=◌, DialogueGoes, Evaluates, Reading}
+use Rattle.meaning_dialogues.specs.Faults.{Fault, memory, value_count}
+use Rattle.meaning_dialogues.specs.Dialogue.{Dialogue, Ends, ◌>>=◌, Begins, DialogueGoes, Evaluates, Reading}
 use Rattle.meaning_dialogues.specs.Evaluation.{Value, Stage}
 use Rattle.meaning_dialogues.specs.Calls.{Frame, bound, empty}
 use Rattle.meaning_stages.specs.Parameters.{Formal, under, bound_value, counted, parameter_dialogue, values_dialogue}
-use Rattle.meaning_dialogues.proofs.Dialogues.{goes_on, stops}
-use Rattle.meaning_dialogues.proofs.Rows.{after, Leads, leads_first}
+use Rattle.meaning_dialogues.proofs.Dialogues.{goes_on, stops, begins_first, whole_begins}
+use Rattle.meaning_dialogues.proofs.Rows.{after, Leads, leads_begins, leads_first}
 use Rattle.meaning_parameters.specs.Bindings.{frame_after}
 use Rattle.meaning_parameters.proofs.Frames.{frame_more, nothing_bound, place_from}
 
@@ -56,11 +56,27 @@ module _ (reading : Reading) (stage : Stage) (is_dependency : Bool) (recipe : Li
         };
       }
 
+  -- what begins a parameter begins all of them
+  parameters_begin : (old mid new : List Entry) (values : List Value) (x : Formal) (left : List Formal) (group : Value) (rest : List Value) → LeadsParameters (x ∷ left) (group ∷ rest) old mid values
+      → Begins reading (next_value values x group) mid new → Begins reading all_values old new
+  parameters_begin old mid new values x left group rest h b =
+      leads_begins reading all_values (values_dialogue stage is_dependency recipe check lists (frame_after lists formals values) (x ∷ left) (group ∷ rest)) old mid new values h.leads
+      (begins_first reading (next_value values x group) (with_given values x left rest) mid new b)
+
   -- a parameter with a fault
   pub parameters_stop : (old mid new : List Entry) (values : List Value) (x : Formal) (left : List Formal) (group : Value) (rest : List Value) (f : Fault) → LeadsParameters (x ∷ left) (group ∷ rest) old mid values
       → Evaluates reading (next_value values x group) mid new (Err f) → Evaluates reading all_values old new (Err f)
   parameters_stop old mid new values x left group rest f h g = record {
     goes = λ n. h.leads.on new (Err f) (stops reading (next_value values x group) (with_given values x left rest) mid new f (g.goes (λ q. n (cc))));
+    begins = parameters_begin old mid new values x left group rest h g.begins;
+  }
+
+  -- memory ran out behind a parameter's value
+  pub parameters_memory : (old mid new : List Entry) (values : List Value) (x : Formal) (left : List Formal) (group : Value) (rest : List Value) (r : Result Value Fault) → LeadsParameters (x ∷ left) (group ∷ rest) old mid values
+      → Evaluates reading (next_value values x group) mid new r → Evaluates reading all_values old new (Err memory)
+  parameters_memory old mid new values x left group rest r h g = record {
+    goes = λ n. absurd (n refl);
+    begins = parameters_begin old mid new values x left group rest h g.begins;
   }
 
   -- a parameter's value that the check refuses
@@ -71,6 +87,7 @@ module _ (reading : Reading) (stage : Stage) (is_dependency : Bool) (recipe : Li
         let f = value_count recipe x.name (length v) in
         let here : DialogueGoes reading (with_given values x left rest v) new new (Err f) = rw refused (refl, refl) in
         h.leads.on new (Err f) (goes_on reading (next_value values x group) (with_given values x left rest) mid new new v (Err f) (g.goes (λ q. cc)) here);
+    begins = parameters_begin old mid new values x left group rest h g.begins;
   }
 
   no_values : (frame : Frame) (left : List Formal) (rest : List Value) (now : List Entry) → (left ≡ []) ⊎ (rest ≡ []) → DialogueGoes reading (values_dialogue stage is_dependency recipe check lists frame left rest) now now (Ok [])
@@ -80,6 +97,6 @@ module _ (reading : Reading) (stage : Stage) (is_dependency : Bool) (recipe : Li
 
   -- no parameter is left, or no group
   pub parameters_end : (old new : List Entry) (values : List Value) (left : List Formal) (rest : List Value) → LeadsParameters left rest old new values → (left ≡ []) ⊎ (rest ≡ []) → Evaluates reading all_values old new (Ok values)
-  parameters_end old new values left rest h over = record {
-    goes = λ n. rw (← append-nil values) (h.leads.on new (Ok []) (no_values (frame_after lists formals values) left rest new over));
-  }
+  parameters_end old new values left rest h over =
+      let whole : DialogueGoes reading all_values old new (Ok values) = rw (← append-nil values) (h.leads.on new (Ok []) (no_values (frame_after lists formals values) left rest new over)) in
+      record { goes = λ n. whole; begins = whole_begins reading all_values old new (Ok values) whole }

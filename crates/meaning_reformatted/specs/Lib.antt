@@ -1,2 +1,1 @@
 pub mod Reformatted
-pub mod Plain

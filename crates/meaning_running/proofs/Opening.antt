@@ -16,6 +16,7 @@ pub mod Wanted
 pub mod Graphs
 pub mod Context
 pub mod Opens
+pub mod Begun
 pub mod All
 pub mod Ordering
 pub mod Functions

@@ -5,6 +5,8 @@ pub mod Values
 pub mod Jobs
 pub mod Opened
 pub mod Calls
+pub mod Begun
 pub mod Telling
 pub mod Commanding
 pub mod There
+pub mod BegunActions

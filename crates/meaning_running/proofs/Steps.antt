@@ -30,3 +30,7 @@ pub mod Confirming
 pub mod Beginning
 pub mod Alike
 pub mod Runs
+pub mod BegunBeginning
+pub mod BegunEnding
+pub mod BegunAlike
+pub mod BegunRuns

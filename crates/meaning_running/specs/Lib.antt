@@ -4,3 +4,4 @@ pub mod Entered
 pub mod Steps
 pub mod Told
 pub mod Running
+pub mod Begun

@@ -1,5 +1,5 @@
 -- Modules that open by places, and by names.
-use Rattle.std.specs.Prelude.{◌≡◌, ◌≢◌, ℕ, Bool, List, ◌∷◌, Some, Contains, map, length, slice_get, Result, Ok, Err}
+use Rattle.std.specs.Prelude.{◌≡◌, ℕ, Bool, List, ◌∷◌, Some, Contains, map, length, slice_get, Result, Ok, Err}
 use Rattle.std.specs.List.{All}
 use Rattle.std.specs.Option.{option_map}
 use Rattle.std.specs.String.{string_bytes}
@@ -28,12 +28,12 @@ use Rattle.run_tasks.specs.declared.task.Task.TheVariants as tasks
 use Rattle.run_tasks.specs.declared.task.TaskContext.{TaskContext}
 use Rattle.run_prepared.specs.Performed.{IsPreparedFor}
 use Rattle.run_prepared.specs.Wanted.{called_by}
-use Rattle.meaning_dialogues.specs.Faults.{memory}
-use Rattle.meaning_opening.specs.Requests.{OpeningFailure, opening}
+use Rattle.meaning_opening.specs.Requests.{OpeningFailure}
 use Rattle.meaning_worlds.specs.Given.{Text, World}
 use Rattle.meaning_overriding.specs.Texts.{overrides_of}
 use Rattle.meaning_calls.specs.Named.{Definitions, RecipeName, VariableName, paths_of}
 use Rattle.just_meaning.specs.Actions.{IsKept}
+use Rattle.just_meaning.specs.Begun.{AllBegin}
 use Rattle.just_meaning.specs.Opening.{Held, IsOpened, Opened, OpensAll}
 use Rattle.meaning_resolved.specs.Definitions.{definitions_of}
 use Rattle.meaning_settings.specs.Settled.{AllSettle}
@@ -69,6 +69,10 @@ module _ (w : World) (compilation : Compilation) (given : List Override) (base :
     abbrev pub OpensNamed : List Entry → List Entry → Result (List Opened) OpeningFailure → Type 0
     OpensNamed = OpensAll (configuration_of context.config.now context.root.now w.expansion) defined (OpensFor defined context.config.now.no_dependencies (name_at compilation analysis.table.value) task) (paths_of defined.modules)
 
+    -- what was recorded of the opening of modules is a beginning of it by names
+    abbrev pub BeginsNamed : List Entry → List Entry → Type 0
+    BeginsNamed = AllBegin (configuration_of context.config.now context.root.now w.expansion) defined (OpensFor defined context.config.now.no_dependencies (name_at compilation analysis.table.value) task) (paths_of defined.modules)
+
     -- What a run over modules that are open rests on besides: their frames are sorted by numbers, what is held by names is of their variables, they have the task's configuration,
     -- variables are wanted that recipes read which run, and in the frames the constants are bound, and the variables that are wanted.
     pub record AreReady (contexts : List ExecutionContext) (all : List Opened) : Type 0 where
@@ -82,8 +86,9 @@ module _ (w : World) (compilation : Compilation) (given : List Override) (base :
           → AreReadFrom lists home recipe.reads.items (reads context.wanted)
       pub bound : (k : ℕ) (here : ExecutionContext) → slice_get contexts k ≡ Some here → (seen : IsSeenAt analysis.variables k here) → AreBoundIn (IsConstantOrRead seen.lists (reads context.wanted)) here.scope.now
 
-    -- modules that open by places open by names: with the same values where all open, or with the same fault, unless memory ran out
+    -- modules that open by places open by names: with the same values where all open, or with the same fault; and a beginning of the opening by places is one by names, however it ended
     pub record OpenByNames (modules : List ModuleView) (opens : Opens) (old new : List Entry) : Type 0 where
       pub opened : (rows : List placed.OpenedRow) → placed.OpensAll opens modules context.opening_order.now old new (Ok rows)
           → (all : List Opened) × OpensNamed old new (Ok all) × ((contexts : List ExecutionContext) → AreContexts context rows 0 modules contexts → AreOpenAlike compilation analysis contexts all × AreReady contexts all)
-      pub refused : (failure : OpeningFailure) → failure ≢ opening memory → placed.OpensAll opens modules context.opening_order.now old new (Err failure) → OpensNamed old new (Err failure)
+      pub refused : (failure : OpeningFailure) → placed.OpensAll opens modules context.opening_order.now old new (Err failure) → OpensNamed old new (Err failure)
+      pub begun : placed.AllBegin opens modules context.opening_order.now old new → BeginsNamed old new

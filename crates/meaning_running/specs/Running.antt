@@ -17,8 +17,6 @@ use Rattle.run_tasks.specs.Performed.{RunEnd, TaskEnd, ends_as, told}
 use Rattle.run_tasks.specs.Performed as ends
 use Rattle.run_tasks.specs.declared.task.Task.TheVariants.{Command, Evaluate, Run}
 use Rattle.run_prepared.specs.Performed.{PerformsTask}
-use Rattle.meaning_dialogues.specs.Faults.{memory}
-use Rattle.meaning_opening.specs.Requests.{opening}
 use Rattle.meaning_runs.specs.Tallies.{Tally}
 use Rattle.meaning_worlds.specs.Given.{Given, Text, World}
 use Rattle.meaning_worlds.specs.Standing.{StandsFor}
@@ -49,9 +47,9 @@ action_end writes (ends_as ends.ran) = done
 action_end writes (told text) = writing writes text
 action_end writes (ends.command_failed failure) = command_failed failure
 
--- an end but that memory ran out
+-- an end but that memory ran out for a recipe
 abbrev pub IsToldEnd : RunEnd → Type 0
-IsToldEnd (ends.not_opened failure) = failure ≢ opening memory
+IsToldEnd (ends.not_opened failure) = Unit {0}
 IsToldEnd (ends.failed failure) = IsTold failure
 IsToldEnd ends.ran = Unit {0}
 

@@ -1,11 +1,12 @@
 //! Modules open, steps of calls go, and tasks are done by names as by places.
 ghost use Rattle.just_meaning.specs.Driving.{CallRule};
+ghost use Rattle.meaning_running.specs.Begun.{CallsBeginNamed, CommandsBeginNamed, EvaluationsBeginNamed, RunsBeginNamed, StepsBeginNamed};
 ghost use Rattle.meaning_running.specs.Openings.{TasksOpenByNames};
 ghost use Rattle.meaning_running.specs.Running.{CommandsAreNamed, EvaluationsAreNamed, RunsCalledAreNamed};
 ghost use Rattle.meaning_running.specs.Steps.{RunsAreNamed, StepsAreNamed};
 ghost use Rattle.meaning_running.specs.Told.{JobsAreNamed, ValuesAreNamed};
 
-/// For any task, modules open by names as they open by places.
+/// For any task, modules open by names as they open by places, and a beginning of it by places is one by names.
 pub fn tasks_open_by_names()
     ensures { TasksOpenByNames }
 {}
@@ -18,6 +19,16 @@ pub fn steps_are_named()
 /// A run of calls by places is one by their names.
 pub fn runs_are_named()
     ensures { RunsAreNamed }
+{}
+
+/// What was recorded of a step of a call by places that was cut is a beginning of what the step records by names.
+pub fn steps_begin_named()
+    ensures { StepsBeginNamed }
+{}
+
+/// What was recorded of a run of calls by places, however it ended, is the beginning of what a run by their names records.
+pub fn runs_begin_named()
+    ensures { RunsBeginNamed }
 {}
 
 /// Calls that run by the places of their recipes run by their names, from the opening of modules on.
@@ -43,4 +54,19 @@ pub fn evaluations_go_by_names()
 /// A command that is handed over by places is handed over by names, from the opening of modules on.
 pub fn commands_go_by_names()
     ensures { CommandsAreNamed }
+{}
+
+/// What was recorded of calls by places, however they ended, is the beginning of what a run by their names records, from the opening of modules on.
+pub fn calls_begin_by_names()
+    ensures { CallsBeginNamed }
+{}
+
+/// So it is of what is evaluated.
+pub fn evaluations_begin_by_names()
+    ensures { EvaluationsBeginNamed }
+{}
+
+/// So it is of a command that is handed over.
+pub fn commands_begin_by_names()
+    ensures { CommandsBeginNamed }
 {}

@@ -1,4 +1,6 @@
 pub mod Tasks
+pub mod Beginnings
+pub mod Cutting
 pub mod Restricted
 pub mod Acting
 pub mod Pieces

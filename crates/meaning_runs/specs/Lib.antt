@@ -6,6 +6,7 @@ pub mod Told
 pub mod Tallies
 pub mod Parts
 pub mod Goes
+pub mod Cut
 pub mod Counts
 pub mod Naive
 pub mod Laws

@@ -75,3 +75,9 @@ pub record TaskLeads {A : Type 0} (reading : Reading) (task : Task A) (old new :
   pub piece : List Entry
   pub entries : new ≡ old ++ piece
   pub goes : TaskGoes reading task piece result
+
+-- what was recorded is the beginning of what the task records: behind it the task can go on to an end
+pub record TaskBegins {A : Type 0} (reading : Reading) (task : Task A) (old new : List Entry) : Type 0 where
+  pub rest : List Entry
+  pub result : Result A Failure
+  pub leads : TaskLeads reading task old (new ++ rest) result

@@ -7,6 +7,7 @@ use Rattle.evaluate_functions.specs.Names.{function_names}
 use Rattle.evaluate_context.specs.Surroundings.{Surroundings, Standing}
 use Rattle.meaning_dialogues.specs.Faults.{Fault, internal}
 use Rattle.meaning_dialogues.specs.Dialogue.{Ends, Evaluates}
+use Rattle.meaning_dialogues.proofs.Dialogues.{begins_here}
 use Rattle.meaning_dialogues.specs.Evaluation.{Value, dialogue}
 use Rattle.meaning_dialogues.specs.Terms.{Term, literal, variable, call, more, end}
 use Rattle.meaning_dialogues.specs.Calls.{DefinedFunction, reading_in_frames, unreadable}
@@ -43,7 +44,7 @@ module _ (m : Surroundings) (s : Standing) (n : ℕ) where
 
   -- a variable without a number does
   pub unresolved : (old : List Entry) → run (variable (codes "y") None) old old (Err (unreadable (codes "unresolved") (codes "y")))
-  unresolved old = record { goes = λ k. (refl, refl) }
+  unresolved old = record { goes = λ k. (refl, refl); begins = begins_here (reading_in_frames (λ number. false) none none) _ old }
 
   -- and so does a call of what is no function
   pub unknown_function : dialogue (run_stage m [] s None) (call (codes "h") (codes "justfile") end) ≡ Ends (Err (internal (codes "unknown function")))

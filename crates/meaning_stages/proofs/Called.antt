@@ -1,15 +1,15 @@
 -- The call of a defined function: its body reads its parameters, and else the module's variables.
-use Rattle.std.proofs.Common.{◌≡◌, ℕ, suc, ◌-◌, ◌<◌, Bool, false, List, ◌∷◌, Option, Some, None, Result, Ok, Err, refl, ap, ◌∙◌, subst, MatchResult, arith}
+use Rattle.std.proofs.Common.{◌≡◌, ℕ, suc, ◌-◌, ◌<◌, Bool, false, List, ◌∷◌, ◌++◌, Option, Some, None, Result, Ok, Err, refl, ap, ◌∙◌, subst, MatchResult, arith}
 use Rattle.std.specs.Option.{option_map, option_or}
 use Rattle.just_host.specs.declared.entry.Entry.{Entry}
 use Rattle.just_value.specs.Frames.{BoundRow, Frames, bound_in, found_in}
-use Rattle.meaning_dialogues.specs.Faults.{Fault, too_deep}
+use Rattle.meaning_dialogues.specs.Faults.{Fault, memory, too_deep}
 use Rattle.meaning_dialogues.specs.Dialogue.{Dialogue, Ends, Asks, Reads, DialogueGoes, Evaluates, Reading, around, in_module, Variable}
 use Rattle.meaning_dialogues.specs.Evaluation.{Value, row, dialogue}
 use Rattle.meaning_dialogues.specs.Calls.{Frame, DefinedFunction, HasValues, empty, with_parameters, in_frame, inside, or_read, value_found, reading_in_frames, call_defined}
 use Rattle.meaning_stages.specs.Stages.{calls_left, run_stage}
 use Rattle.evaluate_context.specs.Surroundings.{Surroundings, Standing}
-use Rattle.meaning_dialogues.proofs.Dialogues.{then_goes, then_stops, weaker}
+use Rattle.meaning_dialogues.proofs.Dialogues.{then_goes, then_stops, ends, not_begun, weaker}
 
 abbrev from_own : Option Value → Result Value Fault → Result Value Fault
 from_own (Some value) else_ = Ok value
@@ -54,6 +54,12 @@ module _ (here inner outer : Frames) (frame : Frame) (has : HasValues inner.own 
   goes_inside (Reads in_module x next) old new r h =
       weaker (without in_module x) (λ v g. goes_inside (next v) old new r g) (λ fault p. p) h
 
+  -- what is evaluated inside is evaluated outside
+  evaluates_inside : {A : Type 0} (t : Dialogue A) (old new : List Entry) (r : Result A Fault) → Evaluates within t old new r → Evaluates without (inside frame t) old new r
+  evaluates_inside t old new r h =
+      let b = h.begins in
+      record { goes = λ n. goes_inside t old new r (h.goes n); begins = record { rest = b.rest; result = b.result; goes = goes_inside t old (new ++ b.rest) b.result b.goes } }
+
 one_left : (left : ℕ) → 0 < left → left ≡ suc (left - 1)
 one_left left h = omega arith
 
@@ -62,10 +68,14 @@ module _ (module_around : Surroundings) (functions : List DefinedFunction) (in_b
   calls n = calls_left module_around functions in_body n
 
   pub call_too_deep : (reading : Reading) (old : List Entry) → left ≡ 0 → Evaluates reading (call_defined (calls left) f given) old old (Err (too_deep f.name))
-  call_too_deep reading old e = rw e record { goes = λ n. (refl, refl) }
+  call_too_deep reading old e = rw e (ends _ (λ n. refl))
 
   pub call_stops : (reading : Reading) (old new : List Entry) (e : Fault) → 0 < left → Evaluates reading (row given) old new (Err e) → Evaluates reading (call_defined (calls left) f given) old new (Err e)
   call_stops reading old new e some h = rw (one_left left some) (then_stops _ _ h)
+
+  -- memory ran out behind the arguments
+  pub call_memory : (reading : Reading) (old mid : List Entry) (values : List Value) → 0 < left → Evaluates reading (row given) old mid (Ok values) → Evaluates reading (call_defined (calls left) f given) old mid (Err memory)
+  call_memory reading old mid values some h = rw (one_left left some) (then_goes _ _ h (not_begun _ mid))
 
   pub call_goes : (here inner outer : Frames) (old mid new : List Entry) (values : List Value) (r : Result Value Fault) → 0 < left
       → Evaluates (reading_in_frames no_number here outer) (row given) old mid (Ok values)
@@ -74,5 +84,5 @@ module _ (module_around : Surroundings) (functions : List DefinedFunction) (in_b
       → Evaluates (reading_in_frames no_number here outer) (call_defined (calls left) f given) old new r
   call_goes here inner outer old mid new values r some h has lies g =
       let body : Evaluates (reading_in_frames no_number here outer) (inside (with_parameters empty f.parameters values) (dialogue (run_stage module_around functions in_body (calls (left - 1))) f.body)) mid new r
-      = record { goes = λ n. goes_inside here inner outer (with_parameters empty f.parameters values) has lies _ mid new r (g.goes n) } in
+      = evaluates_inside here inner outer (with_parameters empty f.parameters values) has lies _ mid new r g in
       rw (one_left left some) (then_goes _ _ h body)

@@ -1,5 +1,5 @@
 -- How a module's variables are opened, and which of them are constants.
-use Rattle.std.specs.Prelude.{◌≡◌, ℕ, ◌⊎◌, ◌||◌, Bool, true, false, List, [], ◌∷◌, Option, Some, None, IsSome, Result, Ok, Err}
+use Rattle.std.specs.Prelude.{◌≡◌, ℕ, ◌⊎◌, ◌||◌, Bool, true, false, List, [], ◌∷◌, ◌++◌, Option, Some, None, IsSome, Result, Ok, Err}
 use Rattle.just_host.specs.declared.entry.Entry.{Entry}
 use Rattle.just_value.specs.Frames.{BoundRow, ByNumber, WrittenName, written_name, found_in, Rebinds}
 use Rattle.evaluate_context.specs.declared.context.AssignmentRef.{AssignmentRef}
@@ -47,6 +47,13 @@ module _ (outer : List (List BoundRow)) (stage_with : List BoundRow → Stage) (
     refused : {a : Assigned} {more : List Assigned} {own : List BoundRow} {old new : List Entry} {fault : Fault}
         → is_read a.number ≡ true → found_in (own ∷ outer) a.number ≡ None → DialogueGoes (reading_with own) (assigned_dialogue (overrides a.number) (stage_with own) a.value) old new (Err fault)
         → Assigns (a ∷ more) own old own new (Some fault)
+
+  -- what was recorded is the beginning of what variables in this order record: behind it they can go on to an end
+  pub record BeginsAssigning (variables : List Assigned) (own : List BoundRow) (old new : List Entry) : Type 0 where
+    pub rest : List Entry
+    pub last : List BoundRow
+    pub fault : Option Fault
+    pub assigns : Assigns variables own old last (new ++ rest) fault
 
 -- a constant stage by what is constant so far, and by which numbers are not
 module _ (lists : Bool) (reading_with : Frame → (ℕ → Bool) → Reading) (overrides : ℕ → Option (List ℕ)) (is_read : ℕ → Bool) where

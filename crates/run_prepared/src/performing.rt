@@ -1,5 +1,6 @@
 //! The task, with all that it needs.
 ghost use Rattle.std.specs.Prelude.{◌≡◌, IfOk, List, option_map};
+ghost use Rattle.run_prepared.specs.Begun.{BeginsIn, BeginsOver, BeginsPlanned, BeginsTask};
 ghost use Rattle.run_prepared.specs.Performed.{IsPreparedFor, PerformsIn, PerformsOver, PerformsTask};
 ghost use Rattle.run_prepared.specs.Planned.{ArePlanned};
 ghost use Rattle.run_tasks.specs.Kinds.{AsksFor};
@@ -84,6 +85,7 @@ fn perform_planned<'l, 'src, H: RunHost + Drop>(
 ) -> Result<Performed, TaskFault<'src>>
     ensures asks { AsksFor task.entry context.now.config.now.dry_run H.goes host.old host.new }
     ensures performs { IfPerformed task.entry host.new.exhausted result (PerformsOver context.now modules.now recipes.old task.entry host.old.entries host.new.entries) }
+    ensures begun { BeginsOver context.now modules.now recipes.old task.entry host.old.entries host.new.entries }
 {
     let mut tally = Tally::new();
     perform(alloc, host, context, modules, &*recipes, task, &mut tally)
@@ -101,6 +103,7 @@ fn perform_over<'src, H: RunHost + Drop>(
 ) -> Result<Performed, TaskFault<'src>>
     ensures asks { AsksFor task.entry context.now.config.now.dry_run H.goes host.old host.new }
     ensures performs { IfPerformed task.entry host.new.exhausted result (λ end. (planned : List Planned) × ArePlanned compilation.now recipes.now planned × PerformsOver context.now modules.now planned task.entry host.old.entries host.new.entries end) }
+    ensures begun { BeginsPlanned compilation.now recipes.now context.now modules.now task.entry host.old.entries host.new.entries }
 {
     let mut recipes = plan(alloc, &*compilation, &*recipes)?;
     let recipes = recipes.as_mut_slice();
@@ -118,6 +121,7 @@ fn perform_prepared<'src, H: RunHost + Drop>(
 ) -> Result<Performed, TaskFault<'src>>
     ensures asks { AsksFor task.entry context.now.config.now.dry_run H.goes host.old host.new }
     ensures performs { IfPerformed task.entry host.new.exhausted result (PerformsIn compilation.now analysis.now context.now task.entry host.old.entries host.new.entries) }
+    ensures begun { BeginsIn compilation.now analysis.now context.now task.entry host.old.entries host.new.entries }
 {
     let values = &analysis.values;
     let views = views(alloc, analysis.modules, &analysis.variables, values)?;
@@ -151,6 +155,8 @@ pub fn perform_task<'src, H: RunHost + Drop>(
     ensures asks { AsksFor task.entry config.now.dry_run H.goes host.old host.new }
     // Where memory suffices, the task is done over what is known of the justfile.
     ensures performs { IfPerformed task.entry host.new.exhausted result (PerformsTask compilation.now analysis.now config.now root.now task.entry host.old.entries host.new.entries) }
+    // However it ends, what was recorded is the beginning of what the task records.
+    ensures begun { BeginsTask compilation.now analysis.now config.now root.now task.entry host.old.entries host.new.entries }
 {
     let prepared = prepare(alloc, analysis, &task, config.no_dependencies)?;
     let overrides = &analysis.values.overrides;

@@ -3,3 +3,4 @@ pub mod Sentences
 pub mod Standing
 pub mod Ending
 pub mod Doing
+pub mod Beginnings

@@ -4,3 +4,4 @@ pub mod Kinds
 pub mod Tasks
 pub mod Opened
 pub mod Performed
+pub mod Begun

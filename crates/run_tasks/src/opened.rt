@@ -10,6 +10,7 @@ ghost use Rattle.just_value.specs.Frames.{BindsRows, ByNumber};
 ghost use Rattle.analyze_calls.specs.Calls.{rows};
 ghost use Rattle.analyze_calls.specs.Opening.{opened_rows};
 ghost use Rattle.analyze_runs.specs.Tallies.{tally_of};
+ghost use Rattle.run_tasks.specs.Begun.{Begins, BeginsIn, BeginsOpened, RunBegins};
 ghost use Rattle.run_tasks.specs.Opened.{AreContexts, ArePositions, IsOpeningOf};
 ghost use Rattle.run_tasks.specs.Performed.{Fits, IfEnds, IfPerformed, IfRunEnd, Performs, PerformsIn, PerformsOpened, RunsIn};
 ghost use Rattle.run_tasks.specs.declared.task.Task.TheVariants as tasks;
@@ -84,6 +85,7 @@ fn run<'a, 'src, H: RunHost + Drop>(
     ensures asks { AsksIn contexts.now H.goes host.old host.new }
     ensures fits { Fits (tasks.Run calls) result }
     ensures performs { IfEnds host.new.exhausted result (λ end. IfRunEnd end (RunsIn recipes.now contexts.now (rows calls.items) host.old.entries (tally_of tally.old) host.new.entries (tally_of tally.new))) }
+    ensures begun { RunBegins recipes.now contexts.now (rows calls.items) host.old.entries (tally_of tally.old) host.new.entries }
 {
     let runner = Runner { recipes, contexts };
     run_calls(alloc, host, &runner, calls, tally)?;
@@ -177,6 +179,7 @@ fn perform_in<'a, 'src, H: RunHost + Drop>(
     ensures does { Does H.goes contexts.now task.entry host.old result host.new }
     ensures asks { AsksOver contexts.now task.entry H.goes host.old host.new }
     ensures performs { IfPerformed task.entry host.new.exhausted result (PerformsIn recipes.now contexts.now task.entry host.old.entries (tally_of tally.old) host.new.entries (tally_of tally.new)) }
+    ensures begun { BeginsIn recipes.now contexts.now task.entry host.old.entries (tally_of tally.old) host.new.entries }
 {
     match task {
         Task::Run(calls) => run(alloc, host, recipes, contexts, calls, tally),
@@ -198,6 +201,7 @@ fn perform_opened<'a, 'src, H: RunHost + Drop>(
 ) -> Result<Performed, TaskFault<'src>>
     ensures asks { AsksFor task.entry context.now.config.now.dry_run H.goes host.old host.new }
     ensures performs { IfPerformed task.entry host.new.exhausted result (PerformsOpened context.now modules.now recipes.now task.entry (opened_rows opened.now) host.old.entries (tally_of tally.old) host.new.entries (tally_of tally.new)) }
+    ensures begun { BeginsOpened context.now modules.now recipes.now task.entry (opened_rows opened.now) host.old.entries (tally_of tally.old) host.new.entries }
 {
     let contexts = contexts(alloc, context, modules, opened)?;
     perform_in(alloc, host, recipes, contexts.as_slice(), task, tally)
@@ -232,6 +236,7 @@ fn perform_inside<'src, H: RunHost + Drop>(
 ) -> Result<Performed, TaskFault<'src>>
     ensures asks { AsksFor task.entry context.now.config.now.dry_run H.goes host.old host.new }
     ensures performs { BindsRows constant_rows constants.now.own → constants.now.outer ≡ [] → ByNumber constants.now.own → IfPerformed task.entry host.new.exhausted result (Performs context.now modules.now recipes.now task.entry host.old.entries (tally_of tally.old) host.new.entries (tally_of tally.new)) }
+    ensures begun { BindsRows constant_rows constants.now.own → constants.now.outer ≡ [] → ByNumber constants.now.own → Begins context.now modules.now recipes.now task.entry host.old.entries (tally_of tally.old) host.new.entries }
 {
     let opening = opening_of(&*context, &*constants);
     let opened = open_modules(alloc, host, &opening, modules, context.opening_order)?;
@@ -268,6 +273,8 @@ pub fn perform<'src, H: RunHost + Drop>(
     ensures asks { AsksFor task.entry context.now.config.now.dry_run H.goes host.old host.new }
     // Where memory suffices, the modules open, and then the task is done over what is open: calls run up to the first failure, values are told, or a command is handed over.
     ensures performs { IfPerformed task.entry host.new.exhausted result (Performs context.now modules.now recipes.now task.entry host.old.entries (tally_of tally.old) host.new.entries (tally_of tally.new)) }
+    // However it ends, what was recorded is the beginning of what the task records.
+    ensures begun { Begins context.now modules.now recipes.now task.entry host.old.entries (tally_of tally.old) host.new.entries }
 {
     let constants = Scope::root(alloc)?;
     perform_inside(

@@ -38,15 +38,14 @@ use Rattle.meaning_worlds.specs.Given.{Text, World}
 use Rattle.meaning_worlds.specs.Compiled.{HasPath}
 use Rattle.meaning_worlds.proofs.Places.{contains_cases, contains_first, contains_later, contains_none, place_of}
 use Rattle.meaning_names.specs.Names.{nodes, views}
-use Rattle.meaning_names.proofs.Found.{there_within}
 use Rattle.meaning_overriding.specs.Texts.{overrides_of}
 use Rattle.meaning_calls.specs.Named.{Definitions, VariableName, paths_of}
 use Rattle.meaning_calls.specs.Scopes.{Configuration}
+use Rattle.just_meaning.specs.Begun.{AllBegin}
 use Rattle.just_meaning.specs.Opening.{Held, Opened, OpensAll, OpensOne}
 use Rattle.just_meaning.specs.Opening as named
 use Rattle.meaning_menus.specs.Named.{name_at}
 use Rattle.meaning_resolved.specs.Definitions.{all_modules, definitions_of}
-use Rattle.meaning_resolved.proofs.Own.{has_own_path}
 use Rattle.meaning_settings.specs.Settled.{AllSettle}
 use Rattle.meaning_grounds.specs.Alike.{AreOpenAlike, IsOpenAlike, configuration_of}
 use Rattle.meaning_views.specs.Known.{IsSeenAt}
@@ -54,6 +53,7 @@ use Rattle.meaning_views.specs.Read.{AreReadFrom}
 use Rattle.meaning_views.proofs.Evaluated.{running_are_read}
 use Rattle.meaning_views.specs.Recipes.{AreBoundIn, IsConstantOrRead}
 use Rattle.meaning_running.specs.Opened.{AreReady, IsTaskOf, OpenByNames, OpensFor}
+use Rattle.meaning_running.proofs.Opening.Begun.{all_begin, own_path}
 use Rattle.meaning_running.proofs.Opening.Context.{defined_by}
 use Rattle.meaning_running.proofs.Opening.Opens.{IsOpenedSo, MayOpen, opens_one, viewed}
 use Rattle.meaning_running.proofs.Opening.Order.{AreOnce, IsOpeningOrder, one_index, opening_order_is}
@@ -74,9 +74,6 @@ module _ (w : World) (compilation : Compilation) (given : List Override) (base :
 
   abbrev defined : Definitions
   defined = defined_by w compilation t.resolvable.numbered given base analysis t.known settled context.config.now
-
-  own_path : (k : ℕ) → k < length compilation.modules.items → HasPathTo k (path_of k)
-  own_path k lt = let node = there_within compilation.modules.items k lt in has_own_path w compilation t.resolvable.numbered.of k node.0 node.1
 
   -- what was opened at a place
   pub record IsPlacedSo (k : ℕ) (row : OpenedRow) (o : Opened) : Type 0 where
@@ -102,15 +99,15 @@ module _ (w : World) (compilation : Compilation) (given : List Override) (base :
         let v = view_exists compilation base given analysis t.known modules t.views place (within place (contains_first place places)) in
         absurd (none-some v.0 (sym none ∙ v.1))
     opens_all within (placed.one_more {place} {places} {view} at one rest) =
-        let has = own_path place (within place (contains_first place places)) in
+        let has = own_path w compilation t.resolvable.numbered.of place (within place (contains_first place places)) in
         let a = opens_one w compilation given base analysis settled task context modules opens t place view at (path_of place) has Open (may place view at has) one in
         let b = opens_all (λ j c. within j (contains_later place places j c)) rest in
         (a.0 ∷ b.0, named.one_more a.1 b.1, one_so (record { view = view; at = at; has = has; so = a.2 }) b.2)
     opens_all within (placed.fault_here {place} {places} {view} at one) =
-        let has = own_path place (within place (contains_first place places)) in
+        let has = own_path w compilation t.resolvable.numbered.of place (within place (contains_first place places)) in
         named.fault_here (opens_one w compilation given base analysis settled task context modules opens t place view at (path_of place) has Open (may place view at has) one)
     opens_all within (placed.fault_later {place} {places} {view} at one rest) =
-        let has = own_path place (within place (contains_first place places)) in
+        let has = own_path w compilation t.resolvable.numbered.of place (within place (contains_first place places)) in
         let a = opens_one w compilation given base analysis settled task context modules opens t place view at (path_of place) has Open (may place view at has) one in
         named.fault_later a.1 (opens_all (λ j c. within j (contains_later place places j c)) rest)
 
@@ -383,7 +380,8 @@ module _ (w : World) (compilation : Compilation) (given : List Override) (base :
     opened = λ rows o.
         let a = opens_all Open may order.within o in
         (a.0, named_so (Ok a.0) a.1, λ contexts are. (open_alike context.opening_order.now order.once order.all rows a.0 a.2 contexts are, ready context.opening_order.now order.once order.all rows a.0 a.2 contexts are));
-    refused = λ failure enough o. named_so (Err failure) (opens_all Open may order.within o);
+    refused = λ failure o. named_so (Err failure) (opens_all Open may order.within o);
+    begun = λ b. begins_so (all_begin w compilation given base analysis settled task context modules opens t Open may order.within b);
   }
     where
       order : IsOpeningOrder w compilation t.resolvable.numbered.of t.resolvable.numbered.single context.opening_order.now
@@ -395,3 +393,8 @@ module _ (w : World) (compilation : Compilation) (given : List Override) (base :
       named_so r h =
           subst (λ paths. OpensAll configuration (by_base base) (open_in (by_base base)) paths old new r) order.paths
           (subst (λ b. OpensAll configuration (by_base b) (open_in (by_base b)) (map path_of context.opening_order.now) old new r) (sym t.base_is) h)
+
+      begins_so : AllBegin configuration defined Open (map path_of context.opening_order.now) old new → AllBegin configuration (by_base base) (open_in (by_base base)) (paths_of (all_modules compilation)) old new
+      begins_so h =
+          subst (λ paths. AllBegin configuration (by_base base) (open_in (by_base base)) paths old new) order.paths
+          (subst (λ b. AllBegin configuration (by_base b) (open_in (by_base b)) (map path_of context.opening_order.now) old new) (sym t.base_is) h)

@@ -190,7 +190,7 @@ module _ (w : World) (compilation : Compilation) (given : List Override) (base :
         pub order : IsOrder (defined_by w compilation t.resolvable.numbered given base analysis t.known settled context.config.now) Open path (read_names (is_wanted opens view) (ordered view.assignments.now view.evaluation_order.now))
 
       module _ (may : MayOpen) where
-        requests : {r : Result (List Pair) OpeningFailure} (old new : List Entry) → Requests (request_if_any opens.config.now view) old new r → Requests row_of_view.row.request old new r
+        pub requests : {r : Result (List Pair) OpeningFailure} (old new : List Entry) → Requests (request_if_any opens.config.now view) old new r → Requests row_of_view.row.request old new r
         requests {r} old new q = subst (λ request. Requests request old new r) (ap (λ c. request_if_any c view) t.opens_are.config ∙ sym row_of_view.request) q
 
         same_row : (row : ModuleRow) → (defined_by w compilation t.resolvable.numbered given base analysis t.known settled context.config.now).inside path ≡ Some row → row_of_view.row ≡ row

@@ -154,7 +154,7 @@ opens_agree w compilation given base analysis settled (Evaluate target) context 
 opens_agree w compilation given base analysis settled (Command words) context modules opens t parameters single there k view at has lent c =
     wanted_open w compilation given base analysis settled (Command words) context modules opens t k view at (path_in compilation.modules.items k) has single (λ place d. absurd (contains_none [] place refl d)) refl lent c
 
--- for any task, modules open by names as they open by places
+-- for any task, modules open by names as they open by places, and a beginning of it by places is one by names
 pub tasks_open_by_names : TasksOpenByNames
 tasks_open_by_names w compilation given base analysis settled task context modules opens t source stands there old new =
     let parameters = have_own_parameters source w compilation stands t.resolvable.numbered.of in

@@ -55,26 +55,26 @@ module _ (Rule : Type 0) (source : Given) (w : World) (compilation : Compilation
   abbrev base : Text
   base = string_bytes context.config.now.base
 
-  abbrev configuration : Configuration
+  abbrev pub configuration : Configuration
   configuration = configuration_of context.config.now context.root.now w.expansion
 
-  abbrev definitions : Definitions
+  abbrev pub definitions : Definitions
   definitions = defined w compilation given base analysis settled context.config.now context.root.now
 
-  abbrev name : CallRow → named_calls.Call
+  abbrev pub name : CallRow → named_calls.Call
   name = named w compilation given base analysis settled context.config.now context.root.now
 
-  abbrev called : List ℕ
+  abbrev pub called : List ℕ
   called = called_by (Run calls)
 
   -- modules that open for the recipes that the task calls open for the calls by their names
-  opens_named : {r : _} (old new : List Entry) → OpensNamed w compilation given base analysis settled (Run calls) context old new r → by_name.Opens configuration definitions (map name (rows calls.items)) old new r
+  pub opens_named : {r : _} (old new : List Entry) → OpensNamed w compilation given base analysis settled (Run calls) context old new r → by_name.Opens configuration definitions (map name (rows calls.items)) old new r
   opens_named {r} old new opens =
       subst (λ invoked. OpensAll configuration definitions (IsOpened definitions context.config.now.no_dependencies invoked) (paths_of definitions.modules) old new r)
       (same_called (name_at compilation analysis.table.value) name (λ call. refl) calls.items) opens
 
   -- each call runs
-  all_running : AllByRecursion (IsRunning w compilation given base analysis settled context.config.now context.root.now called) (rows calls.items)
+  pub all_running : AllByRecursion (IsRunning w compilation given base analysis settled context.config.now context.root.now called) (rows calls.items)
   all_running = each_called (IsRunning w compilation given base analysis settled context.config.now context.root.now called) calls.items (λ call c. root (contains_map (λ (x : Call). x.recipe) calls.items call c))
 
   called_there : (place : ℕ) → Contains called place → place < length analysis.table.value.recipes.items
@@ -84,7 +84,7 @@ module _ (Rule : Type 0) (source : Given) (w : World) (compilation : Compilation
 
   module _ (recipes : List Planned) (planned : ArePlanned compilation analysis.table.value.recipes.items recipes) where
     -- what a run rests on where modules are open
-    rests_on : (runner : Runner) → runner.recipes.now ≡ recipes → (contexts : List ExecutionContext) → runner.contexts.now ≡ contexts
+    pub rests_on : (runner : Runner) → runner.recipes.now ≡ recipes → (contexts : List ExecutionContext) → runner.contexts.now ≡ contexts
         → (all : List Opened) → AreOpenAlike compilation analysis contexts all → AreReady w compilation given base analysis settled (Run calls) context contexts all
         → RestsOn w compilation given base analysis settled context.config.now context.root.now called (reads context.wanted) runner all
     rests_on runner recipes_are contexts contexts_are all alike ready =
@@ -128,7 +128,7 @@ module _ (Rule : Type 0) (source : Given) (w : World) (compilation : Compilation
       → IsPreparedFor analysis (Run calls) context.config.now.no_dependencies context.opening_order.now (option_map (λ numbers. numbers.now) context.wanted)
       → (old new : List Entry) (end : RunEnd) → IsToldEnd end → PerformsIn compilation analysis context (Run calls) old new (ends_as end) → RunsNamed w compilation given analysis settled calls Rule context.config.now context.root.now old new end
   run_named overrides prepared old new end told run =
-      let c = comes_to source w compilation stands resolvable given analysis settled (Run calls) context there known overrides prepared old new (ends_as end) told run in
+      let c = comes_to source w compilation stands resolvable given analysis settled (Run calls) context there known overrides prepared old new (ends_as end) run in
       (c.0, run_from old new c.0 end told c.1)
 
 pub calls_run_named : (Rule : Type 0) → RunsCalledAreNamed Rule

@@ -68,7 +68,7 @@ module _ (source : Given) (w : World) (compilation : Compilation) (stands : Stan
   OpenFor = AreOpenFor source w compilation stands resolvable given analysis settled (Command words) context
 
   -- the root is open
-  root_open : (contexts : List ExecutionContext) → length contexts ≡ length compilation.modules.items → (here : ExecutionContext) × (slice_get contexts 0 ≡ Some here)
+  pub root_open : (contexts : List ExecutionContext) → length contexts ≡ length compilation.modules.items → (here : ExecutionContext) × (slice_get contexts 0 ≡ Some here)
   root_open contexts many =
       let node = node_of w compilation resolvable.numbered.of 0 [] (root_path w compilation resolvable.numbered.of) in
       let within = slice_get_within compilation.modules.items 0 node.0 node.1 in
@@ -101,7 +101,7 @@ module _ (source : Given) (w : World) (compilation : Compilation) (stands : Stan
         let configured = All-contains (λ (c : ExecutionContext). (c.config.now ≡ context.config.now) × (c.root.now ≡ context.root.now)) contexts here over.ready.configured (contains_at contexts 0 here there) in
         ap (λ (c : Config). c.dry_run) configured.0
 
-    commanded : words.now ≡ command ∷ others → (end : TaskEnd) → HandsInRoot (slice_get contexts 0) words.now mid new end → CommandGoes configuration definitions words.now old new (action_end writes end)
+    pub commanded : words.now ≡ command ∷ others → (end : TaskEnd) → HandsInRoot (slice_get contexts 0) words.now mid new end → CommandGoes configuration definitions words.now old new (action_end writes end)
     commanded is end hands =
         let here_hands : HandsWords here context.config.now.dry_run (command ∷ others) mid new end =
         subst (λ (dry : Bool). HandsWords here dry (command ∷ others) mid new end) dry_is
@@ -126,7 +126,7 @@ module _ (source : Given) (w : World) (compilation : Compilation) (stands : Stan
       → (old new : List Entry) (end : TaskEnd) → IsToldTask end → PerformsIn compilation analysis context (Command words) old new end
       → CommandGoes configuration definitions words.now old new (action_end writes end)
   commanded_named some overrides prepared old new end told run =
-      let c = comes_to source w compilation stands resolvable given analysis settled (Command words) context tt known overrides prepared old new end told run in
+      let c = comes_to source w compilation stands resolvable given analysis settled (Command words) context tt known overrides prepared old new end run in
       goes_from some old new c.0 end c.1
 
 pub commands_are_named : CommandsAreNamed

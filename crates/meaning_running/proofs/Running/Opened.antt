@@ -30,7 +30,6 @@ use Rattle.meaning_settings.specs.Settled.{AllSettle}
 use Rattle.meaning_grounds.specs.Alike.{AreOpenAlike}
 use Rattle.meaning_running.specs.Openings.{CalledAreThere}
 use Rattle.meaning_running.specs.Opened.{AreReady, IsTaskOf, OpenByNames, OpensNamed}
-use Rattle.meaning_running.specs.Running.{IsToldTask}
 use Rattle.meaning_running.proofs.Opening.Whole.{tasks_open_by_names}
 
 module _ (source : Given) (w : World) (compilation : Compilation) (stands : StandsFor source w) (resolvable : IsResolvable w compilation) (given : List Override) (analysis : Analysis)
@@ -52,7 +51,7 @@ module _ (source : Given) (w : World) (compilation : Compilation) (stands : Stan
       (prepared : IsPreparedFor analysis task context.config.now.no_dependencies context.opening_order.now (option_map (λ numbers. numbers.now) context.wanted)) where
     module _ (modules : List ModuleView) (views : map seen modules ≡ views_of analysis.modules.now analysis.variables analysis.values.value (length analysis.modules.now))
         (recipes : List Planned) (planned : ArePlanned compilation analysis.table.value.recipes.items recipes) (opens : Opens) (opens_are : IsOpeningOf context opens) where
-      task_of : IsTaskOf w compilation given (string_bytes context.config.now.base) analysis settled task context modules opens
+      pub task_of : IsTaskOf w compilation given (string_bytes context.config.now.base) analysis settled task context modules opens
       task_of = record {
         resolvable = resolvable;
         known = known;
@@ -63,18 +62,18 @@ module _ (source : Given) (w : World) (compilation : Compilation) (stands : Stan
         opens_are = opens_are;
       }
 
-      by_names : (old new : List Entry) → OpenByNames w compilation given (string_bytes context.config.now.base) analysis settled task context modules opens old new
+      pub by_names : (old new : List Entry) → OpenByNames w compilation given (string_bytes context.config.now.base) analysis settled task context modules opens old new
       by_names = tasks_open_by_names w compilation given (string_bytes context.config.now.base) analysis settled task context modules opens task_of source stands there
 
-      comes_from : (old new : List Entry) (t t' : Tally) (end : TaskEnd) → IsToldTask end → tasks.PerformsFrom context modules recipes task opens old t new t' end → ComesTo old t new t' end
-      comes_from old new t _ _ told (tasks.refused {failure} opening) = refused ((by_names old new).refused failure told opening)
-      comes_from old new t _ _ told (tasks.opened {mid} {rows} opening performs) =
+      comes_from : (old new : List Entry) (t t' : Tally) (end : TaskEnd) → tasks.PerformsFrom context modules recipes task opens old t new t' end → ComesTo old t new t' end
+      comes_from old new t _ _ (tasks.refused {failure} opening) = refused ((by_names old new).refused failure opening)
+      comes_from old new t _ _ (tasks.opened {mid} {rows} opening performs) =
           let o = (by_names old mid).opened rows opening in
           let both = o.2 performs.contexts performs.are in
           performed recipes planned performs.contexts (record { all = o.0; opens = o.1; alike = both.0; ready = both.1 }) performs.performs
 
     -- a task that is done over what evaluation sees of the modules
-    pub comes_to : (old new : List Entry) (end : TaskEnd) → IsToldTask end → PerformsIn compilation analysis context task old new end → (t : Tally) × ComesTo old (record { calls = 0; entered = 0 }) new t end
-    comes_to old new end told run =
+    pub comes_to : (old new : List Entry) (end : TaskEnd) → PerformsIn compilation analysis context task old new end → (t : Tally) × ComesTo old (record { calls = 0; entered = 0 }) new t end
+    comes_to old new end run =
         let over = run.performs.1 in
-        (run.performs.0, comes_from run.modules run.views run.recipes run.planned over.opens over.is old new (record { calls = 0; entered = 0 }) run.performs.0 end told over.performs)
+        (run.performs.0, comes_from run.modules run.views run.recipes run.planned over.opens over.is old new (record { calls = 0; entered = 0 }) run.performs.0 end over.performs)

@@ -60,7 +60,7 @@ module _ (source : Given) (w : World) (compilation : Compilation) (stands : Stan
       → target_of definitions words ≡ Some t → (old new : List Entry) (end : TaskEnd) → IsToldTask end → PerformsIn compilation analysis context (Evaluate target) old new end
       → EvaluateGoes configuration definitions writes words old new (action_end writes end)
   evaluated_named overrides prepared led old new end told run =
-      let c = comes_to source w compilation stands resolvable given analysis settled (Evaluate target) context tt known overrides prepared old new end told run in
+      let c = comes_to source w compilation stands resolvable given analysis settled (Evaluate target) context tt known overrides prepared old new end run in
       goes_from led old new c.0 end c.1
 
 pub evaluations_are_named : EvaluationsAreNamed

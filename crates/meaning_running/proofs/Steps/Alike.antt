@@ -42,24 +42,24 @@ module _ (w : World) (compilation : Compilation) (given : List Override) (base :
   name call = named w compilation given base analysis settled config root_key call
 
   module _ (call : CallRow) (runs : Of call) where
-    abbrev s : Stands w compilation given base analysis settled config root_key called is_read runner opened rests call.recipe
+    abbrev pub s : Stands w compilation given base analysis settled config root_key called is_read runner opened rests call.recipe
     s = running_stands w compilation given base analysis settled config root_key called is_read runner opened rests call runs
 
-    place_is : placed_in runner call.recipe ≡ Some (s.planned, s.context)
+    pub place_is : placed_in runner call.recipe ≡ Some (s.planned, s.context)
     place_is = placed w compilation given base analysis settled config root_key called is_read runner opened rests call.recipe s
 
-    begins_here : (flag : Bool) (old new : List Entry) (result : Result (EnteredRow × List CallRow) Failure) → Begins runner call flag old new result → BeginsAt runner s.planned s.context call flag old new result
+    pub begins_here : (flag : Bool) (old new : List Entry) (result : Result (EnteredRow × List CallRow) Failure) → Begins runner call flag old new result → BeginsAt runner s.planned s.context call flag old new result
     begins_here flag old new result (here {planned} {context} e at) =
         subst (λ (p : Planned × ExecutionContext). BeginsAt runner p.0 p.1 call flag old new result) (same_Some (planned, context) (s.planned, s.context) (sym e ∙ place_is)) at
     begins_here flag old new result (nowhere e same is) = absurd (none-some (s.planned, s.context) (sym e ∙ place_is))
 
-    ends_here : (flag : Bool) (entered : EnteredRow) (old new : List Entry) (result : Result (List CallRow) Failure) → Ends runner call flag entered old new result
+    pub ends_here : (flag : Bool) (entered : EnteredRow) (old new : List Entry) (result : Result (List CallRow) Failure) → Ends runner call flag entered old new result
         → HeadsBelow call.recipe (Tails s.planned s.context flag entered runner old new) result
     ends_here flag entered old new result (here_ends {planned} {context} e at) =
         subst (λ (p : Planned × ExecutionContext). HeadsBelow call.recipe (Tails p.0 p.1 flag entered runner old new) result) (same_Some (planned, context) (s.planned, s.context) (sym e ∙ place_is)) at
     ends_here flag entered old new result (nowhere_ends e same is) = absurd (none-some (s.planned, s.context) (sym e ∙ place_is))
 
-    entered_here : (flag : Bool) (entered : EnteredRow) (bound : Bound) → IsEnteredAlike runner call flag entered bound → IsEnteredIn s.planned s.context entered bound
+    pub entered_here : (flag : Bool) (entered : EnteredRow) (bound : Bound) → IsEnteredAlike runner call flag entered bound → IsEnteredIn s.planned s.context entered bound
     entered_here flag entered bound alike =
         subst (λ (p : Planned × ExecutionContext). IsEnteredIn p.0 p.1 entered bound) (same_Some (alike.planned, alike.context) (s.planned, s.context) (sym alike.placed ∙ place_is)) alike.alike
 
@@ -99,7 +99,7 @@ module _ (w : World) (compilation : Compilation) (given : List Override) (base :
       on old new _ calls e (failed gives) = absurd (cc e)
       on old new _ calls e (unranked gives later) = absurd (cc e)
 
-      stop : (old new : List Entry) (result : Result (List CallRow) Failure) (failure : Failure) → result ≡ Err failure → HeadsBelow call.recipe (Tails s.planned s.context flag entered runner old new) result → its_end old new (Err failure)
+      pub stop : (old new : List Entry) (result : Result (List CallRow) Failure) (failure : Failure) → result ≡ Err failure → HeadsBelow call.recipe (Tails s.planned s.context flag entered runner old new) result → its_end old new (Err failure)
       stop old new _ failure e (brought gives low) = absurd (cc e)
       stop old new _ failure e (failed {failure = other} gives) =
           by_name w compilation given base analysis settled config root_key called is_read runner opened rests call.recipe s runs flag entered bound is call refl old new (Err failure)

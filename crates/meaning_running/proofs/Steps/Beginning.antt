@@ -66,20 +66,20 @@ module _ (w : World) (compilation : Compilation) (given : List Override) (base :
   abbrev all_defined : Definitions
   all_defined = defined w compilation given base analysis settled config root_key
 
-  abbrev by_name : Dialogue Bound
+  abbrev pub by_name : Dialogue Bound
   by_name = binding c there name own flag groups
 
-  abbrev asked : Bound → Task (Unit {0})
+  abbrev pub asked : Bound → Task (Unit {0})
   asked bound = confirming c there name own flag c.yes own.confirm bound
 
-  abbrev before : Bound → Dialogue (List Call)
+  abbrev pub before : Bound → Dialogue (List Call)
   before bound = block_calls c there name own flag all_defined bound own.priors
 
-  abbrev head : Task Bound
+  abbrev pub head : Task Bound
   head = head_task c there name own flag groups
 
   -- the beginning of the call by names
-  abbrev whole : Task (Bound × List Call)
+  abbrev pub whole : Task (Bound × List Call)
   whole = head >>= λ bound. (lift (before bound) >>= λ calls. ends (Ok (bound, calls)))
 
   -- ---- what it is bound to
@@ -90,12 +90,12 @@ module _ (w : World) (compilation : Compilation) (given : List Override) (base :
   bound_leads old new bound d = lift_goes (by_names w compilation given base analysis settled config root_key called is_read runner opened rests rank s runs flag) by_name old new (Ok bound)
       (binding_go w compilation given base analysis settled config root_key called is_read runner opened rests rank s runs flag groups old new (Ok bound) d)
 
-  record IsBoundAlike (old new : List Entry) (entered : EnteredRow) : Type 0 where
+  pub record IsBoundAlike (old new : List Entry) (entered : EnteredRow) : Type 0 where
     pub bound : Bound
     pub leads : TaskLeads (by_names w compilation given base analysis settled config root_key called is_read runner opened rests rank s runs flag) (lift by_name) old new (Ok bound)
     pub is : IsEnteredIn s.planned s.context entered bound
 
-  is_bound : (old new : List Entry) (entered : EnteredRow) → Binds s.planned s.context flag groups old new (Ok entered) → IsBoundAlike old new entered
+  pub is_bound : (old new : List Entry) (entered : EnteredRow) → Binds s.planned s.context flag groups old new (Ok entered) → IsBoundAlike old new entered
   is_bound old new entered b =
       let gives = b.by_test (counts_by (parameters w compilation given base analysis settled config root_key called is_read runner opened rests rank s))
       (counted_all w compilation given base analysis settled config root_key called is_read runner opened rests rank s runs flag) in
@@ -162,7 +162,7 @@ module _ (w : World) (compilation : Compilation) (given : List Override) (base :
     found_calls (Err fault) calls old new e d = absurd (cc e)
 
     -- where it brings about calls
-    heads_on : (old mid new : List Entry) (calls : List CallRow) → TaskLeads (by_names w compilation given base analysis settled config root_key called is_read runner opened rests rank s runs flag) (lift by_name) old mid (Ok bound)
+    pub heads_on : (old mid new : List Entry) (calls : List CallRow) → TaskLeads (by_names w compilation given base analysis settled config root_key called is_read runner opened rests rank s runs flag) (lift by_name) old mid (Ok bound)
         → Heads s.planned s.context flag entered runner mid new (Ok calls)
         → (names : List Call) × TaskLeads (by_names w compilation given base analysis settled config root_key called is_read runner opened rests rank s runs flag) whole old new (Ok (bound, names)) × Brought calls names
     heads_on old mid new calls h heads =
@@ -192,7 +192,7 @@ module _ (w : World) (compilation : Compilation) (given : List Override) (base :
         ((priors_go w compilation given base analysis settled config root_key called is_read runner opened rests rank s runs flag entered bound is).stop old new fault d))
 
     -- and where that fails
-    heads_stop : (old mid new : List Entry) (failure : Failure) → TaskLeads (by_names w compilation given base analysis settled config root_key called is_read runner opened rests rank s runs flag) (lift by_name) old mid (Ok bound)
+    pub heads_stop : (old mid new : List Entry) (failure : Failure) → TaskLeads (by_names w compilation given base analysis settled config root_key called is_read runner opened rests rank s runs flag) (lift by_name) old mid (Ok bound)
         → Heads s.planned s.context flag entered runner mid new (Err failure) → TaskLeads (by_names w compilation given base analysis settled config root_key called is_read runner opened rests rank s runs flag) whole old new
         (Err failure)
     heads_stop old mid new failure h heads =
@@ -219,7 +219,7 @@ module _ (w : World) (compilation : Compilation) (given : List Override) (base :
         let r = heads_on old mid new calls h heads in
         true≢false (sym later ∙ none_from w compilation given base analysis settled config root_key called is_read runner opened rests rank s runs flag entered bound is calls r.2.each_one)
 
-    below_stop : (old mid new : List Entry) (result : Result (List CallRow) Failure) (failure : Failure) → result ≡ Err failure
+    pub below_stop : (old mid new : List Entry) (result : Result (List CallRow) Failure) (failure : Failure) → result ≡ Err failure
         → TaskLeads (by_names w compilation given base analysis settled config root_key called is_read runner opened rests rank s runs flag) (lift by_name) old mid (Ok bound)
         → HeadsBelow rank (Heads s.planned s.context flag entered runner mid new) result → TaskLeads (by_names w compilation given base analysis settled config root_key called is_read runner opened rests rank s runs flag) whole old new
         (Err failure)
@@ -250,10 +250,10 @@ module _ (w : World) (compilation : Compilation) (given : List Override) (base :
 
   -- a call of its recipe with these groups
   module _ (call : CallRow) (at_rank : call.recipe ≡ rank) (with_groups : call.groups ≡ groups) where
-    below_here : (H : Result (List CallRow) Failure → Type 0) (result : Result (List CallRow) Failure) → HeadsBelow call.recipe H result → HeadsBelow rank H result
+    pub below_here : (H : Result (List CallRow) Failure → Type 0) (result : Result (List CallRow) Failure) → HeadsBelow call.recipe H result → HeadsBelow rank H result
     below_here H result h = subst (λ n. HeadsBelow n H result) at_rank h
 
-    binds_here : (old new : List Entry) (result : Result EnteredRow Failure) → Binds s.planned s.context flag call.groups old new result → Binds s.planned s.context flag groups old new result
+    pub binds_here : (old new : List Entry) (result : Result EnteredRow Failure) → Binds s.planned s.context flag call.groups old new result → Binds s.planned s.context flag groups old new result
     binds_here old new result h = subst (λ gs. Binds s.planned s.context flag gs old new result) with_groups h
 
     pub begun_on : (old new : List Entry) (result : Result (EnteredRow × List CallRow) Failure) (entered : EnteredRow) (calls : List CallRow) → result ≡ Ok (entered, calls) → BeginsAt runner s.planned s.context call flag old new result

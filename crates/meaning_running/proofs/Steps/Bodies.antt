@@ -19,16 +19,18 @@ use Rattle.parse_attributed_items.specs.Fitting.{options_among}
 use Rattle.parse_attributed_items.specs.Options.{HasOptions, ParameterOptions, meant_for, options_in as options_of}
 use Rattle.parse_expressions.specs.Literals.{Expansion}
 use Rattle.resolve_analysis.specs.declared.analysis.Analysis.{Analysis}
-use Rattle.analyze_calls.specs.Around.{IsOwnSite, RunsBody}
+use Rattle.analyze_calls.specs.Around.{BodyBegins, IsOwnSite, RunsBody, own_reading, own_stage}
 use Rattle.analyze_calls.specs.Entered.{EnteredRow}
 use Rattle.analyze_calls.specs.declared.plan.Runner.{Runner}
-use Rattle.justfile_evaluator.specs.Bodies.{IsSiteOf, NamedBody, task_of}
+use Rattle.evaluate_expressions.specs.Situations.{reading_at, stage_at}
+use Rattle.evaluate_expressions.specs.declared.evaluator.Evaluator.{Evaluator}
+use Rattle.justfile_evaluator.specs.Bodies.{IsBodyOf, IsSiteOf, NamedBody, task_of}
 use Rattle.justfile_evaluator.specs.declared.site.Site.{Site}
 use Rattle.meaning_calls.specs.Scopes.{Configuration, Scene, formals_from}
 use Rattle.meaning_calls.specs.Named.{RecipeRow}
 use Rattle.meaning_rules.specs.Fixed.{options_in}
 use Rattle.meaning_runs.specs.Failures.{Failure}
-use Rattle.meaning_runs.specs.Task.{TaskLeads}
+use Rattle.meaning_runs.specs.Task.{TaskBegins, TaskLeads}
 use Rattle.meaning_stages.specs.Parameters.{Bound, formal_of}
 use Rattle.meaning_parameters.specs.Bindings.{words_passed}
 use Rattle.meaning_worlds.specs.Given.{Text, World}
@@ -112,15 +114,24 @@ module _ (w : World) (compilation : Compilation) (given : List Override) (base :
         (environment_is b p site (has_place w compilation given base analysis settled config root_key called is_read runner opened rests rank s entered bound is flag (reading_in s.o.values) reached)
         (record { context = own.context_is; env = own.env; scope = own.scope }) (has_words site own))
 
-    -- its body, by an evaluator that stands there, where its lines and the interpreter that it names are known, and functions are those by name
-    pub body_goes : HasFunctions b p → All (λ (line : Line). FragmentsKnown b p line.fragments.items) s.planned.recipe.now.body.items → IsScriptKnown b p s.planned.recipe.now.attributes
-        → (old new : List Entry) (result : Result (Unit {0}) Failure) → RunsBody s.planned s.context flag entered old new result → TaskLeads b.reading (task_of b) old new result
-    body_goes functions lines script old new result r =
-        r.goes b (body_is b p r.evaluator r.site s.planned.recipe.now.body.items
-        (record {
-          stage = r.stage;
-          reading = r.reading;
-          place = has_place w compilation given base analysis settled config root_key called is_read runner opened rests rank s entered bound is flag (reading_in s.o.values) reached;
-          functions = functions;
-        })
-        (own_site r.site r.is_own) refl lines (subst (IsScriptKnown b p) (sym r.is_own.attributes) script))
+    module _ (functions : HasFunctions b p) (lines : All (λ (line : Line). FragmentsKnown b p line.fragments.items) s.planned.recipe.now.body.items) (script : IsScriptKnown b p s.planned.recipe.now.attributes) where
+      -- its body by an evaluator that stands there is its body by name, where its lines and the interpreter that it names are known, and functions are those by name
+      body_here_is : (evaluator : Evaluator) (site : Site) → stage_at evaluator ≡ own_stage s.planned s.context flag entered → reading_at evaluator ≡ own_reading s.planned s.context flag entered → IsOwnSite s.planned s.context flag entered site
+          → IsBodyOf b site evaluator s.planned.recipe.now.body.items
+      body_here_is evaluator site stage reading own =
+          body_is b p evaluator site s.planned.recipe.now.body.items
+          (record {
+            stage = stage;
+            reading = reading;
+            place = has_place w compilation given base analysis settled config root_key called is_read runner opened rests rank s entered bound is flag (reading_in s.o.values) reached;
+            functions = functions;
+          })
+          (own_site site own) refl lines (subst (IsScriptKnown b p) (sym own.attributes) script)
+
+      -- it leads by names as it does by places
+      pub body_goes : (old new : List Entry) (result : Result (Unit {0}) Failure) → RunsBody s.planned s.context flag entered old new result → TaskLeads b.reading (task_of b) old new result
+      body_goes old new result r = r.goes b (body_here_is r.evaluator r.site r.stage r.reading r.is_own)
+
+      -- what was recorded of it by places is a beginning of what it records by names
+      pub body_begins : (old new : List Entry) → BodyBegins s.planned s.context flag entered old new → TaskBegins b.reading (task_of b) old new
+      body_begins old new r = r.begins b (body_here_is r.evaluator r.site r.stage r.reading r.is_own)

@@ -7,7 +7,7 @@ use Rattle.modules_compilation.specs.declared.compilation.Compilation.{Compilati
 use Rattle.resolve_analysis.specs.Opening.{Runs}
 use Rattle.resolve_analysis.specs.declared.analysis.Analysis.{Analysis}
 use Rattle.justfile_evaluator.specs.Bodies.{NamedBody, task_of}
-use Rattle.analyze_calls.specs.Around.{RunsBody, Tails, fails, own_reading, own_stage, runs as runs_then, subsequent_calls}
+use Rattle.analyze_calls.specs.Around.{BodyBegins, RunsBody, Tails, fails, own_reading, own_stage, runs as runs_then, subsequent_calls}
 use Rattle.analyze_calls.specs.Calls.{CallRow}
 use Rattle.analyze_calls.specs.Entered.{EnteredRow}
 use Rattle.analyze_calls.specs.declared.plan.Runner.{Runner}
@@ -16,7 +16,7 @@ use Rattle.meaning_dialogues.specs.Faults.{Fault}
 use Rattle.meaning_stages.specs.Parameters.{Bound}
 use Rattle.meaning_runs.specs.Acts.{finish}
 use Rattle.meaning_runs.specs.Failures.{Failure, evaluation}
-use Rattle.meaning_runs.specs.Task.{Task, TaskLeads, as_failure, lift, ◌>>=◌}
+use Rattle.meaning_runs.specs.Task.{Task, TaskBegins, TaskLeads, as_failure, lift, ◌>>=◌}
 use Rattle.meaning_runs.proofs.Tasks.{lift_goes}
 use Rattle.meaning_worlds.specs.Given.{Text, World}
 use Rattle.meaning_overriding.specs.Texts.{overrides_of}
@@ -29,7 +29,7 @@ use Rattle.meaning_grounds.specs.Alike.{configuration_of}
 use Rattle.meaning_running.specs.Entered.{IsEnteredIn}
 use Rattle.meaning_running.specs.Steps.{RestsOn, defined, named}
 use Rattle.meaning_running.proofs.Steps.Blocks.{AreBrought, body_now, subsequents_go}
-use Rattle.meaning_running.proofs.Steps.Bodies.{body_goes}
+use Rattle.meaning_running.proofs.Steps.Bodies.{body_begins, body_goes}
 use Rattle.meaning_running.proofs.Steps.Expressions.{is_reached}
 use Rattle.meaning_running.proofs.Steps.Known.{has_functions}
 use Rattle.meaning_running.proofs.Steps.Lines.{lines_known, script_known}
@@ -42,28 +42,36 @@ module _ (w : World) (compilation : Compilation) (given : List Override) (base :
     (called : List ℕ) (is_read : ℕ → Bool) (runner : Runner) (opened : List Opened) (rests : RestsOn w compilation given base analysis settled config root_key called is_read runner opened)
     (rank : ℕ) (s : Stands w compilation given base analysis settled config root_key called is_read runner opened rests rank)
     (runs : Runs analysis.table.value.recipes.items config.no_dependencies called rank) (flag : Bool) (entered : EnteredRow) (bound : Bound) (is : IsEnteredIn s.planned s.context entered bound) where
-  abbrev b : NamedBody
+  abbrev pub b : NamedBody
   b = body_now w compilation given base analysis settled config root_key called is_read runner opened rests rank s runs flag entered bound is
 
   abbrev Brought : List CallRow → List Call → Type 0
   Brought calls names = AreBrought w compilation given base analysis settled config root_key called is_read runner opened rests rank s runs flag entered bound is calls names
 
-  abbrev after_names : Dialogue (List Call)
+  abbrev pub after_names : Dialogue (List Call)
   after_names = block_calls b.configuration b.scene b.name b.recipe b.flag (defined w compilation given base analysis settled config root_key) bound b.recipe.subsequents
 
   abbrev after_places : Dialogue (List CallRow)
   after_places = subsequent_calls runner s.planned s.context.config.now (own_stage s.planned s.context flag entered)
 
   -- the end of the call by names
-  abbrev whole : Task (List Call)
+  abbrev pub whole : Task (List Call)
   whole = task_of b >>= λ u. lift after_names
 
   body_leads : (old new : List Entry) (result : Result (Unit {0}) Failure) → RunsBody s.planned s.context flag entered old new result → TaskLeads b.reading (task_of b) old new result
-  body_leads old new result = body_goes w compilation given base analysis settled config root_key called is_read runner opened rests rank s flag entered bound is
+  body_leads = body_goes w compilation given base analysis settled config root_key called is_read runner opened rests rank s flag entered bound is
       (is_reached w compilation given base analysis settled config root_key called is_read runner opened rests rank s runs flag entered bound is)
       (has_functions w compilation given base analysis settled config root_key called is_read runner opened rests rank s runs flag entered bound is)
       (lines_known w compilation given base analysis settled config root_key called is_read runner opened rests rank s runs flag entered bound is)
-      (script_known w compilation given base analysis settled config root_key called is_read runner opened rests rank s runs flag entered bound is) old new result
+      (script_known w compilation given base analysis settled config root_key called is_read runner opened rests rank s runs flag entered bound is)
+
+  -- what was recorded of its body by places is a beginning of what its body by name records
+  pub its_body_begins : (old new : List Entry) → BodyBegins s.planned s.context flag entered old new → TaskBegins b.reading (task_of b) old new
+  its_body_begins = body_begins w compilation given base analysis settled config root_key called is_read runner opened rests rank s flag entered bound is
+      (is_reached w compilation given base analysis settled config root_key called is_read runner opened rests rank s runs flag entered bound is)
+      (has_functions w compilation given base analysis settled config root_key called is_read runner opened rests rank s runs flag entered bound is)
+      (lines_known w compilation given base analysis settled config root_key called is_read runner opened rests rank s runs flag entered bound is)
+      (script_known w compilation given base analysis settled config root_key called is_read runner opened rests rank s runs flag entered bound is)
 
   on_result : (end : Result (List CallRow) Fault) (calls : List CallRow) (old new : List Entry) → (◌≡◌ {A = Result (List CallRow) Failure} (Ok calls) (as_failure end))
       → DialogueGoes (own_reading s.planned s.context flag entered) after_places old new end

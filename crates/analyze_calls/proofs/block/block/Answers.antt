@@ -3,8 +3,9 @@ use Rattle.std.proofs.lemmas.Result.{err_from_is_err_and}
 use Rattle.std.proofs.lemmas.Slice.Zip.{either_empty_from_Zip}
 use Rattle.std.specs.Slice.Iter.{iter_rest}
 use Rattle.evaluate_expressions.specs.Situations.{reading_at, stage_at}
+use Rattle.meaning_dialogues.proofs.Dialogues.{not_begun}
 use Rattle.analyze_calls.specs.Calls.{rows}
-use Rattle.analyze_calls.proofs.Blocks.{rows_append, calls_first, calls_more, calls_stop, calls_end}
+use Rattle.analyze_calls.proofs.Blocks.{rows_append, calls_first, calls_memory, calls_more, calls_stop, calls_end}
 use Rattle.analyze_calls.proofs.block.block.Goals as goal
 
 pub loop-dependency-init : goal.loop-dependency-init
@@ -13,6 +14,24 @@ loop-dependency-init g c =
     let ps : iter_rest c.into_iter-dependency-iterator.result.b ≡ c.args.places.now = search rules in
     let none : rows c.in_ok-calls.calls.items ≡ [] = search rules in
     record { asks = λ kinds questions start asked. asked; leads = rw (ds, ps, none) (calls_first (reading_at c.args.evaluator.now) c.args.runner.now (stage_at c.args.evaluator.now) c.args.dependencies.now c.args.places.now c.args.host.now.entries) }
+
+pub returns-in_err-calls-clause-evaluates : goal.returns-in_err-calls-clause-evaluates
+returns-in_err-calls-clause-evaluates g c =
+    let p = err_from_is_err_and c.from_residual.result c.from_residual.ensures.1 in
+    rw (p.1, p.2) (not_begun _ _)
+
+pub returns-in_err-append-clause-evaluates : goal.returns-in_err-append-clause-evaluates
+returns-in_err-append-clause-evaluates g c =
+    let l = c.loop-dependency in
+    let d = c.in-Some.dependency.now in
+    let q = c.in-Some.place.now in
+    let ds : iter_rest l.dependency-iterator.a ≡ d ∷ iter_rest c.next.new.self.a = search rules in
+    let ps : iter_rest l.dependency-iterator.b ≡ q ∷ iter_rest c.next.new.self.b = search rules in
+    let same : c.as_slice-arguments.result.now ≡ d.arguments.items = search rules in
+    let p = err_from_is_err_and c.from_residual-in_err-append.result c.from_residual-in_err-append.ensures.1 in
+    rw (p.1, p.2)
+    (calls_memory (reading_at c.args.evaluator.now) c.args.runner.now (stage_at c.args.evaluator.now) c.args.dependencies.now (iter_rest c.next.new.self.a) c.args.places.now (iter_rest c.next.new.self.b) c.args.host.now.entries c.calls_at.new.host.entries (rows l.calls.items ++ rows c.in_ok-brought.brought.items)
+    (calls_more (reading_at c.args.evaluator.now) c.args.runner.now (stage_at c.args.evaluator.now) c.args.dependencies.now (iter_rest l.dependency-iterator.a) c.args.places.now (iter_rest l.dependency-iterator.b) c.args.host.now.entries l.host.entries c.calls_at.new.host.entries (rows l.calls.items) l.invariant.leads d (iter_rest c.next.new.self.a) q (iter_rest c.next.new.self.b) _ ds ps (rw same at c.in_ok-brought.ensures.evaluates)))
 
 pub returns-in_err-brought-clause-evaluates : goal.returns-in_err-brought-clause-evaluates
 returns-in_err-brought-clause-evaluates g c =

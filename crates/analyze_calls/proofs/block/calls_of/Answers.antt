@@ -14,7 +14,7 @@ returns-in_err-values-clause-evaluates g c =
 pub returns-in_err-push_calls-clause-evaluates : goal.returns-in_err-push_calls-clause-evaluates
 returns-in_err-push_calls-clause-evaluates g c =
     let p = err_from_is_err_and c.from_residual-in_err-push_calls.result c.from_residual-in_err-push_calls.ensures.1 in
-    rw (p.1, p.2) (brings_memory (reading_at c.args.evaluator.now) (brings (stage_at c.args.evaluator.now) c.args.callee.place c.args.callee.parameters.now c.args.written.now) c.args.host.now.entries c.arguments.new.host.entries)
+    rw (p.1, p.2) (brings_memory (reading_at c.args.evaluator.now) (stage_at c.args.evaluator.now) c.args.callee.place c.args.written.now c.args.callee.parameters.now c.args.host.now.entries c.arguments.new.host.entries _ c.in_ok-values.ensures.evaluates)
 
 pub returns-clause-evaluates : goal.returns-clause-evaluates
 returns-clause-evaluates g c =

@@ -9,7 +9,7 @@ use Rattle.analyze_calls.proofs.confirm.ask_usual.Goals as goal
 pub returns-in_err-text-clause-performs : goal.returns-in_err-text-clause-performs
 returns-in_err-text-clause-performs g c = λ reading stage.
     let p = err_from_is_err_and c.from_residual.result c.from_residual.ensures.1 in
-    rw (p.1, p.2) (performs_memory reading (confirming stage (lexeme c.args.recipe.token) (Some None)) c.args.host.now c.args.host.now)
+    rw (p.1, p.2) (performs_memory reading (confirming stage (lexeme c.args.recipe.token) (Some None)) c.args.host.now)
 
 pub returns-clause-performs : goal.returns-clause-performs
 returns-clause-performs g c = λ reading stage.

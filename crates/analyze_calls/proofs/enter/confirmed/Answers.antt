@@ -2,7 +2,7 @@ use Rattle.std.proofs.Common.{rules, ◌≡◌, ◌∙◌, ap}
 use Rattle.std.proofs.lemmas.Result.{err_from_is_err_and}
 use Rattle.evaluate_expressions.specs.Situations.{reading_at, stage_at}
 use Rattle.evaluate_variables.specs.Given.{stage_with}
-use Rattle.meaning_bodies.proofs.Performing.{open_asked}
+use Rattle.meaning_bodies.proofs.Performing.{stays_asked}
 use Rattle.meaning_parameters.specs.Bindings.{run_reading}
 use Rattle.justfile_evaluator.proofs.Silence.{evaluation_told}
 use Rattle.analyze_calls.specs.Around.{own_reading, own_stage}
@@ -32,7 +32,7 @@ returns-in_err-block_unless-clause-performs g c = λ is.
     rw (p.1, p.2) (head_refuses c.args.runner.now planned context.config.now (own_stage planned context flag entered) (stage_at c.evaluator-evaluator.result) (own_reading planned context flag entered) (reading_at c.evaluator-evaluator.result)
     (c.evaluator-evaluator.ensures.stage ∙ ap (stage_with context flag planned.recipe.now.name entered.env) is) (c.evaluator-evaluator.ensures.reading ∙ ap (λ here. run_reading here context.scope.now) is)
     c.args.host.now c.confirm_unless.new.host c.block_unless.new.host _ c.in_ok-confirm_unless.ensures.performs
-    (open_asked g.H.Host.goes g.met.H.Host.nothing c.confirm_unless.new.host c.block_unless.new.host c.in_err-block_unless.ensures.asks) (rw same at c.in_err-block_unless.ensures.evaluates))
+    (stays_asked g.H.Host.goes g.met.H.Host.nothing c.confirm_unless.new.host c.block_unless.new.host c.in_err-block_unless.ensures.asks) (rw same at c.in_err-block_unless.ensures.evaluates))
 
 pub returns-clause-performs : goal.returns-clause-performs
 returns-clause-performs g c = λ is.
@@ -44,7 +44,7 @@ returns-clause-performs g c = λ is.
     head_brings c.args.runner.now planned context.config.now (own_stage planned context flag entered) (stage_at c.evaluator-evaluator.result) (own_reading planned context flag entered) (reading_at c.evaluator-evaluator.result)
     (c.evaluator-evaluator.ensures.stage ∙ ap (stage_with context flag planned.recipe.now.name entered.env) is) (c.evaluator-evaluator.ensures.reading ∙ ap (λ here. run_reading here context.scope.now) is)
     c.args.host.now c.confirm_unless.new.host c.block_unless.new.host _ c.in_ok-confirm_unless.ensures.performs
-    (open_asked g.H.Host.goes g.met.H.Host.nothing c.confirm_unless.new.host c.block_unless.new.host c.in_ok-block_unless.ensures.asks) (rw same at c.in_ok-block_unless.ensures.evaluates)
+    (stays_asked g.H.Host.goes g.met.H.Host.nothing c.confirm_unless.new.host c.block_unless.new.host c.in_ok-block_unless.ensures.asks) (rw same at c.in_ok-block_unless.ensures.evaluates)
 
 pub returns-in_err-confirm_unless-clause-told : goal.returns-in_err-confirm_unless-clause-told
 returns-in_err-confirm_unless-clause-told g c =

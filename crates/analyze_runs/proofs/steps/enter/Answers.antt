@@ -1,7 +1,10 @@
 use Rattle.std.proofs.Common.{sym, refl}
 use Rattle.analyze_calls.specs.Calls.{row_of}
 use Rattle.analyze_runs.specs.Steps.{Begins, BeginsAt, begun, here, nowhere}
+use Rattle.meaning_dialogues.specs.Faults.{memory}
+use Rattle.meaning_runs.specs.Failures.{evaluation}
 use Rattle.analyze_runs.proofs.Beginnings.{given_as}
+use Rattle.analyze_runs.proofs.Begun.{lost_begun}
 use Rattle.analyze_runs.proofs.steps.enter.Goals as goal
 
 pub returns-in_default-clause-goes : goal.returns-in_default-clause-goes
@@ -13,3 +16,9 @@ returns-clause-goes g c =
     (BeginsAt c.args.runner.now c.in-Some.placed.planned.now c.in-Some.placed.context.now (row_of c.args.call.now) c.args.is_dependency c.args.host.now.entries c.enter_placed.new.host.entries)
     (Begins c.args.runner.now (row_of c.args.call.now) c.args.is_dependency c.args.host.now.entries c.enter_placed.new.host.entries)
     (λ r h. here (sym c.in-Some.ensures) h) c.enter_placed.ensures.goes
+
+pub returns-in_default-clause-begun : goal.returns-in_default-clause-begun
+returns-in_default-clause-begun g c = lost_begun c.args.runner.now (row_of c.args.call.now) c.args.is_dependency c.args.host.now.entries (evaluation memory) (sym c.in_default.ensures)
+
+pub returns-clause-begun : goal.returns-clause-begun
+returns-clause-begun g c = c.enter_placed.ensures.begun (sym c.in-Some.ensures)

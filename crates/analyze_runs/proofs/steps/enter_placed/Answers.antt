@@ -7,6 +7,7 @@ use Rattle.analyze_calls.specs.Entered.{entered_of}
 use Rattle.analyze_calls.specs.declared.call.Call.{Call}
 use Rattle.analyze_calls.specs.declared.enter.Entered.{Entered}
 use Rattle.analyze_runs.proofs.Beginnings.{unbound_at, headless_at, begins_at}
+use Rattle.analyze_runs.proofs.Begun.{head_begun, unbound_begun}
 use Rattle.analyze_runs.proofs.steps.enter_placed.Goals as goal
 
 pub returns-in_err-entered-clause-goes : goal.returns-in_err-entered-clause-goes
@@ -43,3 +44,23 @@ pub returns-in_err-priors-clause-told : goal.returns-in_err-priors-clause-told
 returns-in_err-priors-clause-told g c =
     let p = err_from_is_err_and c.from_residual-in_err-priors.result c.from_residual-in_err-priors.ensures.1 in
     rw (p.1, p.2) c.in_err-priors.ensures.told
+
+-- a step that was cut, or one that could not be bound
+pub returns-in_err-entered-clause-begun : goal.returns-in_err-entered-clause-begun
+returns-in_err-entered-clause-begun g c = λ there.
+    let is : c.as_slice-groups.result.now ≡ c.args.call.now.groups.items = search rules in
+    unbound_begun c.args.runner.now c.args.placed.now.planned.now c.args.placed.now.context.now (row_of c.args.call.now) c.args.is_dependency there c.as_slice-groups.result.now is c.args.host.now.entries c.boxed.new.host.entries _ c.in_err-entered.ensures.binds
+
+pub returns-in_err-priors-clause-begun : goal.returns-in_err-priors-clause-begun
+returns-in_err-priors-clause-begun g c = λ there.
+    let is : c.as_slice-groups.result.now ≡ c.args.call.now.groups.items = search rules in
+    head_begun c.args.runner.now c.args.placed.now.planned.now c.args.placed.now.context.now (row_of c.args.call.now) c.args.is_dependency there c.as_slice-groups.result.now is
+    c.deref.result.now.is_dependency (entered_of c.in_ok-entered.entered.value) (entered_of c.deref.result.now) c.args.host.now.entries c.boxed.new.host.entries c.priors.new.host.entries
+    (ap (λ e. e.is_dependency) c.deref.ensures ∙ c.in_ok-entered.ensures.flag) (ap entered_of c.deref.ensures) c.in_ok-entered.ensures.binds c.in_err-priors.ensures.begun
+
+pub returns-clause-begun : goal.returns-clause-begun
+returns-clause-begun g c = λ there.
+    let is : c.as_slice-groups.result.now ≡ c.args.call.now.groups.items = search rules in
+    head_begun c.args.runner.now c.args.placed.now.planned.now c.args.placed.now.context.now (row_of c.args.call.now) c.args.is_dependency there c.as_slice-groups.result.now is
+    c.deref.result.now.is_dependency (entered_of c.in_ok-entered.entered.value) (entered_of c.deref.result.now) c.args.host.now.entries c.boxed.new.host.entries c.priors.new.host.entries
+    (ap (λ e. e.is_dependency) c.deref.ensures ∙ c.in_ok-entered.ensures.flag) (ap entered_of c.deref.ensures) c.in_ok-entered.ensures.binds c.in_ok-priors.ensures.begun

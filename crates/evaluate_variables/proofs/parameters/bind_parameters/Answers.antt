@@ -7,7 +7,7 @@ use Rattle.std.specs.Slice.Iter.{iter_rest}
 use Rattle.just_text.specs.Tokens.{lexeme}
 use Rattle.just_value.specs.Frames.{value_binding}
 use Rattle.meaning_stages.specs.Parameters.{bound_value, formal_of}
-use Rattle.meaning_parameters.proofs.Parameters.{binds_first, binds_more, binds_stop, binds_refused, binds_end, none_left}
+use Rattle.meaning_parameters.proofs.Parameters.{binds_first, binds_memory, binds_more, binds_stop, binds_refused, binds_end, none_left}
 use Rattle.evaluate_variables.specs.Given.{AreCounted, lists_of, stage_for}
 use Rattle.evaluate_variables.proofs.Rows.{more_rows, no_rows}
 use Rattle.evaluate_variables.proofs.SameStage.{same_stage}
@@ -66,6 +66,24 @@ returns-in_err-check_count-clause-evaluates g c = λ may counts always counted n
     let stopped = binds_refused here there stage site.is_dependency (lexeme site.recipe.token) counts site.passes_words (lists_of site) formals groups none l.scope l.invariant.lies _ _ _ _ _ _ h.1 (formal_of p) _ q _ (ap (map formal_of) ps) qs v given refused in
     rw (e.1, e.2, c.in_err-check_count.ensures.fault, long) stopped
 
+pub returns-in_err-bind_parameter-clause-evaluates : goal.returns-in_err-bind_parameter-clause-evaluates
+returns-in_err-bind_parameter-clause-evaluates g c = λ may counts always counted none.
+    let l = c.loop-parameter in
+    let site = c.args.site.now in
+    let here = c.args.scope.now in
+    let there = site.context.now.scope.now in
+    let stage = stage_for site c.args.env.now here in
+    let formals = map formal_of c.args.parameters.now in
+    let groups = c.args.groups.now in
+    let p = c.in-Some.parameter.now in
+    let q = c.in-Some.group.now in
+    let ps : iter_rest l.parameter-iterator.a ≡ p ∷ iter_rest c.next.new.self.a = search rules in
+    let qs : iter_rest l.parameter-iterator.b ≡ q ∷ iter_rest c.next.new.self.b = search rules in
+    let h = l.invariant.binds may counts always counted none in
+    let e = err_from_is_err_and c.from_residual-in_err-bind_parameter.result c.from_residual-in_err-bind_parameter.ensures.1 in
+    let given = rw (same_stage site c.args.env.now l.scope here l.invariant.lies) at c.in_ok-value.ensures.evaluates in
+    rw (e.1, e.2) (binds_memory here there stage site.is_dependency (lexeme site.recipe.token) counts site.passes_words (lists_of site) formals groups none l.scope l.invariant.lies _ _ _ _ _ _ h.1 (formal_of p) _ q _ (ap (map formal_of) ps) qs _ given)
+
 pub loop-parameter-preserved : goal.loop-parameter-preserved
 loop-parameter-preserved g c =
     let l = c.loop-parameter in
@@ -106,3 +124,6 @@ returns-in_err-value-clause-asks g c = λ kinds has start asked. c.in_err-value.
 
 pub returns-in_err-check_count-clause-asks : goal.returns-in_err-check_count-clause-asks
 returns-in_err-check_count-clause-asks g c = λ kinds has start asked. c.in_ok-value.ensures.asks kinds has start (c.loop-parameter.invariant.asks kinds has start asked)
+
+pub returns-in_err-bind_parameter-clause-asks : goal.returns-in_err-bind_parameter-clause-asks
+returns-in_err-bind_parameter-clause-asks g c = λ kinds has start asked. c.in_ok-value.ensures.asks kinds has start (c.loop-parameter.invariant.asks kinds has start asked)

@@ -80,3 +80,6 @@ pub returns-clause-rows : goal.returns-clause-rows
 returns-clause-rows g c = λ none.
     let ps : c.deref.result.now ≡ c.args.recipe.now.parameters.items = search rules in
     rw ps at (c.in_ok-positional.ensures.rows none)
+
+pub returns-clause-asks : goal.returns-clause-asks
+returns-clause-asks g c = λ kinds has start asked. c.in_ok-positional.ensures.asks kinds has start (c.in_ok-env.ensures.asks kinds has start asked)

@@ -31,7 +31,7 @@ returns-in-Task-clause-words g c = λ same all.
     let asked = (subst (λ words. IsAskedFor c.args.compilation.now c.args.analysis.now words c.args.action c.in_ok-request.request) c.as_slice-words.ensures (c.in_ok-request.ensures.meant same all)) in
     clear (asked_means c.args.compilation.now c.args.analysis.now c.args.words.now.arguments c.args.action c.in_ok-request.request asked)
     (late_are_unruled c.drive_task.result c.drive_task.ensures.late)
-    (does c.in-Task.task (subst (IsAskedFor c.args.compilation.now c.args.analysis.now c.args.words.now.arguments c.args.action) c.in-Task.is asked) c.drive_task.ensures.ends)
+    (does c.in-Task.task (subst (IsAskedFor c.args.compilation.now c.args.analysis.now c.args.words.now.arguments c.args.action) c.in-Task.is asked) c.drive_task.ensures.ends c.drive_task.ensures.begun)
 
 pub returns-in-Plan-clause-words : goal.returns-in-Plan-clause-words
 returns-in-Plan-clause-words g c = λ same all.

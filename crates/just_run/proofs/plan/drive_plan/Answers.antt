@@ -5,7 +5,7 @@ use Rattle.just_host.specs.Steps.{idle}
 use Rattle.run_plan.specs.Plans.{plan_text}
 use Rattle.run_tasks.specs.declared.task.Task.TheVariants as tasks
 use Rattle.just_run.proofs.Added.{every_run}
-use Rattle.just_run.proofs.Ran.{all_asked, from_nothing, plan_ends, sufficed_where}
+use Rattle.just_run.proofs.Ran.{all_asked, begun_from_nothing, from_nothing, plan_ends, sufficed_where}
 use Rattle.just_run.proofs.plan.drive_plan.Goals as goal
 
 pub returns-clause-planned : goal.returns-clause-planned
@@ -42,4 +42,5 @@ returns-clause-ends g c =
       performed = c.perform_task-performed.result;
       ended = plan_ends c.text_of-text.result c.ended.result c.write_plan.result (tasks.Run c.args.calls) c.perform_task-performed.result c.perform_task-performed.new.host.exhausted _ c.ended.ensures.told (sufficed_where c.text_of-text.result c.text_of-text.ensures.sufficed) c.write_plan.ensures.sent
           (from_nothing c.args.compilation.now c.args.analysis.now c.args.config.now c.args.root.now (tasks.Run c.args.calls) c.perform_task-performed.new.host.exhausted c.perform_task-performed.result _ _ step.part start grown c.perform_task-performed.ensures.performs);
+      begun = begun_from_nothing c.args.compilation.now c.args.analysis.now c.args.config.now c.args.root.now (tasks.Run c.args.calls) _ _ step.part start grown c.perform_task-performed.ensures.begun;
     }

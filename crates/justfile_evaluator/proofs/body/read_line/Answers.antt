@@ -2,6 +2,7 @@ use Rattle.std.proofs.Common.{refl}
 use Rattle.std.proofs.lemmas.Result.{err_from_is_err_and}
 use Rattle.std.specs.String.{string_bytes}
 use Rattle.tree_items.specs.Lines.{pieces_of}
+use Rattle.evaluate_expressions.proofs.WantOfMemory.{unless_memory}
 use Rattle.justfile_evaluator.proofs.Lines.{was_read}
 use Rattle.justfile_evaluator.proofs.body.read_line.Goals as goal
 
@@ -13,7 +14,7 @@ returns-in_err-text-clause-reads g c = λ b same means sound.
 pub returns-in_err-put-clause-reads : goal.returns-in_err-put-clause-reads
 returns-in_err-put-clause-reads g c = λ b same means sound.
     let e = err_from_is_err_and c.from_residual-in_err-put.result c.from_residual-in_err-put.ensures.1 in
-    rw (e.1, e.2) (record { goes = λ n. absurd (n refl) })
+    rw (e.1, e.2) (means.by_name c.args.command.now.is_open _ _ _ (unless_memory c.in_ok-text.ensures.evaluates (λ n. absurd (n refl))))
 
 pub returns-clause-reads : goal.returns-clause-reads
 returns-clause-reads g c = λ b same means sound.

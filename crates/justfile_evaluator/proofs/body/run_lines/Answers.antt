@@ -1,7 +1,7 @@
 use Rattle.std.proofs.Common.{Ok, Err, rules, ◌≡◌, ◌+◌, ◌∷◌, ◌<◌, ◌≤◌, drop, false, get_or, length, map, refl, true, arith, subst, List}
 use Rattle.std.proofs.lemmas.Result.{err_from_is_err_and}
 use Rattle.tree_items.specs.Lines.{pieces_of, Piece}
-use Rattle.meaning_bodies.proofs.Performing.{open_worked}
+use Rattle.meaning_bodies.proofs.Performing.{stays_worked}
 use Rattle.justfile_evaluator.specs.Bodies.{MeansLine, NamedBody}
 use Rattle.justfile_evaluator.specs.Turns.{GoesOn}
 use Rattle.justfile_evaluator.proofs.Lines.{at_line, no_line, line_means, begins, ends_closed, ends_open, turned_false, turned_true}
@@ -66,7 +66,7 @@ returns-in_err-_goes_on-clause-performs g c = λ b h.
     let is_open : l.progress.command.is_open ≡ true = search rules in
     let goes_on = l.invariant.goes_on b h in
     let e = err_from_is_err_and c.from_residual-in_err-_goes_on.result c.from_residual-in_err-_goes_on.ensures.1 in
-    rw (e.1, e.2) (ends_open b c.args.site.now h.site c.args.host.now l.host _ l.progress.command _ (Err c.in_err-_goes_on.field-0.0) goes_on (no_line c.args.body.now l.line-index le) is_open (open_worked g.H.Host.goes g.met.H.Host.nothing _ _ _ c.in_err-_goes_on.ensures.asks) (c.in_err-_goes_on.ensures.performs b h.site l.invariant.held (goes_on.sound is_open)))
+    rw (e.1, e.2) (ends_open b c.args.site.now h.site c.args.host.now l.host _ l.progress.command _ (Err c.in_err-_goes_on.field-0.0) goes_on (no_line c.args.body.now l.line-index le) is_open (stays_worked g.H.Host.goes g.met.H.Host.nothing _ _ _ c.in_err-_goes_on.ensures.asks) (c.in_err-_goes_on.ensures.performs b h.site l.invariant.held (goes_on.sound is_open)))
 
 pub returns-clause-performs : goal.returns-clause-performs
 returns-clause-performs g c = λ b h.
@@ -74,7 +74,7 @@ returns-clause-performs g c = λ b h.
     let le : length c.args.body.now ≤ l.line-index = omega arith in
     let is_open : l.progress.command.is_open ≡ true = search rules in
     let goes_on = l.invariant.goes_on b h in
-    ends_open b c.args.site.now h.site c.args.host.now l.host _ l.progress.command _ (Ok c.in_ok-_goes_on._goes_on) goes_on (no_line c.args.body.now l.line-index le) is_open (open_worked g.H.Host.goes g.met.H.Host.nothing _ _ _ c.in_ok-_goes_on.ensures.asks) (c.in_ok-_goes_on.ensures.performs b h.site l.invariant.held (goes_on.sound is_open))
+    ends_open b c.args.site.now h.site c.args.host.now l.host _ l.progress.command _ (Ok c.in_ok-_goes_on._goes_on) goes_on (no_line c.args.body.now l.line-index le) is_open (stays_worked g.H.Host.goes g.met.H.Host.nothing _ _ _ c.in_ok-_goes_on.ensures.asks) (c.in_ok-_goes_on.ensures.performs b h.site l.invariant.held (goes_on.sound is_open))
 
 pub returns-in_err-turn_line-clause-asks : goal.returns-in_err-turn_line-clause-asks
 returns-in_err-turn_line-clause-asks g c = λ kinds questions user work start asked. c.in_err-turn_line.ensures.asks kinds questions user work start (c.loop-line.invariant.asks kinds questions user work start asked)

@@ -1,9 +1,9 @@
 use Rattle.std.proofs.Common.{rules, ◌≡◌, false, refl, sym, ◌∙◌}
 use Rattle.std.proofs.lemmas.Result.{err_from_is_err_and}
 use Rattle.just_host.specs.KindsLaws.{script_asked}
-use Rattle.meaning_bodies.proofs.Performing.{performs_memory}
+use Rattle.meaning_dialogues.specs.Faults.{memory}
+use Rattle.evaluate_expressions.proofs.WantOfMemory.{unless_memory}
 use Rattle.meaning_bodies.proofs.Scripts.{script_unnamed, script_given}
-use Rattle.justfile_evaluator.specs.Scripts.{handed_of}
 use Rattle.justfile_evaluator.proofs.Scripts.{job_by_name}
 use Rattle.justfile_evaluator.proofs.Silence.{evaluation_told}
 use Rattle.justfile_evaluator.proofs.script.hand_over.Goals as goal
@@ -17,8 +17,11 @@ returns-in_err-words-clause-performs g c = λ b is.
 
 pub returns-in_err-job-clause-performs : goal.returns-in_err-job-clause-performs
 returns-in_err-job-clause-performs g c = λ b is.
+    let lines = c.args.lines.items in
+    let same : c.as_slice.result.now ≡ lines = search rules in
     let p = err_from_is_err_and c.from_residual-in_err-job.result c.from_residual-in_err-job.ensures.1 in
-    rw (p.1, p.2) (performs_memory b.reading (handed_of b false c.args.lines.items) c.args.host.now c.interpreter.new.host)
+    rw (p.1, p.2) (script_unnamed b.configuration b.scene b.name b.recipe b.flag b.bound b.reading g.H.Host.goes false lines c.args.host.now c.interpreter.new.host memory refl
+    (unless_memory (rw same at (c.in_ok-words.ensures.evaluates b (rw same is))) (λ n. absurd (n refl))))
 
 pub returns-clause-asks : goal.returns-clause-asks
 returns-clause-asks g c = λ kinds questions user work start asked.

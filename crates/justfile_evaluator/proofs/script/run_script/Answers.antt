@@ -1,10 +1,11 @@
-use Rattle.std.proofs.Common.{rules, ◌≡◌, true, false, sym, ◌∙◌, subst}
+use Rattle.std.proofs.Common.{rules, ◌≡◌, true, false, refl, sym, ◌∙◌, subst}
 use Rattle.std.proofs.lemmas.Result.{err_from_is_err_and}
-use Rattle.meaning_bodies.proofs.Performing.{open_worked, performs_memory}
+use Rattle.meaning_dialogues.specs.Faults.{memory}
+use Rattle.evaluate_expressions.proofs.WantOfMemory.{unless_memory}
+use Rattle.meaning_bodies.proofs.Performing.{stays_worked}
 use Rattle.meaning_bodies.proofs.Scripts.{script_stop, script_dry}
 use Rattle.meaning_bodies.proofs.Shebangs.{texts_shebang}
 use Rattle.meaning_bodies.specs.Performing.{Performs}
-use Rattle.justfile_evaluator.specs.Bodies.{script_of}
 use Rattle.justfile_evaluator.specs.Ended.{ended}
 use Rattle.justfile_evaluator.specs.Scripts.{handed_of}
 use Rattle.justfile_evaluator.proofs.Scripts.{script_then}
@@ -19,14 +20,15 @@ returns-in_err-lines-clause-performs g c = λ b is.
 pub returns-in_err-show-clause-performs : goal.returns-in_err-show-clause-performs
 returns-in_err-show-clause-performs g c = λ b is.
     let p = err_from_is_err_and c.from_residual-in_err-show.result c.from_residual-in_err-show.ensures.1 in
-    rw (p.1, p.2) (performs_memory b.reading (script_of b) c.args.host.now c.show.new.host)
+    rw (p.1, p.2, c.in_err-show.ensures.unshown) (script_stop b.configuration b.scene b.name b.recipe b.flag b.bound b.reading g.H.Host.goes c.args.host.now c.script_lines.new.host memory
+    (unless_memory (c.in_ok-lines.ensures.evaluates b c.args.site.now is) (λ n. absurd (n refl))))
 
 pub returns-then-site-clause-performs : goal.returns-then-site-clause-performs
 returns-then-site-clause-performs g c = λ b is.
     let same : c.as_slice.result.now ≡ c.in_ok-lines.lines.items = search rules in
     let dry : b.configuration.dry_run ≡ true = sym is.site.configuration.dry_run ∙ c.if-site.true in
     script_then b c.args.site.now is.site g.H.Host.goes c.args.host.now c.script_lines.new.host c.show.new.host c.show.new.host c.in_ok-lines.lines.items _ (c.in_ok-lines.ensures.evaluates b c.args.site.now is)
-    (open_worked g.H.Host.goes g.met.H.Host.nothing _ c.script_lines.new.host c.show.new.host c.in_ok-show.ensures.asks) (λ e. rw same at (c.in_ok-show.ensures.shown e)) c.in_ok-show.ensures.hidden (λ e. e)
+    (stays_worked g.H.Host.goes g.met.H.Host.nothing _ c.script_lines.new.host c.show.new.host c.in_ok-show.ensures.asks) (λ e. rw same at (c.in_ok-show.ensures.shown e)) c.in_ok-show.ensures.hidden (λ full. refl)
     (script_dry b.configuration b.scene b.name b.recipe b.flag b.bound b.reading g.H.Host.goes b.configuration.dry_run c.in_ok-lines.lines.items c.show.new.host dry)
 
 pub returns-clause-performs : goal.returns-clause-performs
@@ -36,8 +38,8 @@ returns-clause-performs g c = λ b is.
     let dry : b.configuration.dry_run ≡ false = sym is.site.configuration.dry_run ∙ c.if-site.false in
     let texts = c.in_ok-lines.ensures.evaluates b c.args.site.now is in
     script_then b c.args.site.now is.site g.H.Host.goes c.args.host.now c.script_lines.new.host c.show.new.host c.hand_over.new.host lines _ texts
-    (open_worked g.H.Host.goes g.met.H.Host.nothing _ c.script_lines.new.host c.show.new.host c.in_ok-show.ensures.asks) (λ e. rw same at (c.in_ok-show.ensures.shown e)) c.in_ok-show.ensures.hidden
-    (open_worked g.H.Host.goes g.met.H.Host.nothing _ c.show.new.host c.hand_over.new.host c.hand_over.ensures.asks)
+    (stays_worked g.H.Host.goes g.met.H.Host.nothing _ c.script_lines.new.host c.show.new.host c.in_ok-show.ensures.asks) (λ e. rw same at (c.in_ok-show.ensures.shown e)) c.in_ok-show.ensures.hidden
+    (stays_worked g.H.Host.goes g.met.H.Host.nothing _ c.show.new.host c.hand_over.new.host c.hand_over.ensures.asks)
     (subst (λ d. Performs b.reading (handed_of b d lines) c.show.new.host c.hand_over.new.host (ended c.hand_over.result)) (sym dry) (c.hand_over.ensures.performs b (record {
       site = is.site;
       interpreter = is.interpreter;

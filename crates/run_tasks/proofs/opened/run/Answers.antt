@@ -14,3 +14,9 @@ returns-in_err-run_calls-clause-performs g c =
 
 pub returns-in_err-run_calls-clause-fits : goal.returns-in_err-run_calls-clause-fits
 returns-in_err-run_calls-clause-fits g c = run_fits c.args.calls _ c.in_err-run_calls.field-0.0 c.from_residual.ensures
+
+pub returns-clause-begun : goal.returns-clause-begun
+returns-clause-begun g c = record { runner = record { recipes = c.args.recipes; contexts = c.args.contexts }; recipes_are = refl; contexts_are = refl; begins = c.in_ok-run_calls.ensures.begun }
+
+pub returns-in_err-run_calls-clause-begun : goal.returns-in_err-run_calls-clause-begun
+returns-in_err-run_calls-clause-begun g c = record { runner = record { recipes = c.args.recipes; contexts = c.args.contexts }; recipes_are = refl; contexts_are = refl; begins = c.in_err-run_calls.ensures.begun }

@@ -4,7 +4,7 @@ use Rattle.just_text.specs.Tokens.{lexeme}
 use Rattle.meaning_dialogues.specs.Evaluation.{interpreter_words}
 use Rattle.meaning_dialogues.proofs.Rows.{lists_first, lists_more}
 use Rattle.evaluate_expressions.specs.Situations.{stage_at, reading_at}
-use Rattle.evaluate_expressions.proofs.InterpreterWords.{all, after_command, words_stop, words_end}
+use Rattle.evaluate_expressions.proofs.InterpreterWords.{all, after_command, words_stop, words_memory, words_end}
 use Rattle.evaluate_expressions.proofs.evaluator.Evaluator.interpreter_text.Goals as goal
 
 pub returns-in_err-words-clause-evaluates : goal.returns-in_err-words-clause-evaluates
@@ -37,6 +37,18 @@ returns-in_err-value-clause-evaluates g c =
     let is : x ≡ get_or items i x = search rules in
     let p = err_from_is_err_and c.from_residual-in_err-value.result c.from_residual-in_err-value.ensures.1 in
     rw (p.1, p.2) (words_stop (reading_at self) (stage_at self) es (lexeme c.args.setting.token) c.args.host.now.entries c.loop-argument.host.entries _ c.loop-argument.words (i + 1) x _ c.loop-argument.invariant.lists (omega arith) (after_command c.args.interpreter.now.command items i x is) c.in_err-value.ensures.evaluates)
+
+pub returns-in_err-append-clause-evaluates : goal.returns-in_err-append-clause-evaluates
+returns-in_err-append-clause-evaluates g c =
+    let self = c.args.self.now in
+    let items = c.args.interpreter.now.arguments.items in
+    let es = c.args.interpreter.now.command ∷ items in
+    let i = c.loop-argument.argument-index in
+    let x = c.argument-item.result in
+    let is : x ≡ get_or items i x = search rules in
+    let more = lists_more (reading_at self) (all (reading_at self) (stage_at self) es [] []) (stage_at self) es c.args.host.now.entries c.loop-argument.host.entries _ c.loop-argument.words (c.loop-argument.words ++ c.in_ok-value.value) (i + 1) x c.in_ok-value.value c.loop-argument.invariant.lists (omega arith) (after_command c.args.interpreter.now.command items i x is) c.in_ok-value.ensures.evaluates refl in
+    let p = err_from_is_err_and c.from_residual-in_err-append.result c.from_residual-in_err-append.ensures.1 in
+    rw (p.1, p.2) (words_memory (reading_at self) (stage_at self) es (lexeme c.args.setting.token) c.args.host.now.entries _ _ (i + 1 + 1) more)
 
 pub returns-in_err-value-clause-asks : goal.returns-in_err-value-clause-asks
 returns-in_err-value-clause-asks g c = λ kinds has start asked. c.in_err-value.ensures.asks kinds has start (c.loop-argument.invariant.asks kinds has start asked)

@@ -3,7 +3,7 @@ use Rattle.std.proofs.lemmas.Result.{err_from_is_err_and}
 use Rattle.std.specs.String.{string_bytes}
 use Rattle.meaning_stages.specs.Lines.{line_dialogue, piece_of}
 use Rattle.evaluate_expressions.specs.Situations.{stage_at, reading_at}
-use Rattle.evaluate_expressions.proofs.LineParts.{parts_more, parts_stop, parts_end}
+use Rattle.evaluate_expressions.proofs.LineParts.{parts_more, parts_stop, parts_memory, parts_end}
 use Rattle.evaluate_expressions.proofs.evaluator.Evaluator.line_text.Goals as goal
 
 pub loop-fragment-preserved : goal.loop-fragment-preserved
@@ -13,7 +13,7 @@ loop-fragment-preserved g c =
     let lt : c.loop-fragment.fragment-index < length es = omega arith in
     let is : c.fragment-item.result ≡ get_or es c.loop-fragment.fragment-index c.fragment-item.result = search rules in
     let more = parts_more (reading_at self) (line_dialogue (stage_at self) c.args.continued [] (map piece_of es)) (stage_at self) es c.args.host.now.entries c.loop-fragment.host.entries _ c.loop-fragment.is_trimmed (string_bytes c.loop-fragment.text) (string_bytes c.in_ok-piece.piece) c.loop-fragment.fragment-index c.fragment-item.result c.loop-fragment.invariant.fills lt is c.in_ok-piece.ensures.evaluates in
-    record { asks = search rules; fills = search (rules, more) }
+    record { asks = λ kinds has start asked. c.in_ok-piece.ensures.asks kinds has start (c.loop-fragment.invariant.asks kinds has start asked); fills = search (rules, more) }
 
 pub returns-in_err-piece-clause-evaluates : goal.returns-in_err-piece-clause-evaluates
 returns-in_err-piece-clause-evaluates g c =
@@ -23,6 +23,15 @@ returns-in_err-piece-clause-evaluates g c =
     let is : c.fragment-item.result ≡ get_or es c.loop-fragment.fragment-index c.fragment-item.result = search rules in
     let p = err_from_is_err_and c.from_residual.result c.from_residual.ensures.1 in
     rw (p.1, p.2) (parts_stop (reading_at self) (line_dialogue (stage_at self) c.args.continued [] (map piece_of es)) (stage_at self) es c.args.host.now.entries c.loop-fragment.host.entries _ c.loop-fragment.is_trimmed (string_bytes c.loop-fragment.text) c.loop-fragment.fragment-index c.fragment-item.result _ c.loop-fragment.invariant.fills lt is c.in_err-piece.ensures.evaluates)
+
+pub returns-in_err-push_str-clause-evaluates : goal.returns-in_err-push_str-clause-evaluates
+returns-in_err-push_str-clause-evaluates g c =
+    let self = c.args.self.now in
+    let es = c.args.line.now.fragments.items in
+    let lt : c.loop-fragment.fragment-index < length es = omega arith in
+    let is : c.fragment-item.result ≡ get_or es c.loop-fragment.fragment-index c.fragment-item.result = search rules in
+    let p = err_from_is_err_and c.from_residual-in_err-push_str.result c.from_residual-in_err-push_str.ensures.1 in
+    rw (p.1, p.2) (parts_memory (reading_at self) (line_dialogue (stage_at self) c.args.continued [] (map piece_of es)) (stage_at self) es c.args.host.now.entries c.loop-fragment.host.entries _ c.loop-fragment.is_trimmed (string_bytes c.loop-fragment.text) (string_bytes c.in_ok-piece.piece) c.loop-fragment.fragment-index c.fragment-item.result c.loop-fragment.invariant.fills lt is c.in_ok-piece.ensures.evaluates)
 
 pub returns-clause-evaluates : goal.returns-clause-evaluates
 returns-clause-evaluates g c =
