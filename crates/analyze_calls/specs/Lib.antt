@@ -5,6 +5,7 @@ pub mod Ran
 pub mod Asked
 pub mod Entered
 pub mod Confirming
+pub mod Brought
 pub mod Blocks
 pub mod Binding
 pub mod Around

@@ -9,7 +9,8 @@ ghost use Rattle.evaluate_expressions.specs.Situations.{reading_at, stage_at};
 ghost use Rattle.meaning_dialogues.specs.Dialogue.{Evaluates};
 ghost use Rattle.analyze_calls.specs.Blocks as spec;
 ghost use Rattle.analyze_calls.specs.Blocks.{brings, brings_at, call_with, first_of, groups_for, others_of, rows_of, shared_out, starred_rows, values_of};
-ghost use Rattle.analyze_calls.specs.Calls.{rows};
+ghost use Rattle.analyze_calls.specs.Brought.{brought_rows};
+ghost use Rattle.analyze_calls.specs.Calls.{row_of, rows};
 ghost use Rattle.analyze_calls.specs.Placed.{placed_in};
 
 use crate::call::Call;
@@ -137,18 +138,13 @@ fn grouped(
     groups(alloc, parameters, values)
 }
 
-/// Puts the call with these arguments after the others.
-fn push_call(
-    alloc: Global,
-    calls: &mut Vec<Call>,
-    callee: Callee,
-    values: Vec<Value>,
-) -> Result<(), AllocError>
-    ensures { OnOk result (rows calls.new.items ≡ rows calls.old.items ++ call_with callee.entry.place callee.entry.parameters.now values.items ∷ []) }
+/// The call with these arguments.
+fn call(alloc: Global, callee: Callee, values: Vec<Value>) -> Result<Call, AllocError>
+    ensures { IfOk result (λ call. row_of call ≡ call_with callee.entry.place callee.entry.parameters.now values.items) }
 {
     let groups = grouped(alloc, callee.parameters, values)?;
     let recipe = callee.place;
-    Ok(calls.push(Call { recipe, groups })?)
+    Ok(Call { recipe, groups })
 }
 
 /// Puts copies of the values after the others.
@@ -190,28 +186,35 @@ fn push_each(
 {
     for element in elements {
         let values = with_element(alloc, before, element.as_str(), behind)?;
-        push_call(alloc, calls, callee, values)?;
+        calls.push(call(alloc, callee, values)?)?;
     }
     Ok(())
 }
 
-/// Puts a call for each element of the value at this place, between the values around it, after the
-/// others.
-fn push_starred(
+/// A call for each element of the value at this place, between the values around it.
+fn starred_calls(
     alloc: Global,
-    calls: &mut Vec<Call>,
     callee: Callee,
     values: &[Value],
     star: usize,
-) -> Result<(), AllocError>
-    ensures { star < length values.now → OnOk result (rows calls.new.items ≡ rows calls.old.items ++ map (call_with callee.entry.place callee.entry.parameters.now) (starred_rows star values.now)) }
+) -> Result<Vec<Call>, AllocError>
+    ensures { star < length values.now → IfOk result (λ calls. rows calls.items ≡ map (call_with callee.entry.place callee.entry.parameters.now) (starred_rows star values.now)) }
 {
+    let mut calls = Vec::new(alloc);
     let Some(starred) = values.get(star) else {
-        return Ok(());
+        return Ok(calls);
     };
     let (before, _rest) = values.split_at(star);
     let (_others, behind) = values.split_at(star + 1);
-    push_each(alloc, calls, callee, before, starred.elements(), behind)
+    push_each(
+        alloc,
+        &mut calls,
+        callee,
+        before,
+        starred.elements(),
+        behind,
+    )?;
+    Ok(calls)
 }
 
 /// The place of the first argument that is starred, if one is.
@@ -221,19 +224,36 @@ fn starred_place(arguments: &[DependencyArgument]) -> Option<usize>
     arguments.iter().position(|argument| argument.starred)
 }
 
-/// Puts the calls with these arguments after the others.
-fn push_calls(
+/// The calls of a dependency: one, or one for each element of a starred argument.
+#[derive(Drop)]
+enum Brought {
+    One(Call),
+    Each(Vec<Call>),
+}
+
+/// The calls with these arguments.
+fn bring(
     alloc: Global,
-    calls: &mut Vec<Call>,
     callee: Callee,
     values: Vec<Value>,
     arguments: &[DependencyArgument],
-) -> Result<(), AllocError>
-    ensures { length values.items ≡ length arguments.now → OnOk result (rows calls.new.items ≡ rows calls.old.items ++ map (call_with callee.entry.place callee.entry.parameters.now) (rows_of arguments.now values.items)) }
+) -> Result<Brought, AllocError>
+    ensures { length values.items ≡ length arguments.now → IfOk result (λ brought. brought_rows brought ≡ map (call_with callee.entry.place callee.entry.parameters.now) (rows_of arguments.now values.items)) }
 {
-    match starred_place(arguments) {
-        Some(star) => push_starred(alloc, calls, callee, values.as_slice(), star),
-        None => push_call(alloc, calls, callee, values),
+    let Some(star) = starred_place(arguments) else {
+        return Ok(Brought::One(call(alloc, callee, values)?));
+    };
+    let calls = starred_calls(alloc, callee, values.as_slice(), star)?;
+    Ok(Brought::Each(calls))
+}
+
+/// Puts the calls after the others.
+fn push(calls: &mut Vec<Call>, brought: Brought) -> Result<(), AllocError>
+    ensures { OnOk result (rows calls.new.items ≡ rows calls.old.items ++ brought_rows brought) }
+{
+    match brought {
+        Brought::One(call) => Ok(calls.push(call)?),
+        Brought::Each(mut others) => Ok(calls.append(&mut others)?),
     }
 }
 
@@ -244,13 +264,12 @@ fn calls_of<'src, H: RunHost + Drop>(
     evaluator: &Evaluator<'_, 'src>,
     callee: Callee<'_, 'src>,
     written: &[DependencyArgument<'src>],
-) -> Result<Vec<Call>, Error<'src>>
+) -> Result<Brought, Error<'src>>
     ensures asks { AsksQuestions H.goes host.old host.new }
-    ensures evaluates { Evaluates (reading_at evaluator.now) (brings (stage_at evaluator.now) callee.entry.place callee.entry.parameters.now written.now) host.old.entries host.new.entries (seen_as (λ calls. rows calls.items) result) }
+    ensures evaluates { Evaluates (reading_at evaluator.now) (brings (stage_at evaluator.now) callee.entry.place callee.entry.parameters.now written.now) host.old.entries host.new.entries (seen_as brought_rows result) }
 {
     let values = arguments(alloc, host, evaluator, written)?;
-    let mut calls = Vec::new(alloc);
-    push_calls(alloc, &mut calls, callee, values, written)?;
+    let calls = bring(alloc, callee, values, written)?;
     Ok(calls)
 }
 
@@ -273,9 +292,9 @@ fn calls_at<'src, H: RunHost + Drop>(
     runner: &Runner<'_, 'src>,
     place: usize,
     written: &[DependencyArgument<'src>],
-) -> Result<Vec<Call>, Error<'src>>
+) -> Result<Brought, Error<'src>>
     ensures asks { AsksQuestions H.goes host.old host.new }
-    ensures evaluates { Evaluates (reading_at evaluator.now) (brings_at (stage_at evaluator.now) place (placed_in runner.now place) written.now) host.old.entries host.new.entries (seen_as (λ calls. rows calls.items) result) }
+    ensures evaluates { Evaluates (reading_at evaluator.now) (brings_at (stage_at evaluator.now) place (placed_in runner.now place) written.now) host.old.entries host.new.entries (seen_as brought_rows result) }
 {
     match callee_at(runner, place) {
         Some(callee) => calls_of(alloc, host, evaluator, callee, written),
@@ -300,8 +319,8 @@ pub(crate) fn block<'src, H: RunHost + Drop>(
     let mut calls = Vec::with_capacity(alloc, dependencies.len())?;
     for (dependency, place) in dependencies.iter().zip(places) {
         let arguments = dependency.arguments.as_slice();
-        let mut brought = calls_at(alloc, host, evaluator, runner, *place, arguments)?;
-        calls.append(&mut brought)?;
+        let brought = calls_at(alloc, host, evaluator, runner, *place, arguments)?;
+        push(&mut calls, brought)?;
     }
     Ok(calls)
 }

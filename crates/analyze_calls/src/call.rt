@@ -1,15 +1,15 @@
 //! Calls of recipes, and which were done.
-ghost use Rattle.std.specs.Prelude.{◌≡◌, ◌∷◌, [], MatchOption, IfErr, OnOk, OnErr};
+ghost use Rattle.std.specs.Prelude.{◌≡◌, ◌↔◌, ◌∷◌, [], IsTrue, MatchOption, IfErr, IfOk, OnOk, OnErr};
 ghost use Rattle.analyze_calls.specs.Calls.{row_of, same_call};
 ghost use Rattle.meaning_runs.specs.Parts.{is_met, Joins};
 
 use just_value::Value;
 use std::alloc::{AllocError, Global};
-use std::collections::BTreeSet;
+use std::collections::HashSet;
 use std::marker::Model;
 
 /// A recipe by its place, and its parameters' groups of values.
-#[derive(Drop, PartialEq, Eq, PartialOrd, Ord)]
+#[derive(Drop, PartialEq, Eq, Hash)]
 pub struct Call {
     pub recipe: usize,
     pub groups: Vec<Value>,
@@ -18,7 +18,7 @@ pub struct Call {
 /// The calls that were done. Contracts see them as a list of recipes by their places with groups.
 #[derive(Drop)]
 pub struct Done {
-    calls: BTreeSet<Call>,
+    calls: HashSet<Call>,
 }
 
 impl Model for Done {
@@ -36,8 +36,16 @@ impl Done {
         ensures { result ≡ [] }
     {
         Done {
-            calls: BTreeSet::new(alloc),
+            calls: HashSet::new(alloc),
         }
+    }
+
+    /// Nothing, with room for so many calls.
+    pub fn with_capacity(alloc: Global, capacity: usize) -> Result<Done, AllocError>
+        ensures { IfOk result (λ done. done ≡ []) }
+    {
+        let calls = HashSet::with_capacity(alloc, capacity)?;
+        Ok(Done { calls })
     }
 
     /// Whether the call was done: one of the same recipe with equal groups.
@@ -80,6 +88,13 @@ impl Pending {
         let mut last_first = calls;
         last_first.reverse();
         Pending { last_first }
+    }
+
+    /// Whether there are none.
+    pub fn is_empty(&self) -> bool
+        ensures { IsTrue result ↔ (self.now ≡ []) }
+    {
+        self.last_first.is_empty()
     }
 
     /// Takes the next call.

@@ -27,7 +27,7 @@ use Rattle.analyze_runs.specs.Cut.{cuts, parts_cut}
 use Rattle.analyze_runs.specs.Steps.{parts}
 use Rattle.analyze_calls.specs.declared.plan.Runner.{Runner}
 use Rattle.meaning_runs.proofs.Cutting.{uncut}
-use Rattle.analyze_runs.specs.Todo.{Todo, Calls, Body, After}
+use Rattle.analyze_runs.specs.Todo.{Todo, Calls, Body, After, before}
 use Rattle.analyze_calls.specs.declared.call.Call.{Call}
 use Rattle.analyze_runs.specs.declared.tally.Tally.{Tally}
 
@@ -55,6 +55,14 @@ after_set_aside : (shared : Bool) (done done2 : List CallRow) → restored (set_
 after_set_aside true done done2 = refl
 after_set_aside false done done2 = refl
 
+-- calls before what follows them: none at all, or some
+pub none_before : (flag : Bool) (pending : List Call) (todos : List Todo) → pending ≡ [] → before flag (rows pending) todos ≡ todos
+none_before flag pending todos e = ap (λ cs. before flag (rows cs) todos) e
+
+pub some_before : (flag : Bool) (pending : List Call) (todos : List Todo) → pending ≢ [] → before flag (rows pending) todos ≡ Calls flag (rows pending) ∷ todos
+some_before flag [] todos some = absurd (some refl)
+some_before flag (call ∷ calls) todos some = refl
+
 module _ (p : Parts CallRow EnteredRow Entry Failure) where
   pub met_again : {todos : List Todo} {flag : Bool} {call : CallRow} {calls done : List CallRow} {log new : List Entry} {t t' : runs.Tally} {failure : Option Failure} → is_met p.same call done ≡ true
       → Rest p (Calls flag calls ∷ todos) done log (runs.met_one t) new t' failure → Rest p (Calls flag (call ∷ calls) ∷ todos) done log t new t' failure
@@ -69,6 +77,19 @@ module _ (p : Parts CallRow EnteredRow Entry Failure) where
   entering u b (went g (block_stopped e s)) = stopped (subsequent_failed u b g e s)
   entering u b (went g (block_went e s j (stopped r))) = stopped (entered u b g e s j r)
   entering u b (went g (block_went e s j (went r rest))) = went (entered u b g e s j r) rest
+
+  -- what a stack does with calls on it, if there are any, it does with them
+  pub with_calls : {todos : List Todo} {flag : Bool} {calls done : List CallRow} {log new : List Entry} {t t' : runs.Tally} {failure : Option Failure}
+      → Rest p (before flag calls todos) done log t new t' failure → Rest p (Calls flag calls ∷ todos) done log t new t' failure
+  with_calls {calls = []} r = went over r
+  with_calls {calls = call ∷ calls} r = r
+
+  behind_body : {todos : List Todo} {flag : Bool} {call : CallRow} {calls done priors : List CallRow} {bound : EnteredRow} {log new : List Entry} {t t' : runs.Tally} {failure : Option Failure}
+      → Rest p (Calls true priors ∷ Body call flag bound ∷ before flag calls todos) done log t new t' failure → Rest p (Calls true priors ∷ Body call flag bound ∷ Calls flag calls ∷ todos) done log t new t' failure
+  behind_body (stopped g) = stopped g
+  behind_body (went g (block_failed e)) = went g (block_failed e)
+  behind_body (went g (block_stopped e s)) = went g (block_stopped e s)
+  behind_body (went g (block_went e s j r)) = went g (block_went e s j (with_calls r))
 
   pub body_done : {todos : List Todo} {flag : Bool} {call : CallRow} {done subsequents : List CallRow} {bound : EnteredRow} {log log1 new : List Entry} {t t' : runs.Tally} {failure : Option Failure}
       → p.Ends call flag bound log log1 (Ok subsequents)
@@ -86,18 +107,18 @@ module _ (p : Parts CallRow EnteredRow Entry Failure) where
   pub emptied : (flag : Bool) (pending : List Call) (todos : List Todo) (done : List CallRow) (log : List Entry) (t : runs.Tally) → pending ≡ [] → Leads p (Calls flag (rows pending) ∷ todos) done log t todos done log t
   emptied flag pending todos done log t e = subst (λ cs. Leads p (Calls flag (rows cs) ∷ todos) done log t todos done log t) (sym e) (record { all = λ new last failure r. went over r })
 
-  pub passed : (flag : Bool) (pending : List Call) (call : Call) (calls : List Call) (todos todos' : List Todo) (done : List CallRow) (log : List Entry) (t t' : Tally) → pending ≡ call ∷ calls → todos' ≡ Calls flag (rows calls) ∷ todos
+  pub passed : (flag : Bool) (pending : List Call) (call : Call) (calls : List Call) (todos todos' : List Todo) (done : List CallRow) (log : List Entry) (t t' : Tally) → pending ≡ call ∷ calls → todos' ≡ before flag (rows calls) todos
       → t' ≡ met_one t → is_met p.same (row_of call) done ≡ true → Leads p (Calls flag (rows pending) ∷ todos) done log (tally_of t) todos' done log (tally_of t')
   passed flag pending call calls todos todos' done log t t' e f g k =
       subst (λ cs. Leads p (Calls flag (rows cs) ∷ todos) done log (tally_of t) todos' done log (tally_of t')) (sym e)
-      (subst (λ (q : List Todo × Tally). Leads p (Calls flag (rows (call ∷ calls)) ∷ todos) done log (tally_of t) q.0 done log (tally_of q.1)) (λ i. (sym f i, sym g i)) (record { all = λ new last failure r. met_again k r }))
+      (subst (λ (q : List Todo × Tally). Leads p (Calls flag (rows (call ∷ calls)) ∷ todos) done log (tally_of t) q.0 done log (tally_of q.1)) (λ i. (sym f i, sym g i)) (record { all = λ new last failure r. met_again k (with_calls r) }))
 
   pub opened : (flag : Bool) (pending : List Call) (call : Call) (calls : List Call) (priors : List CallRow) (bound : EnteredRow) (todos todos' : List Todo) (done : List CallRow) (log log1 : List Entry) (t t' : Tally) → pending ≡ call ∷ calls
-      → todos' ≡ Calls true priors ∷ Body (row_of call) flag bound ∷ Calls flag (rows calls) ∷ todos → t' ≡ entered_one (met_one t)
+      → todos' ≡ before true priors (Body (row_of call) flag bound ∷ before flag (rows calls) todos) → t' ≡ entered_one (met_one t)
       → is_met p.same (row_of call) done ≡ false → p.Begins (row_of call) flag log log1 (Ok (bound, priors)) → Leads p (Calls flag (rows pending) ∷ todos) done log (tally_of t) todos' done log1 (tally_of t')
   opened flag pending call calls priors bound todos todos' done log log1 t t' e f g u b =
       subst (λ cs. Leads p (Calls flag (rows cs) ∷ todos) done log (tally_of t) todos' done log1 (tally_of t')) (sym e)
-      (subst (λ (q : List Todo × Tally). Leads p (Calls flag (rows (call ∷ calls)) ∷ todos) done log (tally_of t) q.0 done log1 (tally_of q.1)) (λ i. (sym f i, sym g i)) (record { all = λ new last failure r. entering u b r }))
+      (subst (λ (q : List Todo × Tally). Leads p (Calls flag (rows (call ∷ calls)) ∷ todos) done log (tally_of t) q.0 done log1 (tally_of q.1)) (λ i. (sym f i, sym g i)) (record { all = λ new last failure r. entering u b (behind_body (with_calls r)) }))
 
   pub refused : (flag : Bool) (pending : List Call) (call : Call) (calls : List Call) (todos : List Todo) (done : List CallRow) (log new : List Entry) (t t' : Tally) (exhausted : Bool) (fault : RunFault) (P : Type 0) → pending ≡ call ∷ calls
       → t' ≡ entered_one (met_one t) → is_met p.same (row_of call) done ≡ false → (exhausted ≡ false → failure_of fault ≢ evaluation memory → p.Begins (row_of call) flag log new (Err (failure_of fault)))
@@ -113,6 +134,18 @@ module _ (p : Parts CallRow EnteredRow Entry Failure) where
   blocked call flag bound shared subsequents todos todos' done done' log log1 t h f g b =
       subst (λ (q : List Todo × List CallRow). Leads p (Body call flag bound ∷ todos) done log t q.0 q.1 log1 t)
       (λ i. (sym (f ∙ (λ j. Calls true subsequents ∷ After call (set_aside (h j) done) ∷ todos)) i, sym (g ∙ (λ j. cond (h j) done [])) i)) (record { all = λ new last failure r. body_done b r })
+
+  not_aside : (shared : Bool) (done : List CallRow) → cond shared (cond shared done []) done ≡ done
+  not_aside true done = refl
+  not_aside false done = refl
+
+  -- nothing follows the body
+  pub alone : (call : CallRow) (flag : Bool) (bound : EnteredRow) (subsequents : List Call) (todos : List Todo) (done done' : List CallRow) (log log1 : List Entry) (t : runs.Tally) → subsequents ≡ []
+      → Joins p.same call done done' → p.Ends call flag bound log log1 (Ok (rows subsequents)) → Leads p (Body call flag bound ∷ todos) done log t todos done' log1 t
+  alone call flag bound subsequents todos done done' log log1 t e j b = record {
+    all = λ new last failure r.
+        block_went (subst (λ cs. p.Ends call flag bound log log1 (Ok (rows cs))) e b) over (subst (λ d. Joins p.same call d done') (sym (not_aside (p.shares call) done)) j) r;
+  }
 
   pub body_refused : (call : CallRow) (flag : Bool) (bound : EnteredRow) (todos : List Todo) (done : List CallRow) (log new : List Entry) (t : runs.Tally) (exhausted : Bool) (fault : RunFault) (P : Type 0)
       → (exhausted ≡ false → failure_of fault ≢ evaluation memory → p.Ends call flag bound log new (Err (failure_of fault)))

@@ -7,7 +7,7 @@ use Rattle.std.proofs.Common.{Bool, true}
 use Rattle.std.specs.Prelude.{Option}
 use Rattle.analyze_calls.specs.Calls.{CallRow, rows, row_of}
 use Rattle.analyze_calls.specs.Entered.{EnteredRow}
-use Rattle.analyze_runs.specs.Todo.{Todo, Calls, Body, After}
+use Rattle.analyze_runs.specs.Todo.{Todo, Calls, Body, After, before}
 use Rattle.analyze_runs.specs.Weight.{most, base, weight_of, weight, AreBelow}
 use Rattle.analyze_calls.specs.declared.call.Call.{Call}
 
@@ -45,17 +45,25 @@ lighter p =
 
 -- ---- the turns
 
-pub entered : (call : Call) (flag above : Bool) (bound : EnteredRow) (calls : List CallRow) (priors : List Call) (old mid new : List Todo) → AreBelow call.recipe priors → mid ≡ Calls above calls ∷ old
-    → new ≡ Calls true (rows priors) ∷ Body (row_of call) flag bound ∷ mid → weight new < weight (Calls above (row_of call ∷ calls) ∷ old)
-entered call flag above bound calls priors old mid new h d e =
-    omega (arith, ap weight d, ap weight e, bounded call.recipe priors h, lighter call.recipe)
+-- calls that are no calls weigh nothing
+light : (flag : Bool) (calls : List CallRow) (todos : List Todo) → weight (before flag calls todos) ≤ weight (Calls flag calls ∷ todos)
+light flag [] todos = omega arith
+light flag (call ∷ calls) todos = omega arith
 
-pub passed : (call : CallRow) (above : Bool) (calls : List CallRow) (old new : List Todo) → new ≡ Calls above calls ∷ old → weight new < weight (Calls above (call ∷ calls) ∷ old)
+pub entered : (call : Call) (flag above : Bool) (bound : EnteredRow) (calls : List CallRow) (priors : List Call) (old mid new : List Todo) → AreBelow call.recipe priors → mid ≡ before above calls old
+    → new ≡ before true (rows priors) (Body (row_of call) flag bound ∷ mid) → weight new < weight (Calls above (row_of call ∷ calls) ∷ old)
+entered call flag above bound calls priors old mid new h d e =
+    omega (arith, ap weight d, ap weight e, light above calls old, light true (rows priors) (Body (row_of call) flag bound ∷ mid), bounded call.recipe priors h, lighter call.recipe)
+
+pub passed : (call : CallRow) (above : Bool) (calls : List CallRow) (old new : List Todo) → new ≡ before above calls old → weight new < weight (Calls above (call ∷ calls) ∷ old)
 passed call above calls old new e =
     let p : 1 ≤ base ^ (call.recipe + 1) = one-le-pow (call.recipe + 1) base least in
-    omega (arith, ap weight e, p)
+    omega (arith, ap weight e, light above calls old, p)
 
 pub behind : (call : Call) (flag : Bool) (bound : EnteredRow) (outer : Option (List CallRow)) (subsequents : List Call) (old new : List Todo) → AreBelow call.recipe subsequents
     → new ≡ Calls true (rows subsequents) ∷ After (row_of call) outer ∷ old → weight new < weight (Body (row_of call) flag bound ∷ old)
 behind call flag bound outer subsequents old new h e =
     omega (arith, ap weight e, bounded call.recipe subsequents h)
+
+pub alone : (call : CallRow) (flag : Bool) (bound : EnteredRow) (old : List Todo) → weight old < weight (Body call flag bound ∷ old)
+alone call flag bound old = omega arith

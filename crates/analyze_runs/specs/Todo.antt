@@ -1,5 +1,5 @@
 -- What is still to do.
-use Rattle.std.specs.Prelude.{Bool, List, Option}
+use Rattle.std.specs.Prelude.{Bool, List, [], ◌∷◌, Option}
 use Rattle.analyze_calls.specs.Calls.{CallRow}
 use Rattle.analyze_calls.specs.Entered.{EnteredRow}
 
@@ -9,3 +9,8 @@ pub data Todo : Type 0 where
   Calls : Bool → List CallRow → Todo
   Body : CallRow → Bool → EnteredRow → Todo
   After : CallRow → Option (List CallRow) → Todo
+
+-- calls before what follows them, if there are any
+abbrev pub before : Bool → List CallRow → List Todo → List Todo
+before dependencies [] todos = todos
+before dependencies (call ∷ calls) todos = Calls dependencies (call ∷ calls) ∷ todos

@@ -22,6 +22,6 @@ pub(crate) enum Frame<'m, 'src> {
     },
     After {
         call: Call,
-        outer: Option<Done>,
+        outer: Option<Box<Done>>,
     },
 }

@@ -1,10 +1,11 @@
 //! The loop over what is still to do.
-ghost use Rattle.std.specs.Prelude.{◌≡◌, ◌<◌, ◌∷◌, [], true, false, cond, IfErr, OnOk, Some};
+ghost use Rattle.std.specs.Prelude.{◌≡◌, ◌<◌, ◌∷◌, [], true, false, cond, IfErr, IfOk, OnOk, Some};
 ghost use Rattle.justfile_evaluator.specs.Ended.{IsTold};
 ghost use Rattle.analyze_calls.specs.Calls.{row_of, rows, same_call};
 ghost use Rattle.analyze_calls.specs.Asked.{AsksIn, AsksUser};
 ghost use Rattle.analyze_calls.specs.Entered.{entered_of};
-ghost use Rattle.analyze_runs.specs.Todo.{Calls, Body, After};
+ghost use Rattle.analyze_runs.specs.Frames.{aside};
+ghost use Rattle.analyze_runs.specs.Todo.{Calls, Body, After, before};
 ghost use Rattle.analyze_runs.specs.Tallies.{HasCounted, tally_of};
 ghost use Rattle.analyze_runs.specs.Ran.{IfRan, IfTurned, SaysIn};
 ghost use Rattle.analyze_runs.specs.Cut.{BeginsRun, parts_cut};
@@ -25,6 +26,23 @@ use justfile_evaluator::RunFault;
 use std::alloc::{AllocError, Global};
 use std::mem;
 
+/// Puts calls on the stack, if there are any.
+fn push_calls<'m, 'src>(
+    stack: &mut Stack<'m, 'src>,
+    pending: Pending,
+    are_dependencies: bool,
+) -> Result<(), AllocError>
+    ensures { OnOk result (stack.new ≡ before are_dependencies (rows pending) stack.old) }
+{
+    if pending.is_empty() {
+        return Ok(());
+    }
+    stack.push(Frame::Calls {
+        pending,
+        are_dependencies,
+    })
+}
+
 /// Puts the priors on the stack, before the body.
 fn push_entered<'m, 'src>(
     stack: &mut Stack<'m, 'src>,
@@ -32,13 +50,10 @@ fn push_entered<'m, 'src>(
     entered: Box<Entered<'m, 'src>>,
     priors: Pending,
 ) -> Result<(), AllocError>
-    ensures { OnOk result (stack.new ≡ Calls true (rows priors) ∷ Body (row_of call) entered.entry.value.is_dependency (entered_of entered.entry.value) ∷ stack.old) }
+    ensures { OnOk result (stack.new ≡ before true (rows priors) (Body (row_of call) entered.entry.value.is_dependency (entered_of entered.entry.value) ∷ stack.old)) }
 {
     stack.push(Frame::Body { call, entered })?;
-    stack.push(Frame::Calls {
-        pending: priors,
-        are_dependencies: true,
-    })
+    push_calls(stack, priors, true)
 }
 
 /// Runs the first of the calls, unless it was done.
@@ -67,10 +82,7 @@ fn turn_calls<'m, 'src, H: RunHost + Drop>(
         return Ok(());
     };
     tally.meet();
-    stack.push(Frame::Calls {
-        pending,
-        are_dependencies,
-    })?;
+    push_calls(stack, pending, are_dependencies)?;
     if done.has(&call) {
         return Ok(());
     }
@@ -81,23 +93,28 @@ fn turn_calls<'m, 'src, H: RunHost + Drop>(
 
 /// Sets aside what was done, so that nothing is done for subsequents; sets nothing aside where they
 /// share it.
-fn set_aside(alloc: Global, done: &mut Done, are_shared: bool) -> Option<Done>
-    ensures aside { result ≡ rest.set_aside are_shared done.old }
+fn set_aside(
+    alloc: Global,
+    done: &mut Done,
+    are_shared: bool,
+) -> Result<Option<Box<Done>>, AllocError>
+    ensures aside { IfOk result (λ outer. aside outer ≡ rest.set_aside are_shared done.old) }
     ensures left { done.new ≡ cond are_shared done.old [] }
 {
     if are_shared {
-        return None;
+        return Ok(None);
     }
-    Some(mem::replace(done, Done::new(alloc)))
+    let outer = mem::replace(done, Done::new(alloc));
+    Ok(Some(Box::new(alloc, outer)?))
 }
 
 /// Takes back what was set aside, and drops what was done since; keeps that where nothing was set
 /// aside.
-fn restore(done: &mut Done, outer: Option<Done>)
-    ensures { done.new ≡ rest.restored outer done.old }
+fn restore(done: &mut Done, outer: Option<Box<Done>>)
+    ensures { done.new ≡ rest.restored (aside outer) done.old }
 {
     if let Some(outer) = outer {
-        let _inner = mem::replace(done, outer);
+        *done = Box::into_inner(outer);
     }
 }
 
@@ -114,7 +131,7 @@ fn push_subsequents<'m, 'src>(
     ensures done { OnOk result (done.new ≡ cond subsequents.are_shared done.old []) }
 {
     let Subsequents { calls, are_shared } = subsequents;
-    let outer = set_aside(alloc, done, are_shared);
+    let outer = set_aside(alloc, done, are_shared)?;
     stack.push(Frame::After { call, outer })?;
     stack.push(Frame::Calls {
         pending: calls,
@@ -122,7 +139,7 @@ fn push_subsequents<'m, 'src>(
     })
 }
 
-/// Runs the call's body, and puts what follows it on the stack.
+/// Runs the call's body, and puts what follows it on the stack; where nothing does, the call is done.
 fn turn_body<'m, 'src, H: RunHost + Drop>(
     alloc: Global,
     host: &mut Recorded<H>,
@@ -142,12 +159,15 @@ fn turn_body<'m, 'src, H: RunHost + Drop>(
     ensures said { IfErr result (SaysIn runner.now) }
 {
     let subsequents = leave(alloc, host, runner, &call, entered)?;
+    if subsequents.calls.is_empty() {
+        return Ok(done.join(call)?);
+    }
     Ok(push_subsequents(alloc, stack, done, call, subsequents)?)
 }
 
 /// Takes back what was done before subsequents, unless they shared it, and the call is done.
-fn turn_after(done: &mut Done, call: Call, outer: Option<Done>) -> Result<(), AllocError>
-    ensures { OnOk result (Joins same_call (row_of call) (rest.restored outer done.old) done.new) }
+fn turn_after(done: &mut Done, call: Call, outer: Option<Box<Done>>) -> Result<(), AllocError>
+    ensures { OnOk result (Joins same_call (row_of call) (rest.restored (aside outer) done.old) done.new) }
 {
     restore(done, outer);
     done.join(call)
@@ -216,7 +236,7 @@ pub fn run_calls<'m, 'src, H: RunHost + Drop>(
     // A command's failure is that of a recipe of the run, and as silent as that.
     ensures said { IfErr result (SaysIn runner.now) }
 {
-    let mut done = Done::new(alloc);
+    let mut done = Done::with_capacity(alloc, runner.recipes.len())?;
     let mut stack = Stack::new(alloc);
     stack.push(Frame::Calls {
         pending: Pending::new(calls),

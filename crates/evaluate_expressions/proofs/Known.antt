@@ -10,17 +10,16 @@ use Rattle.meaning_dialogues.specs.Evaluation.{Value, dialogue, dialogues, text_
 use Rattle.meaning_dialogues.specs.Faults.{Fault, TextPlace}
 use Rattle.meaning_dialogues.specs.Terms.{Term, Terms, end, more}
 use Rattle.meaning_dialogues.proofs.Soundness.{Any}
-use Rattle.meaning_stages.specs.Lines.{TermPiece, line_dialogue}
+use Rattle.meaning_stages.specs.Lines.{interpolation, piece_dialogue}
 use Rattle.meaning_soundness.specs.Endings.{NotInternal, Proper}
 use Rattle.meaning_soundness.specs.Known.{IsBoundAt, IsReadAt}
-use Rattle.meaning_soundness.proofs.Endings.{AllProper, wider}
+use Rattle.meaning_soundness.proofs.Endings.{AllProper, then_proper, wider}
 use Rattle.meaning_soundness.proofs.Results.{comes_to}
 use Rattle.meaning_soundness.proofs.Terms.{text_proper, interpreter_proper}
-use Rattle.meaning_soundness.proofs.Lines.{line_proper}
 use Rattle.meaning_soundness.proofs.Constants.{constant_proper}
 use Rattle.meaning_soundness.proofs.Frames.{read_proper, bound_at, evaluates_properly, names_proper}
 use Rattle.evaluate_expressions.specs.Situations.{functions_in, around_body, is_non_const, stage_of, stage_at, reading_at}
-use Rattle.evaluate_expressions.specs.Known.{IsReadBy, TermKnownIn, BodiesKnownIn, TermKnownBy, BodiesKnownBy, TermsKnownBy, LineKnownBy, EachTerm}
+use Rattle.evaluate_expressions.specs.Known.{IsReadBy, TermKnownIn, BodiesKnownIn, TermKnownBy, BodiesKnownBy, TermsKnownBy, EachTerm}
 use Rattle.evaluate_expressions.specs.declared.evaluator.Evaluator.{Evaluator}
 use Rattle.evaluate_expressions.specs.declared.evaluator.Stage.{Stage as StageOf}
 use Rattle.evaluate_expressions.specs.declared.evaluator.Stage.TheVariants.{Const, Run}
@@ -52,9 +51,9 @@ module _ (reached : DefinedFunction → Bool) where
     pub text_known : (place : TextPlace) (term : Term) (old new : List Entry) (r : Result (List ℕ) Fault) → TermKnownBy e reached term → Evaluates (reading_at e) (text_dialogue place (dialogue (stage_at e) term)) old new r → NotInternal r
     text_known place term old new r known evaluated = not_internal (text_dialogue place (dialogue (stage_at e) term)) old new r (text_proper (IsReadBy e.stage e) place (dialogue (stage_at e) term) (term_proper term known)) evaluated
 
-    pub line_known : (continued : Bool) (so_far : List ℕ) (pieces : List TermPiece) (old new : List Entry) (r : Result (List ℕ) Fault) → LineKnownBy e reached pieces → Evaluates (reading_at e) (line_dialogue (stage_at e) continued so_far pieces) old new r → NotInternal r
-    line_known continued so_far pieces old new r known evaluated =
-        not_internal (line_dialogue (stage_at e) continued so_far pieces) old new r (line_proper (IsReadBy e.stage e) (TermKnownBy e reached) (stage_at e) term_proper continued so_far pieces known) evaluated
+    pub joined_known : (term : Term) (old new : List Entry) (r : Result (List ℕ) Fault) → TermKnownBy e reached term → Evaluates (reading_at e) (piece_dialogue (stage_at e) false (interpolation term)) old new r → NotInternal r
+    joined_known term old new r known evaluated =
+        not_internal (piece_dialogue (stage_at e) false (interpolation term)) old new r (then_proper (IsReadBy e.stage e) (dialogue (stage_at e) term) _ (term_proper term known) (λ value. tt)) evaluated
 
     pub words_known : (setting : List ℕ) (terms : Terms) (old new : List Entry) (r : Result (List ℕ × List (List ℕ)) Fault) → TermsKnownBy e reached terms → Evaluates (reading_at e) (interpreter_dialogue setting (dialogues (stage_at e) terms)) old new r → NotInternal r
     words_known setting terms old new r known evaluated =

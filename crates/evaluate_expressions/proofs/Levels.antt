@@ -1,10 +1,12 @@
 -- The terms of expressions by their kinds, and the reading of a variable.
 use Rattle.std.proofs.Common.{◌≡◌, ◌≢◌, ℕ, List, Option, Result, Ok, Err, refl, rules, MatchResult}
+use Rattle.std.specs.Result.{result_map_both}
 use Rattle.std.specs.Global.{Box}
 use Rattle.just_text.specs.Tokens.{lexeme}
 use Rattle.just_text.specs.declared.name.Name.{Name}
 use Rattle.just_text.specs.declared.token.Token.{Token}
 use Rattle.just_host.specs.declared.entry.Entry.{Entry}
+use Rattle.just_value.specs.Values.{joined}
 use Rattle.tree_expressions.specs.Shape.{written}
 use Rattle.tree_expressions.specs.declared.string_literal.StringLiteral.{StringLiteral as StringOf}
 use Rattle.tree_expressions.specs.declared.operator.ListOperator.TheVariants.{Concatenate}
@@ -51,4 +53,16 @@ pub reads : {reading : Reading} {old : List Entry} {r : Result Value Fault} (nam
 reads {reading = reading} {old = old} {r = r} name number e = record {
   goes = λ n. read_goes old (reading around (record { name = name; number = number })) r (e n);
   begins = begins_here reading (Reads around (record { name = name; number = number }) (λ value. Ends (Ok value))) old;
+}
+
+joined_goes : (old : List Entry) (seen : Result Value Fault) (r : Result (List ℕ) Fault) → r ≡ result_map_both joined (λ fault. fault) seen → MatchResult seen (λ value. (old ≡ old) × (r ≡ Ok (joined value))) (λ fault. (old ≡ old) × (r ≡ Err fault))
+joined_goes old (Ok value) r e = (refl, e)
+joined_goes old (Err fault) r e = (refl, e)
+
+-- a variable whose value is joined
+pub reads_joined : {reading : Reading} {old : List Entry} {r : Result (List ℕ) Fault} (name : List ℕ) (number : Option ℕ) → (r ≢ Err memory → r ≡ result_map_both joined (λ fault. fault) (reading around (record { name = name; number = number })))
+    → Evaluates reading (Reads around (record { name = name; number = number }) (λ value. Ends (Ok (joined value)))) old old r
+reads_joined {reading = reading} {old = old} {r = r} name number e = record {
+  goes = λ n. joined_goes old (reading around (record { name = name; number = number })) r (e n);
+  begins = begins_here reading (Reads around (record { name = name; number = number }) (λ value. Ends (Ok (joined value)))) old;
 }

@@ -5,7 +5,6 @@ pub mod Frames
 pub mod InterpreterWords
 pub mod Known
 pub mod Levels
-pub mod LineParts
 pub mod Named
 pub mod Shaped
 pub mod WantOfMemory

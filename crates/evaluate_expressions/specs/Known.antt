@@ -1,14 +1,12 @@
 -- Names that are known where an evaluator stands.
 use Rattle.std.specs.Prelude.{◌≡◌, ℕ, Bool, true, List}
 use Rattle.std.specs.BTreeSet.{contains}
-use Rattle.std.specs.List.{AllByRecursion}
 use Rattle.std.specs.Ordering.{nat_cmp}
 use Rattle.meaning_dialogues.specs.Calls.{DefinedFunction}
 use Rattle.meaning_dialogues.specs.Dialogue.{Lookup, Variable}
 use Rattle.meaning_dialogues.specs.Terms.{Term, Terms, end, more}
 use Rattle.meaning_dialogues.proofs.Soundness.{Each}
-use Rattle.meaning_stages.specs.Lines.{TermPiece}
-use Rattle.meaning_soundness.specs.Known.{IsBoundIn, IsReadIn, IsReadAt, NamesKnown, BodiesKnown, PieceKnown}
+use Rattle.meaning_soundness.specs.Known.{IsBoundIn, IsReadIn, IsReadAt, NamesKnown, BodiesKnown}
 use Rattle.evaluate_expressions.specs.Situations.{functions_in, is_non_const}
 use Rattle.evaluate_expressions.specs.declared.evaluator.Evaluator.{Evaluator}
 use Rattle.evaluate_expressions.specs.declared.evaluator.Stage.{Stage as StageOf}
@@ -43,6 +41,3 @@ TermKnownBy e reached term = TermKnownIn e.stage e reached term
 
 abbrev pub TermsKnownBy : Evaluator → (DefinedFunction → Bool) → Terms → Type 0
 TermsKnownBy e reached terms = EachTerm (TermKnownBy e reached) terms
-
-abbrev pub LineKnownBy : Evaluator → (DefinedFunction → Bool) → List TermPiece → Type 0
-LineKnownBy e reached pieces = AllByRecursion (PieceKnown (TermKnownBy e reached)) pieces

@@ -1,5 +1,5 @@
 //! Values of expressions.
-ghost use Rattle.std.specs.Prelude.{◌≡◌, ◌≢◌, ◌-◌, [], Bool, false, Err, None};
+ghost use Rattle.std.specs.Prelude.{◌≡◌, ◌-◌, [], Bool, false, Err, None};
 ghost use Rattle.std.specs.BTreeSet.{contains};
 ghost use Rattle.std.specs.Option.{option_map};
 ghost use Rattle.std.specs.Ordering.{nat_cmp};
@@ -11,10 +11,10 @@ ghost use Rattle.evaluate_functions.specs.Names.{function_of};
 ghost use Rattle.evaluate_context.specs.Refusals.{seen, seen_as};
 ghost use Rattle.evaluate_expressions.specs.Failures.{seen_above, seen_above_as};
 ghost use Rattle.evaluate_expressions.specs.Known.{TermKnownBy, BodiesKnownBy};
-ghost use Rattle.evaluate_expressions.specs.Situations.{stage_at, reading_at, running_stage, is_non_const, defined_at, builtin_at, called_builtin, calls_in};
+ghost use Rattle.evaluate_expressions.specs.Situations.{stage_at, reading_at, running_stage, is_non_const, defined_at, called_builtin, calls_in};
 ghost use Rattle.just_host.specs.Kinds.{AsksQuestions};
 ghost use Rattle.meaning_dialogues.specs.Calls as calls;
-ghost use Rattle.meaning_dialogues.specs.Calls.{DefinedFunction, const_stage, function_named, read_in, reading_in_frames};
+ghost use Rattle.meaning_dialogues.specs.Calls.{DefinedFunction, const_stage, function_named, reading_in_frames};
 ghost use Rattle.meaning_dialogues.specs.Dialogue.{Evaluates};
 ghost use Rattle.meaning_dialogues.specs.Evaluation as spec;
 ghost use Rattle.meaning_dialogues.specs.Evaluation.{dialogue, text_dialogue};
@@ -22,23 +22,23 @@ ghost use Rattle.meaning_dialogues.specs.Faults.{memory, text_place};
 ghost use Rattle.meaning_dialogues.specs.Terms as terms;
 ghost use Rattle.meaning_dialogues.specs.Terms.{term_of, terms_of, holes_of};
 ghost use Rattle.meaning_soundness.specs.Endings.{NotInternal};
+ghost use Rattle.meaning_stages.specs.Lines.{interpolation, piece_dialogue};
 ghost use Rattle.meaning_stages.specs.Stages.{defined_of};
 
-use crate::failure::{Failure, boxed, unboxed};
+use crate::failure::{Failure, unboxed};
 use crate::functions::parameter_scope;
 use crate::operations::{
     Sides, applied, argument, asserted, compared, joined_to_nothing, laid_out, literal_value,
-    only_text, output_value, push_joined, truth_value,
+    only_text, push_joined, truth_value,
 };
 use crate::refusals::{
-    call_in_constant, condition_failed, message_failed, not_const, too_many_calls,
-    unknown_function, unreadable,
+    call_in_constant, condition_failed, message_failed, too_many_calls, unknown_function,
 };
-use evaluate_builtins::{CallSite, Function, call_builtin, command_output};
+use evaluate_builtins::Function;
 use evaluate_context::{Error, ExecutionContext, find_function};
 use just_host::{Config, Host, Pair, Recorded};
-use just_text::{Name, Number, Text, Token};
-use just_value::{ConstError, Scope, StringContext, Value};
+use just_text::{Name, Number, Token};
+use just_value::{Scope, StringContext, Value};
 use std::alloc::Global;
 use std::collections::BTreeSet;
 use tree_expressions::{ConditionalOperator, Expression, ListOperator, StringLiteral};
@@ -46,7 +46,7 @@ use tree_items::FunctionDefinition;
 
 /// Whether constants are evaluated, or what a run rests on.
 #[derive(Clone, Copy)]
-enum Stage<'run, 'src> {
+pub(crate) enum Stage<'run, 'src> {
     Const {
         lists: bool,
         /// The variables that were found to be no constants.
@@ -59,17 +59,17 @@ enum Stage<'run, 'src> {
 /// would have to ask.
 #[derive(Clone, Copy)]
 pub struct Evaluator<'run, 'src> {
-    stage: Stage<'run, 'src>,
+    pub(crate) stage: Stage<'run, 'src>,
     /// How many more calls of the justfile's functions may lie in each other.
     calls_left: u64,
     /// What `env` attributes give to commands.
-    env: &'run [Pair],
-    is_dependency: bool,
+    pub(crate) env: &'run [Pair],
+    pub(crate) is_dependency: bool,
     /// The frame that the frames of the justfile's functions lie in.
     module_scope: &'run Scope<'run, 'src>,
-    recipe: Option<Name<'src>>,
+    pub(crate) recipe: Option<Name<'src>>,
     /// The evaluator's own frame and those around it.
-    scope: &'run Scope<'run, 'src>,
+    pub(crate) scope: &'run Scope<'run, 'src>,
 }
 
 /// What an evaluation may take of memory.
@@ -166,7 +166,7 @@ impl<'run, 'src> Evaluator<'run, 'src> {
         }
     }
 
-    fn is_non_const(&self, number: Number) -> bool
+    pub(crate) fn is_non_const(&self, number: Number) -> bool
         ensures { result ≡ is_non_const self.now.stage number }
     {
         match &self.stage {
@@ -183,86 +183,6 @@ impl<'run, 'src> Evaluator<'run, 'src> {
             Stage::Const { .. } => None,
             Stage::Run(context) => find_function(context.module.functions, name),
         }
-    }
-
-    /// The value of a variable.
-    #[inline(never)]
-    fn variable(
-        &self,
-        alloc: Global,
-        name: &Name<'src>,
-        number: Option<Number>,
-    ) -> Result<Value, Failure<'src>>
-        ensures { seen_above result ≢ Err memory → seen_above result ≡ read_in (is_non_const self.now.stage) self.now.scope.now (lexeme name.now.token) number }
-    {
-        let Some(number) = number else {
-            return Err(unreadable(alloc, "unresolved", *name));
-        };
-        if self.is_non_const(number) {
-            return Err(not_const(alloc, ConstError::Variable(*name)));
-        }
-        match self.scope.value(number) {
-            Some(value) => Ok(value.clone()?),
-            None => Err(unreadable(alloc, "unevaluated", *name)),
-        }
-    }
-
-    /// What a command between backticks prints; in a dry run the command itself between backticks.
-    #[inline(never)]
-    fn backtick<H: Host + Drop>(
-        &self,
-        alloc: Global,
-        host: &mut Recorded<H>,
-        contents: &Text,
-        token: &Token<'src>,
-    ) -> Result<Value, Failure<'src>>
-        ensures asks { AsksQuestions H.goes host.old host.new }
-        ensures evaluates { Evaluates (reading_at self.now) (dialogue (stage_at self.now) (terms.command contents.now (lexeme token.now))) host.old.entries host.new.entries (seen_above result) }
-    {
-        let Stage::Run(context) = self.stage else {
-            return Err(not_const(alloc, ConstError::Backtick(*token)));
-        };
-        if context.config.dry_run {
-            let text = format!(in alloc; "`{contents}`")?;
-            return Ok(Value::from_string(alloc, text)?);
-        }
-        let output = command_output(
-            alloc,
-            host,
-            context,
-            self.env,
-            self.scope,
-            contents.as_str(),
-            &[],
-        )?;
-        output_value(alloc, output, token)
-    }
-
-    /// What the built-in function answers to these values.
-    #[inline(never)]
-    fn answer<H: Host + Drop>(
-        &self,
-        alloc: Global,
-        host: &mut Recorded<H>,
-        function: Function,
-        name: &Name<'src>,
-        values: &[Value],
-    ) -> Result<Value, Failure<'src>>
-        ensures asks { AsksQuestions H.goes host.old host.new }
-        ensures evaluates { Evaluates (reading_at self.now) (builtin_at self.now.stage self.now (lexeme name.now.token) name.now.token.path.now function values.now) host.old.entries host.new.entries (seen_above result) }
-    {
-        let Stage::Run(context) = self.stage else {
-            return Err(call_in_constant(alloc, name));
-        };
-        let site = CallSite {
-            context,
-            env: self.env,
-            is_dependency: self.is_dependency,
-            name: *name,
-            recipe: self.recipe,
-            scope: self.scope,
-        };
-        boxed(alloc, call_builtin(alloc, host, &site, function, values))
     }
 
     /// The value of the expression. A constant's evaluator refuses commands, calls and variables
@@ -284,6 +204,24 @@ impl<'run, 'src> Evaluator<'run, 'src> {
             levels: LEVELS,
         };
         unboxed(self.evaluate(memory, host, expression))
+    }
+
+    /// The elements of the expression's value with a space between two. Refused as its value is.
+    pub fn evaluate_joined<H: Host + Drop>(
+        &self,
+        alloc: Global,
+        host: &mut Recorded<H>,
+        expression: &Expression<'src>,
+    ) -> Result<String, Error<'src>>
+        ensures asks { AsksQuestions H.goes host.old host.new }
+        ensures evaluates { Evaluates (reading_at self.now) (piece_dialogue (stage_at self.now) false (interpolation (term_of expression.now))) host.old.entries host.new.entries (seen_as string_bytes result) }
+        ensures known { (reached : DefinedFunction → Bool) → BodiesKnownBy self.now reached → TermKnownBy self.now reached (term_of expression.now) → NotInternal (seen_as string_bytes result) }
+    {
+        if let Expression::Variable { name, number } = expression {
+            return self.variable_text(alloc, name, *number);
+        }
+        let value = self.evaluate_value(alloc, host, expression)?;
+        Ok(value.into_joined(alloc)?)
     }
 
     /// The value of the expression, a level below the one that it stands in. What a level takes of

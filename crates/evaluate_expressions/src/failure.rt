@@ -26,7 +26,7 @@ impl Drop for Failure<'_> {
 
 impl<'src> Failure<'src> {
     /// The refusal out of its box.
-    fn into_error(self) -> Error<'src>
+    pub(crate) fn into_error(self) -> Error<'src>
         ensures { fault_of result ≡ fault_in self.entry }
     {
         match self {

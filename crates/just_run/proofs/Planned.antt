@@ -11,11 +11,3 @@ pub sent_is_written : {T : Type 0} (old plan : List ℕ) (sent : Result T Fault)
 sent_is_written old plan (Ok x) (Ok outcome) new e h = (e, h)
 sent_is_written old plan (Ok x) (Err fault) new e h = inr (inr (e, h))
 sent_is_written old plan (Err fault) ended new e h = elim h [ inl part ↦ inl part | inr none ↦ inr (inl none) ]
-
--- what went out of a plan
-pub written_is_kept : (old plan : List ℕ) (result : Result Outcome Fault) (new : List ℕ) → IsWrittenPlan old plan result new → IfErr result (λ fault. IsKeptBy Plan old fault new)
-written_is_kept old plan (Ok outcome) new h = tt
-written_is_kept old plan (Err fault) new h = elim h [
-  | inl part ↦ inl (inr (part.0, record { sent = part.1.went.sent; bytes = part.1.went.bytes }))
-  | inr more ↦ elim more [ inl none ↦ inl (inl none.1) | inr whole ↦ inr (refl, (whole.0, record { sent = plan; bytes = whole.1 })) ]
-]

@@ -75,7 +75,7 @@ use Rattle.meaning_unique.proofs.Unique.{definitions_are_one}
 use Rattle.std.specs.List.{AllByRecursion}
 use Rattle.meaning_defined.specs.Defined.{IsDefinedBy, named_call}
 use Rattle.meaning_defined.proofs.Calls.{words_invoke_recipes}
-use Rattle.meaning_running.specs.Running.{IsToldEnd, IsToldTask, action_end, outcome_of}
+use Rattle.meaning_running.specs.Running.{IsToldEnd, action_end, outcome_of}
 use Rattle.meaning_running.proofs.Running.Commanding.{commands_are_named}
 use Rattle.meaning_running.proofs.Running.Begun.{calls_begin_named}
 use Rattle.meaning_running.proofs.Running.BegunActions.{commands_begin_named, evaluations_begin_named}
@@ -160,13 +160,13 @@ module _ (left : Left) (result : Result Outcome Fault) (Q : ActionEnd → Type 0
   written_so text (Err (results.Command fault)) a q = absurd a
   written_so text (Err (results.NotPrintable path)) a q = absurd a
 
-  module _ (P : TaskEnd → Type 0) (there : (end : TaskEnd) → IsToldTask end → P end → Q (action_end true end)) where
+  module _ (P : TaskEnd → Type 0) (there : (end : TaskEnd) → P end → Q (action_end true end)) where
     values_so : (target : EvaluationTarget) (performed : Result Performed TaskFault) → Answers left performed result → IfPerformed (of_task.Evaluate target) left.exhausted performed P → IfTold left result Q
     values_so target (Ok Ran) a h = absurd h.0
-    values_so target (Ok (Evaluated text)) a h = written_so (string_bytes text) result a (there _ tt h.1)
+    values_so target (Ok (Evaluated text)) a h = written_so (string_bytes text) result a (there _ h.1)
     values_so target (Err (tasks.Opening openings.OutOfMemory)) a h = subst (λ r. IfTold left r Q) (sym a.0) tt
-    values_so target (Err (tasks.Opening (openings.Dotenv fault))) a h = subst (λ r. IfTold left r Q) (sym a.0) (there (ends_as (not_opened _)) tt h.1)
-    values_so target (Err (tasks.Opening (openings.Opening error))) a h = subst (λ r. IfTold left r Q) (sym a.0) (λ n. there (ends_as (not_opened _)) tt h.1)
+    values_so target (Err (tasks.Opening (openings.Dotenv fault))) a h = subst (λ r. IfTold left r Q) (sym a.0) (there (ends_as (not_opened _)) h.1)
+    values_so target (Err (tasks.Opening (openings.Opening error))) a h = subst (λ r. IfTold left r Q) (sym a.0) (λ n. there (ends_as (not_opened _)) h.1)
     values_so target (Err (tasks.Run fault)) a h =
         let memory_told : result ≡ Err results.OutOfMemory = subst (λ f. result ≡ Err (task_fault (tasks.Run f))) h.0 a.0 in
         subst (λ r. IfTold left r Q) (sym memory_told) tt
@@ -174,15 +174,15 @@ module _ (left : Left) (result : Result Outcome Fault) (Q : ActionEnd → Type 0
 
     -- how a command ends by its status
     command_so : (r : Result Next Failure) → P (end_by r) → Q (actions.end_of (without_next r))
-    command_so (Ok next) p = there (ends_as ran) tt p
-    command_so (Err failure) p = there (command_failed failure) tt p
+    command_so (Ok next) p = there (ends_as ran) p
+    command_so (Err failure) p = there (command_failed failure) p
 
     commanded_so : (words : Bor (List (List ℕ))) (performed : Result Performed TaskFault) → Answers left performed result → IfPerformed (of_task.Command words) left.exhausted performed P → IfCommanded left.exhausted result Q
-    commanded_so words (Ok Ran) a h = subst (λ r. IfCommanded left.exhausted r Q) (sym a.0) (λ e. there (ends_as ran) tt (h.1 e))
+    commanded_so words (Ok Ran) a h = subst (λ r. IfCommanded left.exhausted r Q) (sym a.0) (λ e. there (ends_as ran) (h.1 e))
     commanded_so words (Ok (Evaluated text)) a h = absurd h.0
     commanded_so words (Err (tasks.Opening openings.OutOfMemory)) a h = subst (λ r. IfCommanded left.exhausted r Q) (sym a.0) tt
-    commanded_so words (Err (tasks.Opening (openings.Dotenv fault))) a h = subst (λ r. IfCommanded left.exhausted r Q) (sym a.0) (there (ends_as (not_opened _)) tt h.1)
-    commanded_so words (Err (tasks.Opening (openings.Opening error))) a h = subst (λ r. IfCommanded left.exhausted r Q) (sym a.0) (λ n. there (ends_as (not_opened _)) tt h.1)
+    commanded_so words (Err (tasks.Opening (openings.Dotenv fault))) a h = subst (λ r. IfCommanded left.exhausted r Q) (sym a.0) (there (ends_as (not_opened _)) h.1)
+    commanded_so words (Err (tasks.Opening (openings.Opening error))) a h = subst (λ r. IfCommanded left.exhausted r Q) (sym a.0) (λ n. there (ends_as (not_opened _)) h.1)
     commanded_so words (Err (tasks.Run fault)) a h =
         let memory_told : result ≡ Err results.OutOfMemory = subst (λ f. result ≡ Err (task_fault (tasks.Run f))) h.0 a.0 in
         subst (λ r. IfCommanded left.exhausted r Q) (sym memory_told) tt
@@ -368,11 +368,11 @@ module _ (source : Given) (w : World) (stands : StandsFor source w) (clear_of_fi
     values_told target is ends =
         let t = d.targets target is in
         values_so left result (ValuesTo configuration d.defined asked.words.arguments left result) (Performs (of_task.Evaluate target) left.before left.behind)
-        (λ end told goes. certain_values source w stands clear_of_files (overrides_of asked.words.overrides) clear_of_names (string_bytes asked.config.base) (string_bytes asked.config.working_directory)
+        (λ end goes. certain_values source w stands clear_of_files (overrides_of asked.words.overrides) clear_of_names (string_bytes asked.config.base) (string_bytes asked.config.working_directory)
         d.defined d.are d.read d.rows configuration asked.words.arguments left result (action_end true end)
         (subst (λ defined. EvaluateGoes configuration defined true asked.words.arguments left.before left.behind (action_end true end)) (sym d.is)
         (evaluations_are_named source w compilation stands resolvable asked.words.overrides asked.config analysis known d.settled root target (values_there w compilation resolvable.numbered.of resolvable.numbered.single analysis.variables.lists.items asked.words.arguments target is) asked.words.arguments t.0 t.2
-        (subst (λ (defined : Definitions). values_named defined asked.words.arguments ≡ Some t.0) d.is t.1) true left.before left.behind end told goes)))
+        (subst (λ (defined : Definitions). values_named defined asked.words.arguments ≡ Some t.0) d.is t.1) true left.before left.behind end goes)))
         target ends.performed ends.answers ends.ended
 
     values_begun : (target : EvaluationTarget) → Begins (of_task.Evaluate target) left.before left.behind → BeginsEvaluate configuration d.defined left.before left.behind
@@ -393,10 +393,10 @@ module _ (source : Given) (w : World) (stands : StandsFor source w) (clear_of_fi
     command_done (of_task.Evaluate target) h ends begun = absurd h
     command_done (of_task.Command words) h ends begun = (
       commanded_so left result (CommandTo configuration d.defined asked.words.arguments left result) (Performs (of_task.Command words) left.before left.behind)
-          (λ end told goes. certain_command source w stands clear_of_files (overrides_of asked.words.overrides) clear_of_names (string_bytes asked.config.base) (string_bytes asked.config.working_directory)
+          (λ end goes. certain_command source w stands clear_of_files (overrides_of asked.words.overrides) clear_of_names (string_bytes asked.config.base) (string_bytes asked.config.working_directory)
           d.defined d.are d.read d.rows configuration asked.words.arguments left result (action_end true end)
           (subst (λ (q : Definitions × List (List ℕ)). CommandGoes configuration q.0 q.1 left.before left.behind (action_end true end)) (λ i. (sym d.is i, h.0 i))
-          (commands_are_named source w compilation stands resolvable asked.words.overrides asked.config analysis known d.settled root words (λ e. h.1 (sym h.0 ∙ e)) true left.before left.behind end told goes)))
+          (commands_are_named source w compilation stands resolvable asked.words.overrides asked.config analysis known d.settled root words (λ e. h.1 (sym h.0 ∙ e)) true left.before left.behind end goes)))
           words ends.performed ends.answers ends.ended,
       subst (λ (q : Definitions × List (List ℕ)). BeginsCommand configuration q.0 q.1 left.before left.behind) (λ i. (sym d.is i, h.0 i))
           (commands_begin_named source w compilation stands resolvable asked.words.overrides asked.config analysis known d.settled root words left.before left.behind begun),

@@ -118,6 +118,29 @@ fn drive_analysis<'src, H: RunHost + Drop, O: Out>(
     }
 }
 
+/// What becomes of the trees of the files, and of what is known of them, at the end of a call.
+#[derive(Clone, Copy)]
+enum Trees {
+    Dropped,
+    Leaked,
+}
+
+/// Drops the trees of all files, or leaks them.
+fn part_with(compilation: Compilation, trees: Trees) {
+    match trees {
+        Trees::Dropped => drop(compilation),
+        Trees::Leaked => mem::forget(compilation),
+    }
+}
+
+/// Drops what is known of the modules, or leaks it.
+fn part_with_analysis(analysis: Analysis, trees: Trees) {
+    match trees {
+        Trees::Dropped => drop(analysis),
+        Trees::Leaked => mem::forget(analysis),
+    }
+}
+
 /// Does what is asked of the modules.
 fn drive_modules<'src, H: RunHost + Drop, O: Out>(
     alloc: Global,
@@ -126,6 +149,7 @@ fn drive_modules<'src, H: RunHost + Drop, O: Out>(
     root: &str,
     words: &Positional,
     action: Action,
+    trees: Trees,
     host: &mut Recorded<H>,
     out: &mut O,
 ) -> Result<Outcome, Fault<'src>>
@@ -139,33 +163,22 @@ fn drive_modules<'src, H: RunHost + Drop, O: Out>(
 {
     let overrides = words.overrides.as_slice();
     match Analyzer::analyze(alloc, compilation, config, overrides) {
-        Ok(analysis) => drive_analysis(
-            alloc,
-            compilation,
-            &analysis,
-            config,
-            root,
-            words,
-            action,
-            host,
-            out,
-        ),
+        Ok(analysis) => {
+            let driven = drive_analysis(
+                alloc,
+                compilation,
+                &analysis,
+                config,
+                root,
+                words,
+                action,
+                host,
+                out,
+            );
+            part_with_analysis(analysis, trees);
+            driven
+        }
         Err(error) => Err(Fault::from(error)),
-    }
-}
-
-/// What becomes of the trees of the files at the end of a call.
-#[derive(Clone, Copy)]
-enum Trees {
-    Dropped,
-    Leaked,
-}
-
-/// Drops the trees of all files, or leaks them.
-fn part_with(compilation: Compilation, trees: Trees) {
-    match trees {
-        Trees::Dropped => drop(compilation),
-        Trees::Leaked => mem::forget(compilation),
     }
 }
 
@@ -191,7 +204,17 @@ fn drive_compilation<'src, H: RunHost + Drop, O: Out>(
 {
     match number_variables(alloc, &mut compilation) {
         Ok(()) => {
-            let driven = drive_modules(alloc, &compilation, config, root, words, action, host, out);
+            let driven = drive_modules(
+                alloc,
+                &compilation,
+                config,
+                root,
+                words,
+                action,
+                trees,
+                host,
+                out,
+            );
             part_with(compilation, trees);
             driven
         }
@@ -319,8 +342,8 @@ pub fn drive<'src, E: Expander, H: RunHost + Drop, O: Out>(
     )
 }
 
-/// Does what `drive` does, for a process that ends after the call: the trees of the files are leaked,
-/// so that the system takes their memory back at once.
+/// Does what `drive` does, for a process that ends after the call: the trees of the files and what is
+/// known of them are leaked, so that the system takes their memory back at once.
 ///
 /// # Errors
 ///

@@ -17,6 +17,7 @@ use crate::fault::{ConstEvalError, ValueFault};
 use just_text::Token;
 use std::alloc::{AllocError, AllocFailed, Global};
 use std::cmp::Ordering;
+use std::hash::{Hash, Hasher};
 use std::marker::Model;
 use std::{slice, vec};
 use tree_expressions::ListOperator;
@@ -155,6 +156,20 @@ impl Value {
             text.push_str(other.as_str())?;
         }
         Ok(text)
+    }
+
+    /// The same, and the text itself where it is the only element.
+    pub fn into_joined(self, alloc: Global) -> Result<String, AllocError>
+        ensures { IfOk result (λ s. string_bytes s ≡ joined self) }
+    {
+        if self.elements.len() != 1 {
+            return self.join(alloc);
+        }
+        let Value { mut elements } = self;
+        match elements.pop() {
+            Some(text) => Ok(text),
+            None => Ok(String::new(alloc)),
+        }
     }
 
     /// What the operator gives of this list and the other: a single text goes with each of one or
@@ -302,5 +317,18 @@ impl Ord for Value {
 
     fn cmp(&self, other: &Value) -> Ordering {
         self.elements.cmp(&other.elements)
+    }
+}
+
+impl Hash for Value {
+    ghost use Rattle.std.specs.Cmp.Lexicographic.{bytes_decides};
+    ghost use Rattle.std.specs.Hash.{items_Alike, same_Alike, slice, str};
+
+    ghost hash_input = { slice str };
+
+    ghost respects_eq = { (items_Alike (same_Alike str bytes_decides)).fed };
+
+    fn hash<H: Hasher>(&self, state: &mut H) {
+        self.elements.hash(state);
     }
 }

@@ -17,6 +17,7 @@ ghost use Rattle.justfile_evaluator.specs.Turns as spec;
 ghost use Rattle.justfile_evaluator.specs.Turns.{EndsInText, IsHeld, IsMarked, IsPut, IsSound, Reads, Turns, unmarked_text};
 
 use crate::fault::RunFault;
+use crate::line::line_text;
 use crate::script::run_script;
 use crate::site::{Site, folder_of, judge};
 use evaluate_builtins::job_template;
@@ -306,7 +307,7 @@ fn read_line<'src, H: RunHost + Drop>(
     ensures asks { AsksQuestions H.goes host.old host.new }
     ensures reads { (b : NamedBody) → guards ≡ b.scene.row.guards → MeansLine b evaluator.now line.now → IsSound command.old → Reads b command.old (pieces_of line.now) command.new host.old host.new result }
 {
-    let text = evaluator.evaluate_line(alloc, host, line, command.is_open)?;
+    let text = line_text(alloc, host, evaluator, line, command.is_open)?;
     command.put(line, text, guards)?;
     Ok(())
 }

@@ -4,6 +4,7 @@
 
 mod body;
 mod fault;
+mod line;
 mod script;
 mod site;
 

@@ -28,6 +28,7 @@ ghost use Rattle.justfile_evaluator.specs.Sites.{extension_in, folder_in};
 ghost use Rattle.justfile_evaluator.specs.declared.site.Site as declared;
 
 use crate::fault::RunFault;
+use crate::line::line_text;
 use crate::site::{Site, extension_of, folder_of, judge};
 use evaluate_context::settings::interpreter_words;
 use evaluate_context::{Error, JobEnvironment};
@@ -57,7 +58,7 @@ fn script_line<'src, H: RunHost + Drop>(
     ensures asks { AsksQuestions H.goes host.old host.new }
     ensures evaluates { Evaluates (reading_at evaluator.now) (line_dialogue (stage_at evaluator.now) false [] (map piece_of line.now.fragments.items)) host.old.entries host.new.entries (seen result) }
 {
-    let text = evaluator.evaluate_line(alloc, host, line, false)?;
+    let text = line_text(alloc, host, evaluator, line, false)?;
     Ok(Text::from_string(text))
 }
 

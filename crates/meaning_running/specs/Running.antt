@@ -53,11 +53,6 @@ IsToldEnd (ends.not_opened failure) = Unit {0}
 IsToldEnd (ends.failed failure) = IsTold failure
 IsToldEnd ends.ran = Unit {0}
 
-abbrev pub IsToldTask : TaskEnd → Type 0
-IsToldTask (ends_as end) = IsToldEnd end
-IsToldTask (told text) = Unit {0}
-IsToldTask (ends.command_failed failure) = Unit {0}
-
 -- ---- calls
 
 module _ (w : World) (compilation : Compilation) (given : List Override) (analysis : Analysis) (settled : AllSettle w (overrides_of given) compilation analysis.values.value.settings.items) (calls : Vec Call) where
@@ -83,7 +78,7 @@ EvaluationsAreNamed = (source : Given) (w : World) (compilation : Compilation) �
     → (root : List ℕ) (target : EvaluationTarget) → IsThere compilation target
     → (words : List Text) (t : Target) → IsNamedTarget compilation analysis.variables.lists.items (Some target) (Some t)
     → target_of (defined w compilation given (string_bytes config.base) analysis settled config root) words ≡ Some t
-    → (writes : Bool) (old new : List Entry) (end : TaskEnd) → IsToldTask end → PerformsTask compilation analysis config root (Evaluate target) old new end
+    → (writes : Bool) (old new : List Entry) (end : TaskEnd) → PerformsTask compilation analysis config root (Evaluate target) old new end
     → EvaluateGoes (configuration_of config root w.expansion) (defined w compilation given (string_bytes config.base) analysis settled config root) writes words old new (action_end writes end)
 
 -- One or more words are handed over by names as one command as they are by places, from the opening of modules on, unless memory runs out.
@@ -91,5 +86,5 @@ abbrev pub CommandsAreNamed : Type 0
 CommandsAreNamed = (source : Given) (w : World) (compilation : Compilation) → StandsFor source w → IsResolvable w compilation
     → (given : List Override) (config : Config) (analysis : Analysis) → IsAnalysis compilation (string_bytes config.base) given analysis → (settled : AllSettle w (overrides_of given) compilation analysis.values.value.settings.items)
     → (root : List ℕ) (words : Bor (List Text)) → words.now ≢ []
-    → (writes : Bool) (old new : List Entry) (end : TaskEnd) → IsToldTask end → PerformsTask compilation analysis config root (Command words) old new end
+    → (writes : Bool) (old new : List Entry) (end : TaskEnd) → PerformsTask compilation analysis config root (Command words) old new end
     → CommandGoes (configuration_of config root w.expansion) (defined w compilation given (string_bytes config.base) analysis settled config root) words.now old new (action_end writes end)

@@ -75,8 +75,12 @@ impl Search {
         Ok(())
     }
 
-    /// Takes in what the text of the file names.
+    /// Takes in what the text of the file names. A text that has neither word names nothing, and its
+    /// lines are not looked at.
     pub fn see_text(&mut self, file: &str, text: &str) -> Result<(), AllocError> {
+        if !text.contains("import") && !text.contains("mod") {
+            return Ok(());
+        }
         for line in text.lines() {
             self.see_line(file, line)?;
         }

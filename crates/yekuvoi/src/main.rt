@@ -17,7 +17,7 @@ use std::alloc::{AllocError, Global};
 use std::collections::BTreeMap;
 use std::io::{BufWriter, Write};
 use std::process::ExitCode;
-use std::{env, io, process};
+use std::{env, io, mem, process};
 use switch::{Start, read_start};
 
 /// A project, as the words name it.
@@ -166,8 +166,13 @@ fn drive_project(
 ) -> Result<u8> {
     let alloc = rt.alloc();
     let environment = Environment::read(rt)?;
-    let shown = BufWriter::new(alloc, rt.stderr())?;
-    let shell = Shell::new(rt, shown, config.base.as_str(), process::id(rt.process()));
+    let mut shown = BufWriter::new(alloc, rt.stderr())?;
+    let shell = Shell::new(
+        rt,
+        &mut shown,
+        config.base.as_str(),
+        process::id(rt.process()),
+    );
     let mut host = Recorded::new(alloc, shell);
     let mut out = Device::new(alloc, io::writer(rt));
     let answer = drive_and_leak(
@@ -182,7 +187,8 @@ fn drive_project(
         &mut out,
     );
     let exhausted = host.exhausted();
-    let mut shown = host.into_host().into_shown();
+    // The system takes the record's memory back when the process ends.
+    mem::forget(host);
     match answer {
         Ok(_) if exhausted => Ok(report(&mut shown, &Fault::OutOfMemory)),
         Ok(outcome) => {
@@ -194,9 +200,22 @@ fn drive_project(
     }
 }
 
+/// The largest block, in bytes, that glibc maps from the system for itself once one of its size was
+/// freed.
+const LARGEST_MAPPED: usize = 33_546_240;
+
+/// Takes a large block and frees it, unused. From then on glibc keeps what is freed, where it would
+/// give each large block back to the system: so the memory of the tokens is used again, and its pages
+/// aren't made anew. With another allocator it does nothing.
+fn keep_freed_blocks(alloc: Global) {
+    let block: Result<Vec<u8>, AllocError> = Vec::with_capacity(alloc, LARGEST_MAPPED);
+    drop(block);
+}
+
 /// Does what the program's words ask, and gives the status to end with.
 fn run(rt: &HostRuntime) -> Result<u8> {
     let alloc = rt.alloc();
+    keep_freed_blocks(alloc);
     let words = words(rt)?;
     let given = words.as_slice();
     let start = read_start(given);

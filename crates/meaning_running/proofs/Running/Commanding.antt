@@ -41,7 +41,7 @@ use Rattle.meaning_resolved.proofs.Leading.{root_path}
 use Rattle.meaning_settings.specs.Settled.{AllSettle}
 use Rattle.meaning_grounds.specs.Alike.{configuration_of}
 use Rattle.meaning_running.specs.Steps.{defined}
-use Rattle.meaning_running.specs.Running.{CommandsAreNamed, IsToldTask, action_end}
+use Rattle.meaning_running.specs.Running.{CommandsAreNamed, action_end}
 use Rattle.meaning_running.proofs.Running.Jobs.{jobs_are_named, root_row}
 use Rattle.meaning_running.proofs.Running.Opened.{AreOpenFor, ComesTo, comes_to, performed, refused}
 
@@ -123,14 +123,14 @@ module _ (source : Given) (w : World) (compilation : Compilation) (stands : Stan
 
   commanded_named : words.now ≢ [] → context.overrides.now ≡ analysis.values.value.overrides
       → IsPreparedFor analysis (Command words) context.config.now.no_dependencies context.opening_order.now (option_map (λ numbers. numbers.now) context.wanted)
-      → (old new : List Entry) (end : TaskEnd) → IsToldTask end → PerformsIn compilation analysis context (Command words) old new end
+      → (old new : List Entry) (end : TaskEnd) → PerformsIn compilation analysis context (Command words) old new end
       → CommandGoes configuration definitions words.now old new (action_end writes end)
-  commanded_named some overrides prepared old new end told run =
+  commanded_named some overrides prepared old new end run =
       let c = comes_to source w compilation stands resolvable given analysis settled (Command words) context tt known overrides prepared old new end run in
       goes_from some old new c.0 end c.1
 
 pub commands_are_named : CommandsAreNamed
-commands_are_named source w compilation stands resolvable given config analysis known settled root_key words some writes old new end told run =
+commands_are_named source w compilation stands resolvable given config analysis known settled root_key words some writes old new end run =
     let same : run.context.config.now ≡ config = run.is.config_is in
     subst (λ (key : List ℕ). CommandGoes (configuration_of config key w.expansion) (defined w compilation given (string_bytes config.base) analysis settled config key) words.now old new (action_end writes end)) run.is.root_is
     (subst (λ (c : Config). CommandGoes (configuration_of c run.context.root.now w.expansion) (defined w compilation given (string_bytes c.base) analysis settled c run.context.root.now) words.now old new (action_end writes end)) same
@@ -138,4 +138,4 @@ commands_are_named source w compilation stands resolvable given config analysis 
     (subst (λ (c : Config). IsAnalysis compilation (string_bytes c.base) given analysis) (sym same) known)
     some run.is.overrides
     (subst (λ (c : Config). IsPreparedFor analysis (Command words) c.no_dependencies run.context.opening_order.now (option_map (λ numbers. numbers.now) run.context.wanted)) (sym same) run.is.prepared)
-    old new end told run.performs))
+    old new end run.performs))

@@ -28,7 +28,7 @@ use Rattle.meaning_settings.specs.Settled.{AllSettle}
 use Rattle.meaning_menus.specs.Targets.{IsNamedTarget}
 use Rattle.meaning_grounds.specs.Alike.{configuration_of}
 use Rattle.meaning_running.specs.Steps.{defined}
-use Rattle.meaning_running.specs.Running.{EvaluationsAreNamed, IsToldTask, action_end}
+use Rattle.meaning_running.specs.Running.{EvaluationsAreNamed, action_end}
 use Rattle.meaning_running.specs.Told.{IsThere}
 use Rattle.meaning_running.proofs.Running.Opened.{ComesTo, comes_to, performed, refused}
 use Rattle.meaning_running.proofs.Running.Values.{values_are_named}
@@ -57,14 +57,14 @@ module _ (source : Given) (w : World) (compilation : Compilation) (stands : Stan
 
   evaluated_named : context.overrides.now ≡ analysis.values.value.overrides
       → IsPreparedFor analysis (Evaluate target) context.config.now.no_dependencies context.opening_order.now (option_map (λ numbers. numbers.now) context.wanted)
-      → target_of definitions words ≡ Some t → (old new : List Entry) (end : TaskEnd) → IsToldTask end → PerformsIn compilation analysis context (Evaluate target) old new end
+      → target_of definitions words ≡ Some t → (old new : List Entry) (end : TaskEnd) → PerformsIn compilation analysis context (Evaluate target) old new end
       → EvaluateGoes configuration definitions writes words old new (action_end writes end)
-  evaluated_named overrides prepared led old new end told run =
+  evaluated_named overrides prepared led old new end run =
       let c = comes_to source w compilation stands resolvable given analysis settled (Evaluate target) context tt known overrides prepared old new end run in
       goes_from led old new c.0 end c.1
 
 pub evaluations_are_named : EvaluationsAreNamed
-evaluations_are_named source w compilation stands resolvable given config analysis known settled root_key target there words t is_named led writes old new end told run =
+evaluations_are_named source w compilation stands resolvable given config analysis known settled root_key target there words t is_named led writes old new end run =
     let same : run.context.config.now ≡ config = run.is.config_is in
     subst (λ (key : List ℕ). EvaluateGoes (configuration_of config key w.expansion) (defined w compilation given (string_bytes config.base) analysis settled config key) writes words old new (action_end writes end)) run.is.root_is
     (subst (λ (c : Config). EvaluateGoes (configuration_of c run.context.root.now w.expansion) (defined w compilation given (string_bytes c.base) analysis settled c run.context.root.now) writes words old new (action_end writes end)) same
@@ -74,4 +74,4 @@ evaluations_are_named source w compilation stands resolvable given config analys
     (subst (λ (c : Config). IsPreparedFor analysis (Evaluate target) c.no_dependencies run.context.opening_order.now (option_map (λ numbers. numbers.now) run.context.wanted)) (sym same) run.is.prepared)
     (subst (λ (c : Config). target_of (defined w compilation given (string_bytes c.base) analysis settled c run.context.root.now) words ≡ Some t) (sym same)
     (subst (λ (key : List ℕ). target_of (defined w compilation given (string_bytes config.base) analysis settled config key) words ≡ Some t) (sym run.is.root_is) led))
-    old new end told run.performs))
+    old new end run.performs))

@@ -2,7 +2,7 @@ use Rattle.std.proofs.Common.{◌∷◌, ◌∙◌, ap, sym}
 use Rattle.std.proofs.lemmas.Result.{err_from_is_err_and}
 use Rattle.justfile_evaluator.proofs.Silence.{told_as}
 use Rattle.analyze_calls.specs.Calls.{row_of, rows}
-use Rattle.analyze_runs.specs.Frames.{todo}
+use Rattle.analyze_runs.specs.Frames.{aside, todo}
 use Rattle.analyze_runs.specs.Cut.{parts_cut}
 use Rattle.analyze_runs.specs.Tallies.{tally_of}
 use Rattle.analyze_calls.specs.Entered.{entered_of}
@@ -61,7 +61,7 @@ loop-frame-preserved g c = record {
   asked = c.loop-frame.invariant.asked;
   counted = c.loop-frame.invariant.counted;
   leads = λ k. on (parts_cut c.args.runner.now) (c.in-Some.ensures ∙ ap (λ f. todo f ∷ c.pop.new.self) c.in-After.is) (c.loop-frame.invariant.leads k)
-      (returned (parts_cut c.args.runner.now) (row_of c.in-After.call) c.in-After.outer c.loop-frame.done c.turn_after.new.done c.pop.new.self c.loop-frame.host.entries (tally_of c.loop-frame.tally) c.in_ok-turn_after-in-After.ensures);
+      (returned (parts_cut c.args.runner.now) (row_of c.in-After.call) (aside c.in-After.outer) c.loop-frame.done c.turn_after.new.done c.pop.new.self c.loop-frame.host.entries (tally_of c.loop-frame.tally) c.in_ok-turn_after-in-After.ensures);
   begun = c.loop-frame.invariant.begun;
 }
 

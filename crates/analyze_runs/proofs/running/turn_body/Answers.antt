@@ -5,8 +5,9 @@ use Rattle.analyze_calls.specs.Calls.{row_of, rows}
 use Rattle.analyze_runs.specs.Rest.{set_aside}
 use Rattle.analyze_runs.specs.Cut.{parts_cut}
 use Rattle.analyze_calls.specs.Entered.{entered_of}
+use Rattle.analyze_runs.proofs.Weights as weights
 use Rattle.analyze_runs.proofs.Weights.{behind}
-use Rattle.analyze_runs.proofs.Turns.{blocked, body_refused}
+use Rattle.analyze_runs.proofs.Turns.{alone, blocked, body_refused}
 use Rattle.analyze_runs.proofs.running.turn_body.Goals as goal
 
 pub returns-in_err-subsequents-clause-goes : goal.returns-in_err-subsequents-clause-goes
@@ -37,3 +38,18 @@ returns-in_err-push_subsequents-clause-begun g c = λ t. body_begins c.args.runn
 
 pub returns-clause-begun : goal.returns-clause-begun
 returns-clause-begun g c = λ t. body_begins c.args.runner.now (row_of c.args.call) c.args.entered.now.is_dependency (entered_of c.args.entered.now) c.args.stack.now c.args.done.now c.args.host.now.entries c.leave.new.host.entries t c.in_ok-subsequents.ensures.begun
+
+-- nothing follows the body
+pub returns-then-is_empty-clause-nearer : goal.returns-then-is_empty-clause-nearer
+returns-then-is_empty-clause-nearer g c = weights.alone (row_of c.args.call) c.args.entered.now.is_dependency (entered_of c.args.entered.now) c.args.stack.now
+
+pub returns-then-is_empty-clause-goes : goal.returns-then-is_empty-clause-goes
+returns-then-is_empty-clause-goes g c = λ t k. alone (parts_cut c.args.runner.now) (row_of c.args.call) c.args.entered.now.is_dependency (entered_of c.args.entered.now) c.in_ok-subsequents.subsequents.calls
+    c.args.stack.now c.args.done.now c.join.new.self c.args.host.now.entries c.leave.new.host.entries t
+    (c.is_empty.ensures.0 c.if-is_empty.true) c.in_ok-join.ensures.joins (inl (c.in_ok-subsequents.ensures.goes k))
+
+pub returns-in_err-join-clause-begun : goal.returns-in_err-join-clause-begun
+returns-in_err-join-clause-begun g c = λ t. body_begins c.args.runner.now (row_of c.args.call) c.args.entered.now.is_dependency (entered_of c.args.entered.now) c.args.stack.now c.args.done.now c.args.host.now.entries c.leave.new.host.entries t c.in_ok-subsequents.ensures.begun
+
+pub returns-then-is_empty-clause-begun : goal.returns-then-is_empty-clause-begun
+returns-then-is_empty-clause-begun g c = λ t. body_begins c.args.runner.now (row_of c.args.call) c.args.entered.now.is_dependency (entered_of c.args.entered.now) c.args.stack.now c.args.done.now c.args.host.now.entries c.leave.new.host.entries t c.in_ok-subsequents.ensures.begun
