@@ -17,7 +17,7 @@ use std::alloc::{AllocError, Global};
 use std::collections::BTreeMap;
 use std::io::{BufWriter, Write};
 use std::process::ExitCode;
-use std::{env, io, mem, process};
+use std::{env, io, process};
 use switch::{Start, read_start};
 
 /// A project, as the words name it.
@@ -166,13 +166,8 @@ fn drive_project(
 ) -> Result<u8> {
     let alloc = rt.alloc();
     let environment = Environment::read(rt)?;
-    let mut shown = BufWriter::new(alloc, rt.stderr())?;
-    let shell = Shell::new(
-        rt,
-        &mut shown,
-        config.base.as_str(),
-        process::id(rt.process()),
-    );
+    let shown = BufWriter::new(alloc, rt.stderr())?;
+    let shell = Shell::new(rt, shown, config.base.as_str(), process::id(rt.process()));
     let mut host = Recorded::new(alloc, shell);
     let mut out = Device::new(alloc, io::writer(rt));
     let answer = drive_and_leak(
@@ -187,8 +182,7 @@ fn drive_project(
         &mut out,
     );
     let exhausted = host.exhausted();
-    // The system takes the record's memory back when the process ends.
-    mem::forget(host);
+    let mut shown = host.into_host().into_shown();
     match answer {
         Ok(_) if exhausted => Ok(report(&mut shown, &Fault::OutOfMemory)),
         Ok(outcome) => {

@@ -29,6 +29,11 @@ impl<'a, R: Processes + Files + Env + Input + Alloc<A = Global>, V: Write + Drop
         }
     }
 
+    /// Gives the writer back.
+    pub fn into_shown(self) -> V {
+        self.shown
+    }
+
     /// What the host reaches the system by.
     pub(crate) fn runtime(&self) -> &'a R {
         self.rt
