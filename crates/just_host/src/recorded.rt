@@ -11,6 +11,7 @@ use crate::job::{CommandJob, DotenvRequest, Pair, ScriptJob};
 use just_text::{Sequence, Text};
 use std::alloc::{AllocError, Global};
 use std::marker::Model;
+use std::mem;
 
 /// A host, and what was asked of it. It copies what is asked and grows its record before it asks;
 /// where that is refused it asks nothing, then or later. Where the copy of an answer is refused,
@@ -64,6 +65,14 @@ impl<H: Drop> Recorded<H> {
     pub fn into_host(self) -> H
         ensures { result ≡ self.host }
     {
+        self.host
+    }
+
+    /// Gives the host back, and leaves the record to the system, as a program does that ends.
+    pub fn into_host_and_leak(self) -> H
+        ensures { result ≡ self.host }
+    {
+        mem::forget(self.entries);
         self.host
     }
 }

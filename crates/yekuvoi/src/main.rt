@@ -182,7 +182,7 @@ fn drive_project(
         &mut out,
     );
     let exhausted = host.exhausted();
-    let mut shown = host.into_host().into_shown();
+    let mut shown = host.into_host_and_leak().into_shown();
     match answer {
         Ok(_) if exhausted => Ok(report(&mut shown, &Fault::OutOfMemory)),
         Ok(outcome) => {
@@ -198,12 +198,24 @@ fn drive_project(
 /// freed.
 const LARGEST_MAPPED: usize = 33_546_240;
 
-/// Takes a large block and frees it, unused. From then on glibc keeps what is freed, where it would
+/// A block, in bytes, two of which glibc keeps once they are freed.
+const HALF_KEPT: usize = 33_400_000;
+
+/// A block of that size, unused.
+fn block(alloc: Global, size: usize) -> Result<Vec<u8>, AllocError> {
+    Vec::with_capacity(alloc, size)
+}
+
+/// Takes large blocks and frees them, unused. From then on glibc keeps what is freed, where it would
 /// give each large block back to the system: so the memory of the tokens is used again, and its pages
-/// aren't made anew. With another allocator it does nothing.
+/// aren't made anew. The last two leave it room in one piece, so that a list that grows need not be
+/// copied. With another allocator it does nothing.
 fn keep_freed_blocks(alloc: Global) {
-    let block: Result<Vec<u8>, AllocError> = Vec::with_capacity(alloc, LARGEST_MAPPED);
-    drop(block);
+    drop(block(alloc, LARGEST_MAPPED));
+    let first = block(alloc, HALF_KEPT);
+    let second = block(alloc, HALF_KEPT);
+    drop(second);
+    drop(first);
 }
 
 /// Does what the program's words ask, and gives the status to end with.
