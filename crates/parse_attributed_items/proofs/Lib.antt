@@ -23,3 +23,4 @@ pub mod WholeArguments
 pub mod FitLaw
 pub mod BareLaw
 pub mod AttributedLaw
+pub mod NoAttributes

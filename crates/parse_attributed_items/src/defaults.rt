@@ -1,13 +1,16 @@
 //! Parameters after defaults.
-ghost use Rattle.std.specs.Prelude.{◌≡◌, ◌||◌, IfOk, List, is_some, map};
+ghost use Rattle.std.specs.Prelude.{◌≡◌, ◌||◌, [], IfOk, List, is_some, map};
 ghost use Rattle.std.specs.List.{All};
 ghost use Rattle.std.specs.Option.{option_map};
 ghost use Rattle.just_text.specs.Tokens.{lexeme};
 ghost use Rattle.just_text.specs.declared.compile_error.CompileErrorKind.TheVariants as kinds;
 ghost use Rattle.tree_attributes.specs.Attributes.{OptionsShape, options_shape};
+ghost use Rattle.tree_items.specs.declared.ast.Item.TheVariants as items;
+ghost use Rattle.tree_items.specs.Files.{item_shape};
 ghost use Rattle.tree_items.specs.Recipes.{parameter_shape, parameter_shapes};
 ghost use Rattle.parse_expressions.specs.Literals.{Expansion, Origin};
 ghost use Rattle.parse_attributes.specs.Cooked.{AreCookedOptions};
+ghost use Rattle.parse_attributed_items.specs.Fitting.{argument_fault};
 ghost use Rattle.parse_attributed_items.specs.Names.{AreOptions};
 ghost use Rattle.parse_attributed_items.specs.Options.{GivesOrRefuses};
 ghost use Rattle.parse_attributed_items.specs.Rules.{late, may_lack};
@@ -17,7 +20,7 @@ use parse_expressions::Fault;
 use std::alloc::{AllocError, Global};
 use std::collections::BTreeSet;
 use tree_attributes::{ArgumentOptions, LongName};
-use tree_items::Parameter;
+use tree_items::{Item, Parameter, Recipe, UnresolvedDependency};
 
 /// Whether the `arg` gives its parameter a name after two dashes or after one.
 fn names_option(options: &ArgumentOptions) -> bool
@@ -83,5 +86,26 @@ pub(crate) fn check_late<'src>(
                 CompileErrorKind::RequiredParameterFollowsDefault(text),
             ))
         }
+    }
+}
+
+/// Refuses the first parameter after a default that needs a value, of a recipe without `arg`s.
+fn check_recipe<'src>(
+    alloc: Global,
+    recipe: &Recipe<'src, UnresolvedDependency<'src>>,
+) -> Result<(), Fault<'src>>
+    ensures { (origin : Origin) → GivesOrRefuses result (argument_fault origin.expansion [] (item_shape (items.Recipe recipe.now))) }
+{
+    check_late(alloc, recipe.parameters.as_slice(), &[])
+}
+
+/// Refuses the first parameter after a default that needs a value, where the item is a recipe
+/// without attributes.
+pub(crate) fn check_unattributed<'src>(alloc: Global, item: &Item<'src>) -> Result<(), Fault<'src>>
+    ensures { (origin : Origin) → GivesOrRefuses result (argument_fault origin.expansion [] (item_shape item.now)) }
+{
+    match item {
+        Item::Recipe(recipe) => check_recipe(alloc, recipe),
+        _ => Ok(()),
     }
 }

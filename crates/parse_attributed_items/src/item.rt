@@ -1,5 +1,5 @@
 //! Items after their attributes.
-ghost use Rattle.std.specs.Prelude.{◌≡◌, IfOk};
+ghost use Rattle.std.specs.Prelude.{◌≡◌, ◌↔◌, [], IfOk, IsTrue};
 ghost use Rattle.just_text.specs.Numbers.{Numbers};
 ghost use Rattle.just_text.specs.Tokens.{word_of};
 ghost use Rattle.tree_items.specs.Files.{item_shape, kind_of};
@@ -20,6 +20,7 @@ ghost use Rattle.parse_attributed_items.specs.Seen.{AreWholeArguments, AreWholeW
 
 use crate::bare::{ItemRead, bare_item};
 use crate::carriers::may_stand;
+use crate::defaults::check_unattributed;
 use crate::fit::{ensure_fit, item_name};
 use crate::split::ordered;
 use crate::trees::item_with;
@@ -84,6 +85,13 @@ fn parts<'src, E: Expander>(
     Ok(PartsRead { attributes, read })
 }
 
+/// Whether no attribute stands before the item.
+fn is_bare(parts: &PartsRead) -> bool
+    ensures { IsTrue result ↔ (parts.now.attributes.items ≡ []) }
+{
+    parts.attributes.is_empty()
+}
+
 /// Whether the attributes fit the item after them, whatever the `arg`s say.
 fn ensure_parts_fit<'src>(alloc: Global, parts: &PartsRead<'src>) -> Result<(), Fault<'src>>
     ensures { GivesOrRefuses result (head_fault (kind_of (item_shape parts.now.read.item)) (name_of (item_shape parts.now.read.item)) (read_shapes parts.now.attributes.items)) }
@@ -141,5 +149,9 @@ pub fn attributed_item<'src, E: Expander>(
     ensures cooked { IfOk result (λ r. IsItemCooked (origin_of E.expansion context.now) r.item) }
 {
     let parts = parts(alloc, cursor, context, numerator, current)?;
+    if is_bare(&parts) {
+        check_unattributed(alloc, &parts.read.item)?;
+        return Ok(parts.read);
+    }
     fitted(alloc, parts)
 }
