@@ -1,6 +1,7 @@
 //! The files and the folders that texts name.
 
 use crate::naming::{Naming, part_naming};
+use memchr::memmem;
 use modules_compilation::{folder_from, key_from};
 use std::alloc::{AllocError, Global};
 use std::collections::{BTreeSet, VecDeque};
@@ -26,6 +27,11 @@ pub struct Search {
     open: VecDeque<Named>,
     /// Whether any file may be named.
     is_any: bool,
+}
+
+/// Whether the word stands in the text.
+fn has_word(text: &str, word: &str) -> bool {
+    memmem::find(text.as_bytes(), word.as_bytes()).is_some()
 }
 
 /// Puts the path among the others. Whether it wasn't there.
@@ -78,7 +84,7 @@ impl Search {
     /// Takes in what the text of the file names. A text that has neither word names nothing, and its
     /// lines are not looked at.
     pub fn see_text(&mut self, file: &str, text: &str) -> Result<(), AllocError> {
-        if !text.contains("import") && !text.contains("mod") {
+        if !has_word(text, "import") && !has_word(text, "mod") {
             return Ok(());
         }
         for line in text.lines() {
