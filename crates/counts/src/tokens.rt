@@ -11,7 +11,7 @@ fn digest(tokens: &[Token]) -> u64 {
     let mut sum: u64 = 0;
     for token in tokens {
         for part in [token.offset, token.length, token.line, token.column] {
-            sum = sum.wrapping_mul(31).wrapping_add(part as u64);
+            sum = sum.wrapping_mul(31).wrapping_add(u64::from(part));
         }
     }
     sum

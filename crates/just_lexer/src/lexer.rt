@@ -18,6 +18,9 @@ use crate::scan::place::token_at;
 use just_text::{CompileError, CompileErrorKind, Token, TokenKind};
 use std::alloc::Global;
 
+/// The bytes of the longest text whose places 32 bits can tell.
+const LONGEST: usize = u32::MAX as usize;
+
 /// Reads a text token by token.
 #[derive(Clone, Copy)]
 pub struct Lexer<'src> {
@@ -29,7 +32,8 @@ pub struct Lexer<'src> {
 impl<'src> Lexer<'src> {
     /// The tokens of the text, the last of which is `Eof`; they borrow from the path and the text.
     ///
-    /// Refused where memory runs out, and where no token stands after those before. Outside strings,
+    /// Refused where memory runs out, as it does for a text of 4 GiB or more, whose places 32 bits can't
+    /// tell, and where no token stands after those before. Outside strings,
     /// comments and the text of bodies that is: a character that no token begins with, an ampersand or a
     /// bar alone, a string or a command that nothing ends, a backslash in front of anything but a line end,
     /// a carriage return without a newline, and a bracket that closes where another is the innermost open
@@ -52,6 +56,9 @@ impl<'src> Lexer<'src> {
         // An error is a fault after the tokens before it.
         ensures fault { IfErr result (λ e. FaultStands path.now src.now e.kind e.token) }
     {
+        if src.len() > LONGEST {
+            return Err(CompileError::without_place(CompileErrorKind::OutOfMemory));
+        }
         let mut tokens = Vec::new(alloc);
         let mut opened = Vec::new(alloc);
         let mut lexer = Lexer {
@@ -72,7 +79,7 @@ impl<'src> Lexer<'src> {
             let token = Token {
                 column: lexer.position.column,
                 kind,
-                length,
+                length: length as u32,
                 line: lexer.position.line,
                 offset: lexer.position.offset,
                 path,

@@ -10,14 +10,14 @@ use just_text::Token;
 pub fn before<'src>(token: &Token<'src>) -> &'src str
     ensures { result.now ≡ before token.now }
 {
-    last_line(behind_mark(&token.src[..token.offset]))
+    last_line(behind_mark(&token.src[..token.offset as usize]))
 }
 
 /// The line's text from the token on.
 pub fn onward<'src>(token: &Token<'src>) -> &'src str
     ensures { result.now ≡ onward token.now }
 {
-    first_line(&token.src[token.offset..])
+    first_line(&token.src[token.offset as usize..])
 }
 
 /// The part of the token on its first line.

@@ -9,9 +9,9 @@ use just_text::TokenKind;
 /// A place in a text: the bytes before it in its line, the lines before it, and the bytes before it.
 #[derive(Clone, Copy, Debug, PartialEq, Eq)]
 pub struct Position {
-    pub column: usize,
-    pub line: usize,
-    pub offset: usize,
+    pub column: u32,
+    pub line: u32,
+    pub offset: u32,
 }
 
 impl Position {
@@ -24,9 +24,9 @@ impl Position {
 
     /// The position after a text that begins here.
     fn behind(self, text: &str) -> Position
-        requires offset { self.offset + length text.now < 2 ^ 63 }
-        requires line { self.line + length text.now < 2 ^ 63 }
-        requires column { self.column + length text.now < 2 ^ 63 }
+        requires offset { self.offset + length text.now < 2 ^ 32 }
+        requires line { self.line + length text.now < 2 ^ 32 }
+        requires column { self.column + length text.now < 2 ^ 32 }
         ensures { result ≡ fold advance self text.now }
     {
         let mut position = self;
@@ -45,16 +45,16 @@ impl Position {
 
     /// The position after a token. A byte order mark takes no column.
     pub fn moved(self, kind: TokenKind, lexeme: &str) -> Position
-        requires offset { self.offset + length lexeme.now < 2 ^ 63 }
-        requires line { self.line + length lexeme.now < 2 ^ 63 }
-        requires column { self.column + length lexeme.now < 2 ^ 63 }
+        requires offset { self.offset + length lexeme.now < 2 ^ 32 }
+        requires line { self.line + length lexeme.now < 2 ^ 32 }
+        requires column { self.column + length lexeme.now < 2 ^ 32 }
         ensures { result ≡ moved self kind lexeme.now }
     {
         match kind {
             TokenKind::ByteOrderMark => Position {
                 column: self.column,
                 line: self.line,
-                offset: self.offset + lexeme.len(),
+                offset: self.offset + lexeme.len() as u32,
             },
             _ => self.behind(lexeme),
         }

@@ -7,14 +7,15 @@ use crate::token_kind::TokenKind;
 use std::cmp::Ordering;
 
 /// A part of a source. `offset`, `length` and `column` count bytes, `line` lines, all from 0; the
-/// column counts from the line's first byte, after a byte order mark.
+/// column counts from the line's first byte, after a byte order mark. 32 bits tell each place, since a
+/// source has many tokens.
 #[derive(Clone, Copy, Debug)]
 pub struct Token<'src> {
-    pub column: usize,
+    pub column: u32,
     pub kind: TokenKind,
-    pub length: usize,
-    pub line: usize,
-    pub offset: usize,
+    pub length: u32,
+    pub line: u32,
+    pub offset: u32,
     pub path: &'src str,
     pub src: &'src str,
     ghost begins: { IsCharBoundary src.now offset },
@@ -29,7 +30,7 @@ impl<'src> Token<'src> {
     pub fn lexeme(&self) -> &'src str
         ensures { result.now ≡ lexeme self.now }
     {
-        &self.src[self.offset..self.offset + self.length]
+        &self.src[self.offset as usize..self.offset as usize + self.length as usize]
     }
 
     /// Where the token stands, and its kind.
@@ -37,7 +38,13 @@ impl<'src> Token<'src> {
         ensures { result ≡ place self.now }
     {
         let kind = self.kind as usize;
-        [self.offset, self.line, self.column, self.length, kind]
+        [
+            self.offset as usize,
+            self.line as usize,
+            self.column as usize,
+            self.length as usize,
+            kind,
+        ]
     }
 
     /// A refusal whose place is this token.

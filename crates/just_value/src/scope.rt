@@ -161,10 +161,13 @@ fn constant<'src>(
 ) -> Result<Bound<'src>, AllocError>
     ensures { IfOk result (λ b. bound_of b ≡ constant_binding number (name.now, text.now)) }
 {
+    let Ok(length) = u32::try_from(name.len()) else {
+        return Err(AllocError);
+    };
     let token = Token {
         column: 0,
         kind: TokenKind::Identifier,
-        length: name.len(),
+        length,
         line: 0,
         offset: 0,
         path: "PRELUDE",

@@ -79,7 +79,7 @@ pub fn path_token<'src>(path: &Namepath<'src>) -> Token<'src>
     let Some(end) = last.offset.checked_add(last.length) else {
         return first;
     };
-    if end < first.offset || !first.src.is_char_boundary(end) {
+    if end < first.offset || !first.src.is_char_boundary(end as usize) {
         return first;
     }
     Token {

@@ -3,12 +3,12 @@
 use just_text::{Name, Token, TokenKind};
 use std::alloc::{AllocError, Global};
 
-/// The token of a whole text.
+/// The token of a whole text, which has less than 4 GiB.
 pub(crate) fn token(src: &str, kind: TokenKind) -> Token<'_> {
     Token {
         column: 0,
         kind,
-        length: src.len(),
+        length: u32::try_from(src.len()).unwrap_or(0),
         line: 0,
         offset: 0,
         path: "justfile",
