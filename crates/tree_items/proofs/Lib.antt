@@ -4,3 +4,4 @@ pub mod Filed
 pub mod First
 pub mod PathNames
 pub mod Apart
+pub mod FirstNames

@@ -45,27 +45,27 @@ impl ParameterKind {
 
 /// A parameter of a recipe, with the options that attributes give it.
 pub struct Parameter<'src> {
-    pub default: Option<Expression<'src>>,
+    pub name: Name<'src>,
+    pub number: Number,
+    pub kind: ParameterKind,
     /// Whether it is exported to the environment.
     pub export: bool,
     /// Whether its option takes no value.
     pub flag: bool,
-    pub help: Option<Text>,
-    pub kind: ParameterKind,
-    /// The name of its option after two dashes.
-    pub long: Option<Text>,
+    /// Whether its option may be used more than once.
+    pub multiple: bool,
     /// The greatest number of values.
     pub max: Option<u16>,
     /// The least number of values.
     pub min: Option<u16>,
-    /// Whether its option may be used more than once.
-    pub multiple: bool,
-    pub name: Name<'src>,
-    pub number: Number,
     /// The name of its option after one dash.
     pub short: Option<char>,
+    pub default: Option<Expression<'src>>,
     /// The value of its option, where that takes none.
     pub value: Option<Expression<'src>>,
+    pub help: Option<Text>,
+    /// The name of its option after two dashes.
+    pub long: Option<Text>,
 }
 
 impl Drop for Parameter<'_> {
@@ -160,16 +160,16 @@ impl fmt::Display for UnresolvedDependency<'_> {
 #[derive(Drop)]
 pub struct Recipe<'src, D> {
     pub attributes: AttributeSet<'src>,
-    pub body: Vec<Line<'src>>,
-    pub name: Name<'src>,
-    pub number: Number,
     pub parameters: Vec<Parameter<'src>>,
     /// What runs before the body.
     pub priors: Vec<D>,
-    /// `@` before the name.
-    pub quiet: bool,
     /// What runs after the body.
     pub subsequents: Vec<D>,
+    pub body: Vec<Line<'src>>,
+    /// `@` before the name.
+    pub quiet: bool,
+    pub number: Number,
+    pub name: Name<'src>,
 }
 
 impl<'src, D> Recipe<'src, D> {

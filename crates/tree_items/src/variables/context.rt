@@ -1,21 +1,48 @@
 //! Names that have numbers.
 ghost use Rattle.std.specs.Prelude.{◌≡◌, ℕ, IfOk, List, None, OnOk, Some, map, if◌then◌else◌};
 ghost use Rattle.std.specs.Str.{bytes_eq};
-ghost use Rattle.tree_items.specs.Contexts.{last_named, named_number, number_in, parameter_number};
+ghost use Rattle.tree_items.specs.Contexts.{goes_first, last_named, named_number, number_in, number_of_first, parameter_number};
 
 use crate::recipe::Parameter;
 use just_text::{Name, Number};
 use std::alloc::{AllocError, Global};
 use std::collections::BTreeMap;
 
-/// Names, each with the number of what it names.
+/// Names, each with the number of what it names. One name takes no memory: most recipes have one
+/// parameter or none.
 pub struct ExpressionContext<'src> {
+    /// The name that came first.
+    first: Option<(&'src str, Number)>,
+    /// The others.
     numbers: BTreeMap<&'src str, Number>,
 }
 
 impl Drop for ExpressionContext<'_> {
     fn drop(self) {
-        let ExpressionContext { numbers: _numbers } = self;
+        let ExpressionContext {
+            first: _first,
+            numbers: _numbers,
+        } = self;
+    }
+}
+
+/// The number of the first name, if it is this one.
+fn number_of_first(first: &Option<(&str, Number)>, name: &str) -> Option<Number>
+    ensures { result ≡ number_of_first first.now name.now }
+{
+    match first {
+        Some((text, number)) => { if *text == name { Some(*number) } else { None } }
+        None => None,
+    }
+}
+
+/// Whether the name's number is kept beside the first name: it is that, or there is none.
+fn goes_first(first: &Option<(&str, Number)>, name: &str) -> bool
+    ensures { result ≡ goes_first first.now name.now }
+{
+    match first {
+        Some((text, _)) => *text == name,
+        None => true,
     }
 }
 
@@ -26,6 +53,7 @@ impl<'src> ExpressionContext<'src> {
         ensures { (name : List ℕ) → number_in result name ≡ None }
     {
         ExpressionContext {
+            first: None,
             numbers: BTreeMap::new(alloc),
         }
     }
@@ -35,7 +63,10 @@ impl<'src> ExpressionContext<'src> {
     pub fn lookup(&self, name: &str) -> Option<Number>
         ensures { result ≡ number_in self.now name.now }
     {
-        self.numbers.get(name).copied()
+        match number_of_first(&self.first, name) {
+            Some(number) => Some(number),
+            None => self.numbers.get(name).copied(),
+        }
     }
 
     /// Gives the name this number, and leaves the other names as they are. Refused only where memory
@@ -43,6 +74,10 @@ impl<'src> ExpressionContext<'src> {
     pub fn set(&mut self, name: &'src str, number: Number) -> Result<(), AllocError>
         ensures { OnOk result ((other : List ℕ) → number_in self.new other ≡ (if bytes_eq name.entry.now other then Some number else number_in self.old other)) }
     {
+        if goes_first(&self.first, name) {
+            self.first = Some((name, number));
+            return Ok(());
+        }
         match self.numbers.insert(name, number) {
             Ok(_) => Ok(()),
             Err(_) => Err(AllocError),
