@@ -1,7 +1,8 @@
 -- The set of the names that were read.
-use Rattle.std.proofs.Common.{◌≡◌, ℕ, Bool, true, false, List, [], ◌∷◌, refl, sym, ap, ◌∙◌}
+use Rattle.std.proofs.Common.{◌≡◌, ℕ, Bool, true, false, Option, Some, None, List, [], ◌∷◌, refl, sym, ap, ◌∙◌}
 use Rattle.std.specs.Prelude.{◌||◌}
 use Rattle.std.specs.List.{list_any}
+use Rattle.std.specs.Option.{is_some}
 use Rattle.std.specs.Borrow.{Bor}
 use Rattle.std.specs.BTreeSet.{BTreeSet, insert_key}
 use Rattle.std.specs.BTreeMap.{is_at}
@@ -12,7 +13,7 @@ use Rattle.std.specs.declared.cmp.Ordering.TheVariants.{Equal, Greater, Less}
 use Rattle.std.specs.Str.{bytes_eq}
 use Rattle.std.proofs.lemmas.Map.Text.{is_eq-slice_cmp}
 use Rattle.std.proofs.lemmas.Slice.Eq.{bytes_eq-Decides}
-use Rattle.parse_recipes.specs.Seen.{HasNames}
+use Rattle.parse_recipes.specs.Seen.{HasNames, has_name, is_first}
 
 -- how two names stand to each other
 abbrev pub name_cmp : Bor (List ℕ) → Bor (List ℕ) → Ordering
@@ -46,3 +47,16 @@ among_insert (x ∷ xs) key name = behind (name_cmp key x) key x xs (insert_key 
 -- a name was added
 pub name_added : (old new : BTreeSet (Bor (List ℕ))) (key : Bor (List ℕ)) (before : List (List ℕ)) → new.keys ≡ insert_key name_cmp old.keys key → HasNames old before → HasNames new (key.now ∷ before)
 name_added old new key before added has name = rw added (among_insert old.keys key name ∙ ap (λ b. bytes_eq name key.now || b) (has name))
+
+-- the name of the first parameter was read
+pub first_read : (first : Option (Bor (List ℕ))) (name : Bor (List ℕ)) (others : BTreeSet (Bor (List ℕ))) → is_some first ≡ false → (other : List ℕ)
+    → (is_first (Some name) other || has_name others other) ≡ (bytes_eq other name.now || (is_first first other || has_name others other))
+first_read None name others none other = refl
+first_read (Some first) name others none other = absurd cc
+
+-- the name of another one was read
+pub another_read : (first : Option (Bor (List ℕ))) (name : Bor (List ℕ)) (old new : BTreeSet (Bor (List ℕ))) → new.keys ≡ insert_key name_cmp old.keys name → (other : List ℕ)
+    → (is_first first other || has_name new other) ≡ (bytes_eq other name.now || (is_first first other || has_name old other))
+another_read first name old new added other =
+    let one : has_name new other ≡ (bytes_eq other name.now || has_name old other) = rw added (among_insert old.keys name other) in
+    ap (λ b. is_first first other || b) one ∙ or_swap (is_first first other) (bytes_eq other name.now) (has_name old other)

@@ -1,8 +1,6 @@
 -- The parameters that were read before those that are still to be read.
 use Rattle.std.proofs.Common.{◌≡◌, ℕ, zero, suc, ◌+◌, ◌-◌, ◌<◌, true, false, List, [], ◌∷◌, ◌++◌, length, map, Ok, Err, Some, None, refl, sym, ap, subst, ◌∙◌, arith, inl, inr, length-append}
 use Rattle.std.proofs.lemmas.List.{map-append, append-nil}
-use Rattle.std.specs.BTreeSet.{BTreeSet, IsEmpty}
-use Rattle.std.specs.Borrow.{Bor}
 use Rattle.just_text.specs.Numbers.{Numbers}
 use Rattle.just_text.specs.Tokens.{word_of, lexeme}
 use Rattle.just_text.specs.declared.token.Token.{Token}
@@ -16,7 +14,8 @@ use Rattle.parse_recipes.specs.Numbering.{FailsUnless, count_from, behind_bindin
 use Rattle.parse_recipes.specs.Plain.{IsPlain, ArePlain}
 use Rattle.parse_recipes.specs.Cooked.{AreParametersCooked, IsParameterCooked}
 use Rattle.parse_recipes.specs.Reading.{is_named, last_at, parameter_at, parameters_at}
-use Rattle.parse_recipes.specs.Seen.{HasNames, named_shape, with_name}
+use Rattle.parse_recipes.specs.Seen.{HasRead, named_shape, with_name}
+use Rattle.parse_recipes.specs.declared.parameter_names.ParameterNames.{ParameterNames}
 use Rattle.parse_recipes.proofs.Turns.{all_none, before, nothing_before, regroup}
 use Rattle.parse_expressions.proofs.Taken.{test}
 
@@ -99,16 +98,16 @@ numbered start old new fs p these this =
     }
 
 -- before the first parameter
-pub record Start (x : Origin) (numbers : Numbers) (set : BTreeSet (Bor (List ℕ))) (fs : List Parameter) (ts : List Token) : Type 0 where
-  pub names : HasNames set []
+pub record Start (x : Origin) (numbers : Numbers) (read : ParameterNames) (fs : List Parameter) (ts : List Token) : Type 0 where
+  pub names : HasRead read []
   pub so_far : before parameter_shape fs (parameters_at word_of x.expansion (suc (length ts)) [] ts) ≡ parameters_at word_of x.expansion (suc (length ts)) [] ts
   pub numbered : AreNumbered numbers numbers fs
   pub plain : ArePlain fs
   pub cooked : AreParametersCooked x fs
 
-pub start : (x : Origin) (numbers : Numbers) (set : BTreeSet (Bor (List ℕ))) (fs : List Parameter) (ts : List Token) → IsEmpty set → fs ≡ [] → Start x numbers set fs ts
-start x numbers set fs ts empty none = record {
-  names = λ name. rw empty refl;
+pub start : (x : Origin) (numbers : Numbers) (read : ParameterNames) (fs : List Parameter) (ts : List Token) → HasRead read [] → fs ≡ [] → Start x numbers read fs ts
+start x numbers read fs ts unread none = record {
+  names = unread;
   so_far = nothing_before parameter_shape fs (parameters_at word_of x.expansion (suc (length ts)) [] ts) none;
   numbered = let e : numbers.bindings ≡ numbers.bindings + 0 = omega arith in record { numbers = rw none refl; gone_on = rw none (ap (λ (m : ℕ). record numbers { bindings = m }) e) };
   plain = all_none IsPlain fs none;

@@ -5,6 +5,7 @@ pub mod body;
 mod dependency;
 mod numbering;
 mod parameter;
+mod parameter_names;
 mod path;
 pub mod recipe;
 pub mod recipe_law;

@@ -8,16 +8,16 @@ ghost use Rattle.parse_expressions.specs.Literals.{IsCooked};
 ghost use Rattle.parse_expressions.specs.Origins.{origin_of};
 ghost use Rattle.parse_recipes.specs.Cooked.{AreParametersCooked, IsParameterCooked};
 ghost use Rattle.parse_recipes.specs.Plain.{ArePlain, IsPlain};
-ghost use Rattle.parse_recipes.specs.Seen.{HasNames, named_shape, with_name};
+ghost use Rattle.parse_recipes.specs.Seen.{HasRead, named_shape, with_name};
 ghost use Rattle.parse_expressions.specs.Reading.{Gives, ahead};
 ghost use Rattle.parse_recipes.specs.Reading.{default_at, kind_at, last_at, marked_at, named_at, parameter_ahead, parameter_at, parameters_at};
 
 use crate::numbering::next_binding;
+use crate::parameter_names::ParameterNames;
 use crate::shrinking::push_compact;
 use just_text::{CompileErrorKind, Expander, Name, Numerator, Text, Token, TokenKind};
 use parse_expressions::{Context, Cursor, Fault};
 use std::alloc::Global;
-use std::collections::BTreeSet;
 use tree_expressions::Expression;
 use tree_items::{Parameter, ParameterKind};
 
@@ -141,17 +141,17 @@ fn check_last<'src>(alloc: Global, cursor: &Cursor<'_, 'src>) -> Result<(), Faul
 /// Remembers the name of a parameter, which no parameter before may have.
 fn remember<'src>(
     alloc: Global,
-    names: &mut BTreeSet<&'src str>,
+    names: &mut ParameterNames<'src>,
     name: &Name<'src>,
 ) -> Result<(), Fault<'src>>
-    ensures gives { (before : List (List ℕ)) → HasNames names.old before → Gives (λ _. lexeme name.now.token ∷ before) result (with_name before name.now.token) }
-    ensures remembered { (before : List (List ℕ)) → HasNames names.old before → OnOk result (HasNames names.new (lexeme name.now.token ∷ before)) }
+    ensures gives { (before : List (List ℕ)) → HasRead names.old before → Gives (λ _. lexeme name.now.token ∷ before) result (with_name before name.now.token) }
+    ensures remembered { (before : List (List ℕ)) → HasRead names.old before → OnOk result (HasRead names.new (lexeme name.now.token ∷ before)) }
 {
-    if names.contains(name.lexeme()) {
+    if names.has(name.lexeme()) {
         let text = Text::from_text(alloc, name.lexeme())?;
         return Err(Fault::Refused(name.token, CompileErrorKind::DuplicateParameter(text)));
     }
-    names.insert(name.lexeme())?;
+    names.add(name.lexeme())?;
     Ok(())
 }
 
@@ -174,7 +174,7 @@ pub fn parameters<'src, E: Expander>(
     ensures plain { IfOk result (λ ps. ArePlain ps.items) }
     ensures cooked { IfOk result (λ ps. AreParametersCooked (origin_of E.expansion context.now) ps.items) }
 {
-    let mut names = BTreeSet::new(alloc);
+    let mut names = ParameterNames::new(alloc);
     let mut parameters = Vec::new(alloc);
     while let Some(parameter) = parameter(cursor, context, numerator)? {
         let name = parameter.name;

@@ -19,7 +19,7 @@ pub loop-parameters-init : goal.loop-parameters-init
 loop-parameters-init g c =
     let ts = ahead c.args.cursor.now in
     let none : c.new-parameters.result.items ≡ [] = search rules in
-    let s = start (origin_of g.E.Expander.expansion c.args.context.now) c.args.numerator.now c.new-names.result c.new-parameters.result.items ts c.new-names.ensures.empty none in
+    let s = start (origin_of g.E.Expander.expansion c.args.context.now) c.args.numerator.now c.new-names.result c.new-parameters.result.items ts c.new-names.ensures none in
     record { turns = suc (length ts); taken = []; fuel = omega arith; names = s.names; so_far = s.so_far; numbers = s.numbered; room = rw none (omega arith); plain = s.plain; cooked = s.cooked }
 
 pub returns-in_err-parameter-clause-gives : goal.returns-in_err-parameter-clause-gives

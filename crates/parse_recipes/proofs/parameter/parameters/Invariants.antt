@@ -7,7 +7,7 @@ use Rattle.parse_recipes.specs.Numbering.{AreNumbered}
 use Rattle.parse_recipes.specs.Cooked.{AreParametersCooked}
 use Rattle.parse_recipes.specs.Plain.{ArePlain}
 use Rattle.parse_recipes.specs.Reading.{parameters_at}
-use Rattle.parse_recipes.specs.Seen.{HasNames}
+use Rattle.parse_recipes.specs.Seen.{HasRead}
 use Rattle.parse_recipes.proofs.Turns.{before}
 use Rattle.parse_recipes.proofs.parameter.parameters.Given as goal
 
@@ -16,7 +16,7 @@ invariant-loop-parameters g l = record {
   turns : ℕ;
   taken : List (List ℕ);
   fuel : length (ahead l.cursor) < turns;
-  names : HasNames l.names taken;
+  names : HasRead l.names taken;
   so_far : before parameter_shape l.parameters.items (parameters_at word_of (g.E.Expander.expansion l.fn.context.expander.now) turns taken (ahead l.cursor))
       ≡ parameters_at word_of (g.E.Expander.expansion l.fn.context.expander.now) (suc (length (ahead l.fn.cursor))) [] (ahead l.fn.cursor);
   numbers : AreNumbered l.fn.numerator l.numerator l.parameters.items;
