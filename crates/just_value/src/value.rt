@@ -59,7 +59,7 @@ impl Value {
     pub fn from_string(alloc: Global, text: String) -> Result<Value, AllocError>
         ensures { IfOk result (λ v. v ≡ string_bytes text ∷ []) }
     {
-        let mut elements = Vec::new(alloc);
+        let mut elements = Vec::with_capacity(alloc, 1)?;
         elements.push(text)?;
         Ok(Value { elements })
     }
