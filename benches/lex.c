@@ -18,7 +18,7 @@ enum line { BEGIN, START, AHEAD, INSIDE, BODY_START, BODY_LINE };
 
 /* The same fields as a token of the lexer has. */
 struct token {
-    size_t column, length, line, offset;
+    uint32_t column, length, line, offset;
     const char *path;
     size_t path_length;
     Bytes source;
