@@ -1,4 +1,4 @@
-"""Worlds, reached files, modules, reading orders, and what modules keep: the definitions of meaning_worlds over lists.
+"""Worlds, reached files, modules, reading orders, and what modules keep: the definitions of meaning_rules/Worlds over lists.
 
 A set that is closed under something is made by going round until nothing is new.
 """

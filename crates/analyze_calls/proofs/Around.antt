@@ -10,8 +10,8 @@ use Rattle.evaluate_expressions.specs.Situations.{reading_at, stage_at}
 use Rattle.evaluate_expressions.specs.declared.evaluator.Evaluator.{Evaluator}
 use Rattle.justfile_evaluator.specs.Ended.{failure_of}
 use Rattle.justfile_evaluator.specs.declared.fault.RunFault.{RunFault}
-use Rattle.meaning_bodies.specs.Performing.{Performs, Stays}
-use Rattle.meaning_bodies.proofs.Performing.{performs_then, performs_stops, performs_evaluated}
+use Rattle.laws_evaluation.specs.Bodies.Performing.{Performs, Stays}
+use Rattle.laws_evaluation.proofs.Bodies.Performing.{performs_then, performs_stops, performs_evaluated}
 use Rattle.meaning_dialogues.specs.Dialogue.{Dialogue, Evaluates, Reading}
 use Rattle.meaning_dialogues.specs.Evaluation.{Stage}
 use Rattle.meaning_dialogues.specs.Faults.{Fault, memory}

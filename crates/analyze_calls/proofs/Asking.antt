@@ -15,8 +15,8 @@ use Rattle.meaning_dialogues.specs.Faults.{Fault, memory}
 use Rattle.meaning_dialogues.specs.Terms.{term_of}
 use Rattle.meaning_runs.specs.Failures.{Failure, confirmed, evaluation}
 use Rattle.meaning_runs.specs.Task.{ends, lift}
-use Rattle.meaning_bodies.specs.Performing.{Performs, Stays}
-use Rattle.meaning_bodies.proofs.Performing.{performs_confirmed, performs_then, performs_stops, performs_ends, performs_evaluated}
+use Rattle.laws_evaluation.specs.Bodies.Performing.{Performs, Stays}
+use Rattle.laws_evaluation.proofs.Bodies.Performing.{performs_confirmed, performs_then, performs_stops, performs_ends, performs_evaluated}
 use Rattle.analyze_calls.specs.Confirming.{asking, confirming, prompt_text}
 
 module _ {H : Type 0} (reading : Reading) where

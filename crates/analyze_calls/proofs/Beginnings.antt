@@ -18,7 +18,7 @@ use Rattle.evaluate_context.specs.declared.context.ExecutionContext.{ExecutionCo
 use Rattle.evaluate_context.specs.declared.context.ModuleView.{ModuleView}
 use Rattle.evaluate_variables.specs.Opened.{BeginsOpening, OpensInside, ordered, reads}
 use Rattle.meaning_dialogues.specs.Faults.{Fault}
-use Rattle.meaning_opening.specs.Requests.{OpeningFailure, Requests, told, refused as request_refused}
+use Rattle.meaning_evaluation.specs.Requests.{OpeningFailure, Requests, told, refused as request_refused}
 use Rattle.analyze_calls.specs.Opening.{AllBegin, FillsBegin, IsContextOf, IsTold, MayBeTold, OneBegins, OpenedRow, OpensAfter, asks_for, is_wanted, request_if_any, request_in}
 use Rattle.analyze_calls.specs.Opening.{not_told, was_told, opened, unfilled, not_there, there, refused, nothing, asked as answer_begins, goes as opening_begins, none_begins, nowhere_begins, one_begins, later_begins}
 use Rattle.analyze_calls.specs.declared.opening.Opening.{Opening}

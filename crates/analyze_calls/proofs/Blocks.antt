@@ -13,7 +13,7 @@ use Rattle.meaning_dialogues.specs.Evaluation.{Stage, Value}
 use Rattle.meaning_dialogues.specs.Faults.{Fault, internal, memory}
 use Rattle.meaning_dialogues.proofs.Dialogues.{begins_first, begins_here, ends, goes_on, stops, then_stops, whole_begins}
 use Rattle.evaluate_expressions.proofs.WantOfMemory.{unless_memory}
-use Rattle.meaning_bodies.specs.Performing.{in_front}
+use Rattle.laws_evaluation.specs.Bodies.Performing.{in_front}
 use Rattle.analyze_calls.specs.Blocks.{block, brings, brings_at, call_with, first_of, groups_for, others_of, rows_of, shared_out, starred_rows, values_of}
 use Rattle.analyze_calls.specs.Calls.{CallRow, row_of, rows}
 use Rattle.analyze_calls.specs.declared.call.Call.{Call}

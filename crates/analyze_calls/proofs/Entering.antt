@@ -20,7 +20,7 @@ use Rattle.meaning_dialogues.specs.Faults.{memory}
 use Rattle.meaning_dialogues.proofs.Dialogues.{not_begun}
 use Rattle.evaluate_expressions.proofs.WantOfMemory.{unless_memory}
 use Rattle.meaning_runs.specs.Failures.{Failure, evaluation}
-use Rattle.meaning_stages.specs.Parameters.{Formal}
+use Rattle.meaning_evaluation.specs.Stages.Parameters.{Formal}
 use Rattle.analyze_calls.specs.Binding.{Binds, Grew, may_have}
 use Rattle.analyze_calls.specs.Entered.{EnteredRow, bound_row, inside}
 use Rattle.analyze_calls.specs.declared.plan.Planned.{Planned}

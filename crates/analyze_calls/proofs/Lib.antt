@@ -6,3 +6,4 @@ pub mod Around
 pub mod Openings
 pub mod Memory
 pub mod Beginnings
+pub mod Runs

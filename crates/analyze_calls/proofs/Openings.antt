@@ -32,7 +32,7 @@ use Rattle.evaluate_variables.specs.Opened.{Opens, OpensInside, framed, ordered,
 use Rattle.analyze_calls.specs.declared.fault.OpeningFault.{OpeningFault}
 use Rattle.analyze_calls.specs.declared.fault.OpeningFault.TheVariants.{OutOfMemory, Dotenv as DotenvEnded, Opening as OpeningEnded}
 use Rattle.meaning_dialogues.specs.Faults.{Fault, memory}
-use Rattle.meaning_opening.specs.Requests.{OpeningFailure, Requests, dotenv, opening, unasked, told, refused as request_refused}
+use Rattle.meaning_evaluation.specs.Requests.{OpeningFailure, Requests, dotenv, opening, unasked, told, refused as request_refused}
 use Rattle.analyze_calls.specs.Opening.{IfOpened, IsContextOf, IsOpening, out_of_memory, no_value as opening_refused, IsFilled, IsTold, OpenedRow, OpensAfter, OpensAll, OpensOne, asks_for, is_wanted, opened_row, passed, request_if_any, request_in, holds, ends, fills as evaluated, fails as not_evaluated, untold, opened, unfilled, not_there, there, refused, none_left, nowhere, one_more, fault_here, fault_later}
 use Rattle.analyze_calls.specs.declared.opening.Opened.{Opened}
 use Rattle.analyze_calls.specs.declared.opening.Opening.{Opening}

@@ -15,10 +15,10 @@ use Rattle.justfile_evaluator.specs.Ended.{SaysSo}
 use Rattle.justfile_evaluator.specs.Sites.{attribute_in, is_silent, manner_of}
 use Rattle.justfile_evaluator.specs.declared.fault.RunFault.{RunFault}
 use Rattle.justfile_evaluator.specs.declared.site.Site.{Site}
-use Rattle.meaning_bodies.specs.Performing.{Performs}
+use Rattle.laws_evaluation.specs.Bodies.Performing.{Performs}
 use Rattle.meaning_dialogues.specs.Dialogue.{Dialogue, Ends, Reading}
 use Rattle.meaning_dialogues.specs.Evaluation.{Stage}
-use Rattle.meaning_parameters.specs.Bindings.{run_reading}
+use Rattle.meaning_evaluation.specs.Parameters.Bindings.{run_reading}
 use Rattle.meaning_runs.specs.Failures.{Failure}
 use Rattle.meaning_runs.specs.Task.{Task, TaskBegins, TaskLeads, ends, lift, ◌>>=◌}
 use Rattle.analyze_calls.specs.Binding.{Grew}

@@ -7,10 +7,10 @@ use Rattle.evaluate_variables.specs.Given.{AreCounted, HasRowsOf, bound_at, pass
 use Rattle.meaning_dialogues.specs.Dialogue.{Evaluates}
 use Rattle.meaning_dialogues.specs.Evaluation.{Value}
 use Rattle.meaning_dialogues.specs.Faults.{Fault}
-use Rattle.meaning_stages.specs.Parameters.{Formal, formal_of}
-use Rattle.meaning_parameters.specs.Bindings.{GivesBound, run_reading}
+use Rattle.meaning_evaluation.specs.Stages.Parameters.{Formal, formal_of}
+use Rattle.meaning_evaluation.specs.Parameters.Bindings.{GivesBound, run_reading}
 use Rattle.meaning_runs.specs.Failures.{Failure, evaluation}
-use Rattle.meaning_calls.specs.Scopes.{at_least, at_most}
+use Rattle.meaning_evaluation.specs.Scopes.{at_least, at_most}
 use Rattle.analyze_calls.specs.Entered.{EnteredRow, inside}
 use Rattle.analyze_calls.specs.declared.plan.Planned.{Planned}
 

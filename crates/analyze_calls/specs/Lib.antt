@@ -9,3 +9,4 @@ pub mod Brought
 pub mod Blocks
 pub mod Binding
 pub mod Around
+pub mod Runs

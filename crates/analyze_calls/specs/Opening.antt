@@ -18,7 +18,7 @@ use Rattle.evaluate_context.specs.declared.settings.Settings.{Settings}
 use Rattle.evaluate_variables.specs.Opened.{BeginsInside, LeavesFrame, OpensInside, framed, reads}
 use Rattle.meaning_dialogues.specs.Evaluation.{Value}
 use Rattle.meaning_dialogues.specs.Faults.{Fault, memory}
-use Rattle.meaning_opening.specs.Requests.{OpeningFailure, Requests, dotenv, opening}
+use Rattle.meaning_evaluation.specs.Requests.{OpeningFailure, Requests, dotenv, opening}
 use Rattle.analyze_calls.specs.declared.opening.Opened.{Opened}
 use Rattle.analyze_calls.specs.declared.fault.OpeningFault.{OpeningFault}
 use Rattle.analyze_calls.specs.declared.fault.OpeningFault.TheVariants.{OutOfMemory, Dotenv, Opening}

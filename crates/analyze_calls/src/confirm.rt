@@ -9,7 +9,7 @@ ghost use Rattle.evaluate_expressions.specs.Situations.{reading_at, stage_at};
 ghost use Rattle.meaning_dialogues.specs.Dialogue.{Reading};
 ghost use Rattle.meaning_dialogues.specs.Evaluation.{Stage};
 ghost use Rattle.meaning_runs.specs.Failures.{confirmed};
-ghost use Rattle.meaning_bodies.specs.Performing.{Performs};
+ghost use Rattle.laws_evaluation.specs.Bodies.Performing.{Performs};
 ghost use Rattle.justfile_evaluator.specs.Ended.{IsTold, ended};
 ghost use Rattle.justfile_evaluator.specs.Sites.{attribute_in};
 ghost use Rattle.analyze_calls.specs.Asked.{AsksUser};
@@ -20,8 +20,7 @@ use just_host::{Confirmation, Recorded, RunHost};
 use just_text::Name;
 use justfile_evaluator::{Evaluator, RunFault};
 use std::alloc::{AllocError, Global};
-use tree_attribute_sets::AttributeSet;
-use tree_attributes::{Attribute, AttributeKind};
+use tree_attributes::{Attribute, AttributeKind, AttributeSet};
 use tree_expressions::Expression;
 use tree_items::{Recipe, UnresolvedDependency};
 

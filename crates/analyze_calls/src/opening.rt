@@ -5,7 +5,7 @@ ghost use Rattle.just_host.specs.declared.host.HostFault.TheVariants.{Memory};
 ghost use Rattle.evaluate_context.specs.Environment.{variable};
 ghost use Rattle.evaluate_context.specs.Surroundings as by;
 ghost use Rattle.analyze_calls.specs.declared.fault.OpeningFault.TheVariants.{OutOfMemory};
-ghost use Rattle.meaning_opening.specs.Requests.{Requests};
+ghost use Rattle.meaning_evaluation.specs.Requests.{Requests};
 ghost use Rattle.analyze_calls.specs.Opening.{AllBegin, FillsBegin, IfOpened, IsContextOf, IsFilled, IsTold, MayBeTold, OneBegins, OpensAfter, OpensAll, OpensOne, asks_for, opened_row, opened_rows, passed, request_if_any, request_in};
 
 use crate::fault::OpeningFault;

@@ -8,8 +8,7 @@ use just_host::Config;
 use just_text::{Sequence, Text};
 use just_value::Value;
 use std::alloc::{AllocError, Global};
-use tree_attribute_sets::Indentation;
-use tree_attributes::Interpreter;
+use tree_attributes::{Indentation, Interpreter};
 
 /// The shell where nothing names one.
 pub const DEFAULT_SHELL: &str = "sh";

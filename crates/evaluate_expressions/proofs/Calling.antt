@@ -9,9 +9,9 @@ use Rattle.meaning_dialogues.specs.Faults.{Fault, memory, too_deep}
 use Rattle.meaning_dialogues.specs.Dialogue.{Dialogue, Evaluates, Reading}
 use Rattle.meaning_dialogues.specs.Evaluation.{Value, row, dialogue}
 use Rattle.meaning_dialogues.specs.Calls.{DefinedFunction, HasValues, empty, with_parameters, reading_in_frames, call_defined}
-use Rattle.meaning_stages.specs.Stages.{run_stage}
+use Rattle.meaning_evaluation.specs.Stages.Stages.{run_stage}
 use Rattle.meaning_dialogues.proofs.Dialogues.{ends}
-use Rattle.meaning_stages.proofs.Called.{call_goes, call_memory, call_stops}
+use Rattle.meaning_evaluation.proofs.Stages.Called.{call_goes, call_memory, call_stops}
 use Rattle.evaluate_expressions.specs.Situations.{functions_in, around_body, calls_in, stage_in}
 
 abbrev no_number : ℕ → Bool

@@ -10,14 +10,14 @@ use Rattle.meaning_dialogues.specs.Evaluation.{Value, dialogue, dialogues, text_
 use Rattle.meaning_dialogues.specs.Faults.{Fault, TextPlace}
 use Rattle.meaning_dialogues.specs.Terms.{Term, Terms, end, more}
 use Rattle.meaning_dialogues.proofs.Soundness.{Any}
-use Rattle.meaning_stages.specs.Lines.{interpolation, piece_dialogue}
-use Rattle.meaning_soundness.specs.Endings.{NotInternal, Proper}
-use Rattle.meaning_soundness.specs.Known.{IsBoundAt, IsReadAt}
-use Rattle.meaning_soundness.proofs.Endings.{AllProper, then_proper, wider}
-use Rattle.meaning_soundness.proofs.Results.{comes_to}
-use Rattle.meaning_soundness.proofs.Terms.{text_proper, interpreter_proper}
-use Rattle.meaning_soundness.proofs.Constants.{constant_proper}
-use Rattle.meaning_soundness.proofs.Frames.{read_proper, bound_at, evaluates_properly, names_proper}
+use Rattle.meaning_evaluation.specs.Stages.Lines.{interpolation, piece_dialogue}
+use Rattle.laws_evaluation.specs.Soundness.Endings.{NotInternal, Proper}
+use Rattle.laws_evaluation.specs.Soundness.Known.{IsBoundAt, IsReadAt}
+use Rattle.laws_evaluation.proofs.Soundness.Endings.{AllProper, then_proper, wider}
+use Rattle.laws_evaluation.proofs.Soundness.Results.{comes_to}
+use Rattle.laws_evaluation.proofs.Soundness.Terms.{text_proper, interpreter_proper}
+use Rattle.laws_evaluation.proofs.Soundness.Constants.{constant_proper}
+use Rattle.laws_evaluation.proofs.Soundness.Frames.{read_proper, bound_at, evaluates_properly, names_proper}
 use Rattle.evaluate_expressions.specs.Situations.{functions_in, around_body, is_non_const, stage_of, stage_at, reading_at}
 use Rattle.evaluate_expressions.specs.Known.{IsReadBy, TermKnownIn, BodiesKnownIn, TermKnownBy, BodiesKnownBy, TermsKnownBy, EachTerm}
 use Rattle.evaluate_expressions.specs.declared.evaluator.Evaluator.{Evaluator}

@@ -8,7 +8,7 @@ use Rattle.tree_items.specs.declared.item.FunctionDefinition.{FunctionDefinition
 use Rattle.evaluate_context.specs.Functions.{first_named}
 use Rattle.evaluate_context.specs.declared.context.FunctionRef.{FunctionRef}
 use Rattle.meaning_dialogues.specs.Calls.{function_named}
-use Rattle.meaning_stages.specs.Stages.{defined_of, definitions}
+use Rattle.meaning_evaluation.specs.Stages.Stages.{defined_of, definitions}
 
 chosen : (t : Bool) (f : FunctionDefinition) (o : Option FunctionDefinition) → option_map defined_of (cond t (Some f) o) ≡ cond t (Some (defined_of f)) (option_map defined_of o)
 chosen true f o = refl

@@ -6,7 +6,7 @@ use Rattle.meaning_dialogues.specs.Calls.{DefinedFunction}
 use Rattle.meaning_dialogues.specs.Dialogue.{Lookup, Variable}
 use Rattle.meaning_dialogues.specs.Terms.{Term, Terms, end, more}
 use Rattle.meaning_dialogues.proofs.Soundness.{Each}
-use Rattle.meaning_soundness.specs.Known.{IsBoundIn, IsReadIn, IsReadAt, NamesKnown, BodiesKnown}
+use Rattle.laws_evaluation.specs.Soundness.Known.{IsBoundIn, IsReadIn, IsReadAt, NamesKnown, BodiesKnown}
 use Rattle.evaluate_expressions.specs.Situations.{functions_in, is_non_const}
 use Rattle.evaluate_expressions.specs.declared.evaluator.Evaluator.{Evaluator}
 use Rattle.evaluate_expressions.specs.declared.evaluator.Stage.{Stage as StageOf}

@@ -14,7 +14,7 @@ use Rattle.meaning_dialogues.specs.Dialogue.{Dialogue, Ends, ◌>>=◌, Reading}
 use Rattle.meaning_dialogues.specs.Evaluation.{Stage, Value}
 use Rattle.meaning_dialogues.specs.Faults.{not_constant, a_call, internal}
 use Rattle.meaning_dialogues.specs.Calls.{Calls, DefinedFunction, arguments, const_stage, reading_in_frames}
-use Rattle.meaning_stages.specs.Stages.{definitions, run_stage, calls_left}
+use Rattle.meaning_evaluation.specs.Stages.Stages.{definitions, run_stage, calls_left}
 use Rattle.evaluate_expressions.specs.declared.evaluator.Evaluator.{Evaluator}
 use Rattle.evaluate_expressions.specs.declared.evaluator.Stage.{Stage as StageOf}
 use Rattle.evaluate_expressions.specs.declared.evaluator.Stage.TheVariants.{Const, Run}

@@ -21,9 +21,9 @@ ghost use Rattle.meaning_dialogues.specs.Evaluation.{dialogue, text_dialogue};
 ghost use Rattle.meaning_dialogues.specs.Faults.{memory, text_place};
 ghost use Rattle.meaning_dialogues.specs.Terms as terms;
 ghost use Rattle.meaning_dialogues.specs.Terms.{term_of, terms_of, holes_of};
-ghost use Rattle.meaning_soundness.specs.Endings.{NotInternal};
-ghost use Rattle.meaning_stages.specs.Lines.{interpolation, piece_dialogue};
-ghost use Rattle.meaning_stages.specs.Stages.{defined_of};
+ghost use Rattle.laws_evaluation.specs.Soundness.Endings.{NotInternal};
+ghost use Rattle.meaning_evaluation.specs.Stages.Lines.{interpolation, piece_dialogue};
+ghost use Rattle.meaning_evaluation.specs.Stages.Stages.{defined_of};
 
 use crate::failure::{Failure, unboxed};
 use crate::functions::parameter_scope;

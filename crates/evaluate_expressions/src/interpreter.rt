@@ -12,7 +12,7 @@ ghost use Rattle.meaning_dialogues.specs.Dialogue.{Evaluates};
 ghost use Rattle.meaning_dialogues.specs.Evaluation.{dialogues, interpreter_dialogue, interpreter_words};
 ghost use Rattle.meaning_dialogues.specs.Faults.{memory};
 ghost use Rattle.meaning_dialogues.specs.Terms.{terms_of};
-ghost use Rattle.meaning_soundness.specs.Endings.{NotInternal};
+ghost use Rattle.laws_evaluation.specs.Soundness.Endings.{NotInternal};
 
 use crate::evaluator::Evaluator;
 use evaluate_context::Error;

@@ -7,7 +7,7 @@ use Rattle.meaning_dialogues.specs.Evaluation.{Stage, Value, dialogue}
 use Rattle.meaning_dialogues.specs.Faults.{Fault, memory}
 use Rattle.meaning_dialogues.specs.Terms.{Term}
 use Rattle.meaning_dialogues.proofs.Dialogues.{ends, then_goes, then_stops}
-use Rattle.meaning_stages.specs.Parameters.{Formal, default_dialogue, given_dialogue, parameter_dialogue}
+use Rattle.meaning_evaluation.specs.Stages.Parameters.{Formal, default_dialogue, given_dialogue, parameter_dialogue}
 use Rattle.evaluate_variables.specs.Given.{times_over}
 
 times_turned : (n : ℕ) (v : Value) → times_over n v ++ v ≡ v ++ times_over n v

@@ -4,7 +4,7 @@ use Rattle.std.specs.Prelude.{IsSome, String}
 use Rattle.std.specs.BTreeMap.{BTreeMap}
 use Rattle.std.specs.Option.{option_map, option_or}
 use Rattle.just_text.specs.Tokens.{lexeme}
-use Rattle.tree_attribute_sets.specs.Sets.{items_of}
+use Rattle.tree_attributes.specs.Sets.Sets.{items_of}
 use Rattle.tree_items.specs.declared.recipe.Recipe.{Recipe}
 use Rattle.just_host.specs.declared.entry.Entry.{Entry}
 use Rattle.just_host.specs.declared.job.Pair.{Pair}
@@ -16,14 +16,14 @@ use Rattle.evaluate_context.specs.declared.error.Error.{Error}
 use Rattle.evaluate_expressions.specs.Situations.{functions_in, around_body}
 use Rattle.meaning_dialogues.specs.Evaluation.{Value}
 use Rattle.meaning_dialogues.specs.Faults.{Fault, memory, not_constant, a_variable}
-use Rattle.meaning_stages.specs.Assigned.{Assigned}
-use Rattle.meaning_stages.specs.Parameters.{Formal, formal_of}
-use Rattle.meaning_parameters.specs.Bindings.{env_terms}
-use Rattle.meaning_soundness.specs.Endings.{is_internal}
-use Rattle.meaning_soundness.specs.Opening.{IsNumbered, ReadsProperly}
-use Rattle.meaning_soundness.proofs.Constants.{constants_proper}
-use Rattle.meaning_soundness.proofs.Opening.{opening_proper}
-use Rattle.meaning_soundness.proofs.Parameters.{bound_in_frames}
+use Rattle.meaning_evaluation.specs.Stages.Assigned.{Assigned}
+use Rattle.meaning_evaluation.specs.Stages.Parameters.{Formal, formal_of}
+use Rattle.meaning_evaluation.specs.Parameters.Bindings.{env_terms}
+use Rattle.meaning_dialogues.specs.Internal.{is_internal}
+use Rattle.laws_evaluation.specs.Soundness.Opening.{IsNumbered, ReadsProperly}
+use Rattle.laws_evaluation.proofs.Soundness.Constants.{constants_proper}
+use Rattle.laws_evaluation.proofs.Soundness.Opening.{opening_proper}
+use Rattle.laws_evaluation.proofs.Soundness.Parameters.{bound_in_frames}
 use Rattle.evaluate_variables.specs.Given.{BoundRecipe}
 use Rattle.evaluate_variables.specs.Known.{IsProper, VariablesKnown, ConstantsKnown, ParametersKnown, IsFound}
 use Rattle.evaluate_variables.specs.Opened.{OpensFrame, framed, overridden, ordered}

@@ -10,8 +10,8 @@ use Rattle.evaluate_context.specs.declared.context.ExecutionContext.{ExecutionCo
 use Rattle.meaning_dialogues.specs.Dialogue.{Begins, Evaluates}
 use Rattle.meaning_dialogues.specs.Evaluation.{Value}
 use Rattle.meaning_dialogues.specs.Faults.{Fault, memory}
-use Rattle.meaning_stages.specs.Assigned.{Assigned, BeginsAssigning, assigned_dialogue, row_of, all, skipped, opened, refused}
-use Rattle.meaning_stages.proofs.Assigning.{assigning_here, assigns_begins, value_begins}
+use Rattle.meaning_evaluation.specs.Stages.Assigned.{Assigned, BeginsAssigning, assigned_dialogue, row_of, all, skipped, opened, refused}
+use Rattle.meaning_evaluation.proofs.Stages.Assigning.{assigning_here, assigns_begins, value_begins}
 use Rattle.evaluate_variables.specs.Opened.{BeginsOpening, Opens, before, framed, opening_reading, opening_stage, ordered, overridden}
 
 module _ (context : ExecutionContext) (outer : List (List BoundRow)) (is_read : ℕ → Bool) where

@@ -24,7 +24,7 @@ use Rattle.meaning_dialogues.specs.Evaluation.{Value, Stage, dialogue, dialogues
 use Rattle.meaning_dialogues.specs.Faults.{Fault, TextPlace, memory}
 use Rattle.meaning_dialogues.specs.Terms.{Term, Terms, listing}
 use Rattle.meaning_dialogues.proofs.Quiet.{Quiet, const_quiet, settles}
-use Rattle.meaning_stages.specs.Assigned.{Assigned, Settles, settling, assigned_dialogue, all_settled, passed, settles_to, is_none, fails}
+use Rattle.meaning_evaluation.specs.Stages.Assigned.{Assigned, Settles, settling, assigned_dialogue, all_settled, passed, settles_to, is_none, fails}
 use Rattle.evaluate_variables.specs.Opened.{before, ordered, overridden, refusal}
 use Rattle.evaluate_variables.specs.Settled.{FailsIn, Keeps, SettlesTo, const_reading, excluded_in, found_value, read_constant, reading_in, seen_constant, values_in, values_of}
 use Rattle.evaluate_variables.specs.declared.const_evaluator.ConstEvaluator.{ConstEvaluator}

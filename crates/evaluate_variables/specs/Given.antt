@@ -6,8 +6,8 @@ use Rattle.just_text.specs.Tokens.{lexeme}
 use Rattle.just_text.specs.declared.name.Name.{Name}
 use Rattle.std.specs.List.{Contains, list_any}
 use Rattle.tree_attributes.specs.declared.attribute.AttributeKind.TheVariants.{PositionalArguments}
-use Rattle.tree_attribute_sets.specs.Sets.{is_of, items_of}
-use Rattle.tree_attribute_sets.specs.declared.attribute_set.AttributeSet.{AttributeSet}
+use Rattle.tree_attributes.specs.Sets.Sets.{is_of, items_of}
+use Rattle.tree_attributes.specs.declared.attribute_set.AttributeSet.{AttributeSet}
 use Rattle.tree_items.specs.declared.recipe.Parameter.{Parameter}
 use Rattle.tree_items.specs.declared.recipe.Recipe.{Recipe}
 use Rattle.just_host.specs.declared.entry.Entry.{Entry}
@@ -21,8 +21,8 @@ use Rattle.evaluate_expressions.specs.Situations.{running_stage}
 use Rattle.meaning_dialogues.specs.Calls.{empty, reading_in_frames}
 use Rattle.meaning_dialogues.specs.Dialogue.{Dialogue, Evaluates, Reading}
 use Rattle.meaning_dialogues.specs.Evaluation.{Stage, Value}
-use Rattle.meaning_stages.specs.Parameters.{Bound, Formal, bound_dialogue, formal_of, values_dialogue}
-use Rattle.meaning_parameters.specs.Bindings.{GivesBound, GivesParameters, env_terms}
+use Rattle.meaning_evaluation.specs.Stages.Parameters.{Bound, Formal, bound_dialogue, formal_of, values_dialogue}
+use Rattle.meaning_evaluation.specs.Parameters.Bindings.{GivesBound, GivesParameters, env_terms}
 use Rattle.evaluate_variables.specs.declared.parameters.BoundParameters.{BoundParameters}
 use Rattle.evaluate_variables.specs.declared.parameters.Site.{Site}
 

@@ -2,7 +2,7 @@
 use Rattle.std.specs.Prelude.{◌≡◌, ◌⊎◌, ℕ, Bool, true, false, List, ◌∷◌, IsSome, map, String}
 use Rattle.std.specs.BTreeMap.{BTreeMap}
 use Rattle.just_value.specs.Frames.{Frames, found_in}
-use Rattle.tree_attribute_sets.specs.Sets.{items_of}
+use Rattle.tree_attributes.specs.Sets.Sets.{items_of}
 use Rattle.tree_items.specs.declared.recipe.Recipe.{Recipe}
 use Rattle.evaluate_context.specs.Refusals.{fault_of}
 use Rattle.evaluate_context.specs.declared.context.ExecutionContext.{ExecutionContext}
@@ -10,13 +10,13 @@ use Rattle.evaluate_context.specs.declared.error.Error.{Error}
 use Rattle.evaluate_expressions.specs.Situations.{functions_in}
 use Rattle.meaning_dialogues.specs.Calls.{DefinedFunction}
 use Rattle.meaning_dialogues.specs.Evaluation.{Value}
-use Rattle.meaning_stages.specs.Assigned.{Assigned}
-use Rattle.meaning_stages.specs.Parameters.{formal_of}
-use Rattle.meaning_stages.proofs.Depth.{HasNumber}
-use Rattle.meaning_parameters.specs.Bindings.{env_terms}
-use Rattle.meaning_soundness.specs.Endings.{is_internal}
-use Rattle.meaning_soundness.specs.Known.{IsBoundIn, NamesKnown, BodiesKnown, RecipeKnown}
-use Rattle.meaning_soundness.specs.Opening.{SideKnown, ConstantKnown, InOrder}
+use Rattle.meaning_evaluation.specs.Stages.Assigned.{Assigned}
+use Rattle.meaning_evaluation.specs.Stages.Parameters.{formal_of}
+use Rattle.meaning_evaluation.proofs.Stages.Depth.{HasNumber}
+use Rattle.meaning_evaluation.specs.Parameters.Bindings.{env_terms}
+use Rattle.meaning_dialogues.specs.Internal.{is_internal}
+use Rattle.laws_evaluation.specs.Soundness.Known.{IsBoundIn, NamesKnown, BodiesKnown, RecipeKnown}
+use Rattle.laws_evaluation.specs.Soundness.Opening.{SideKnown, ConstantKnown, InOrder}
 use Rattle.evaluate_variables.specs.Opened.{ordered, overridden}
 
 -- a refusal other than `internal`

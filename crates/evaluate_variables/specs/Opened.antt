@@ -19,7 +19,7 @@ use Rattle.meaning_dialogues.specs.Calls.{reading_in_frames}
 use Rattle.meaning_dialogues.specs.Dialogue.{Reading}
 use Rattle.meaning_dialogues.specs.Evaluation.{Stage}
 use Rattle.meaning_dialogues.specs.Faults.{Fault, memory}
-use Rattle.meaning_stages.specs.Assigned.{Assigned, Assigns, BeginsAssigning, assigned_of}
+use Rattle.meaning_evaluation.specs.Stages.Assigned.{Assigned, Assigns, BeginsAssigning, assigned_of}
 
 abbrev pub assigned : Bor (Binding Expression) → Assigned
 assigned assignment = assigned_of (record { assignment = assignment })

@@ -4,7 +4,7 @@ use Rattle.tree_expressions.specs.declared.expression.Expression.{Expression}
 use Rattle.tree_attributes.specs.declared.setting.Interpreter.{Interpreter}
 use Rattle.tree_attributes.specs.declared.setting.Setting.{Setting}
 use Rattle.tree_attributes.specs.declared.setting.Setting.TheVariants.{AllowDuplicateRecipes, AllowDuplicateVariables, DefaultList, DefaultScript, DotenvCommand, DotenvFilename, DotenvLoad, DotenvOverride, DotenvPath, DotenvRequired, Export, Fallback, Guards, IgnoreComments, Indentation, Lazy, Lists, MinimumVersion, NoCd, NoExitMessage, PositionalArguments, Quiet, ScriptInterpreter, ShareSubsequents, Shell, Tempdir, Unstable, WindowsPowershell, WindowsShell, WorkingDirectory}
-use Rattle.tree_attribute_sets.specs.Indentations.{is_indentation}
+use Rattle.tree_attributes.specs.Sets.Indentations.{is_indentation}
 use Rattle.evaluate_context.specs.Refusals.{fault_of}
 use Rattle.evaluate_context.specs.declared.error.Error.{Error}
 use Rattle.evaluate_context.specs.declared.settings.Settings.{Settings}

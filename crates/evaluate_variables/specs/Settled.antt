@@ -12,7 +12,7 @@ use Rattle.meaning_dialogues.specs.Calls.{Frame, empty, unreadable, reading_in_f
 use Rattle.meaning_dialogues.specs.Dialogue.{Reading}
 use Rattle.meaning_dialogues.specs.Evaluation.{Value}
 use Rattle.meaning_dialogues.specs.Faults.{Fault, memory, not_constant, a_variable}
-use Rattle.meaning_stages.specs.Assigned.{Assigned, Settles}
+use Rattle.meaning_evaluation.specs.Stages.Assigned.{Assigned, Settles}
 use Rattle.evaluate_variables.specs.Opened.{overridden}
 use Rattle.evaluate_variables.specs.declared.const_evaluator.ConstEvaluator.{ConstEvaluator}
 

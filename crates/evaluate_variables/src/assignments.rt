@@ -5,7 +5,7 @@ ghost use Rattle.evaluate_context.specs.Refusals.{seen};
 ghost use Rattle.meaning_dialogues.specs.Dialogue.{Evaluates};
 ghost use Rattle.meaning_dialogues.specs.Faults.{memory};
 ghost use Rattle.meaning_dialogues.specs.Terms.{term_of};
-ghost use Rattle.meaning_stages.specs.Assigned.{assigned_dialogue};
+ghost use Rattle.meaning_evaluation.specs.Stages.Assigned.{assigned_dialogue};
 ghost use Rattle.evaluate_variables.specs.Known.{IsProper, VariablesKnown};
 ghost use Rattle.evaluate_variables.specs.Opened.{BeginsInside, BeginsOpening, Opens, OpensFrame, assigned, opening_reading, opening_stage, ordered, overridden, reads, refusal};
 

@@ -11,7 +11,7 @@ ghost use Rattle.meaning_dialogues.specs.Constants.{constant, settled};
 ghost use Rattle.meaning_dialogues.specs.Evaluation.{dialogue, dialogues, interpreter_dialogue, text_dialogue};
 ghost use Rattle.meaning_dialogues.specs.Faults.{memory, text_place};
 ghost use Rattle.meaning_dialogues.specs.Terms.{term_of, terms_of};
-ghost use Rattle.meaning_stages.specs.Assigned.{assigned_dialogue};
+ghost use Rattle.meaning_evaluation.specs.Stages.Assigned.{assigned_dialogue};
 ghost use Rattle.evaluate_variables.specs.Known.{ConstantsKnown, IsProper};
 ghost use Rattle.evaluate_variables.specs.Opened.{assigned, ordered, overridden, refusal};
 ghost use Rattle.evaluate_variables.specs.Settled.{FindsConstants, Keeps, SettlesTo, reading_in, seen_constant, seen_words};

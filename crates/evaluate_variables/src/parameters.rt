@@ -4,7 +4,7 @@ ghost use Rattle.std.specs.Fn.{AlwaysReturns};
 ghost use Rattle.std.specs.Option.{option_to_list};
 ghost use Rattle.std.specs.String.{string_bytes};
 ghost use Rattle.just_text.specs.Tokens.{lexeme};
-ghost use Rattle.tree_attribute_sets.specs.Sets.{items_of};
+ghost use Rattle.tree_attributes.specs.Sets.Sets.{items_of};
 ghost use Rattle.tree_items.specs.declared.recipe.Parameter as declared;
 ghost use Rattle.just_host.specs.Kinds.{AsksQuestions};
 ghost use Rattle.just_value.specs.Frames.{ByNumber, Rebinds, value_binding};
@@ -15,9 +15,9 @@ ghost use Rattle.meaning_dialogues.specs.Calls.{HasValues, empty};
 ghost use Rattle.meaning_dialogues.specs.Dialogue.{Evaluates};
 ghost use Rattle.meaning_dialogues.specs.Faults as faults;
 ghost use Rattle.meaning_dialogues.specs.Terms.{term_of};
-ghost use Rattle.meaning_parameters.specs.Bindings.{attribute_dialogue, env_term, env_terms, pair_dialogue};
-ghost use Rattle.meaning_stages.specs.Parameters.{Formal, default_dialogue, env_dialogue, formal_of, given_dialogue, is_star, parameter_dialogue, positional_words};
-ghost use Rattle.meaning_stages.specs.Parameters as meaning;
+ghost use Rattle.meaning_evaluation.specs.Parameters.Bindings.{attribute_dialogue, env_term, env_terms, pair_dialogue};
+ghost use Rattle.meaning_evaluation.specs.Stages.Parameters.{Formal, default_dialogue, env_dialogue, formal_of, given_dialogue, is_star, parameter_dialogue, positional_words};
+ghost use Rattle.meaning_evaluation.specs.Stages.Parameters as meaning;
 ghost use Rattle.evaluate_variables.specs.Known.{IsProper, ParametersKnown};
 ghost use Rattle.evaluate_variables.specs.Given.{AreCounted, BoundRecipe, GivenParameters, HasRowsOf, lists_of, passes_in, reading_for, stage_for, times_over};
 
@@ -27,8 +27,7 @@ use just_host::{Host, Pair, Recorded};
 use just_text::{Name, Text};
 use just_value::{Scope, StringContext, Value};
 use std::alloc::{AllocError, Global};
-use tree_attribute_sets::{AttributeItem, AttributeSet};
-use tree_attributes::{Attribute, AttributeKind};
+use tree_attributes::{Attribute, AttributeItem, AttributeKind, AttributeSet};
 use tree_expressions::Expression;
 use tree_items::{Parameter, ParameterKind, Recipe};
 
@@ -100,7 +99,7 @@ fn env_pair<'src, H: Host + Drop>(
 }
 
 /// The pair that the attribute gives, if it is `env` and its value is not empty.
-#[tactic(auto, using(meaning_parameters::proofs::Pairs::attribute_env, meaning_parameters::proofs::Pairs::attribute_other))]
+#[tactic(auto, using(meaning_evaluation::proofs::Parameters::Pairs::attribute_env, meaning_evaluation::proofs::Parameters::Pairs::attribute_other))]
 fn attribute_pair<'src, H: Host + Drop>(
     alloc: Global,
     host: &mut Recorded<H>,
@@ -120,7 +119,7 @@ fn attribute_pair<'src, H: Host + Drop>(
 }
 
 /// The pairs of all `env` attributes in order. Each is evaluated with the pairs before it.
-#[tactic(auto, using(meaning_parameters::proofs::Pairs::pairs_first, meaning_parameters::proofs::Pairs::pairs_more, meaning_parameters::proofs::Pairs::pairs_passed, meaning_parameters::proofs::Pairs::pairs_stop, meaning_parameters::proofs::Pairs::pairs_end))]
+#[tactic(auto, using(meaning_evaluation::proofs::Parameters::Pairs::pairs_first, meaning_evaluation::proofs::Parameters::Pairs::pairs_more, meaning_evaluation::proofs::Parameters::Pairs::pairs_passed, meaning_evaluation::proofs::Parameters::Pairs::pairs_stop, meaning_evaluation::proofs::Parameters::Pairs::pairs_end))]
 fn attribute_pairs<'src, H: Host + Drop, D>(
     alloc: Global,
     host: &mut Recorded<H>,

@@ -9,8 +9,7 @@ use evaluate_context::{Error, Settings};
 use just_text::{Name, Text};
 use just_value::{StringContext, Value};
 use std::alloc::Global;
-use tree_attribute_sets::Indentation;
-use tree_attributes::{Interpreter, Setting};
+use tree_attributes::{Indentation, Interpreter, Setting};
 use tree_expressions::Expression;
 use tree_items::Set;
 

@@ -22,8 +22,8 @@ use Rattle.meaning_dialogues.specs.Faults.{function_failed}
 use Rattle.meaning_runs.specs.Failures.{Failure, by_code, evaluation}
 use Rattle.meaning_runs.specs.Told.{Answers}
 use Rattle.meaning_runs.specs.Naive.{End, went, failed, tree}
-use Rattle.meaning_calls.specs.Named.{Call, ParameterRow, DependencyRow, RecipeRow, VariableRow, FunctionRow, ModuleRow, no_module, Definitions}
-use Rattle.meaning_calls.specs.Scopes.{Configuration}
+use Rattle.meaning_evaluation.specs.Named.{Call, ParameterRow, DependencyRow, RecipeRow, VariableRow, FunctionRow, ModuleRow, no_module, Definitions}
+use Rattle.meaning_evaluation.specs.Scopes.{Configuration}
 use Rattle.just_meaning.specs.Meanings.{naive_run}
 
 -- ---- justfiles

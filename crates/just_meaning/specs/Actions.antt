@@ -10,13 +10,13 @@ use Rattle.just_value.specs.Values.{joined, value_text}
 use Rattle.meaning_dialogues.specs.Evaluation.{Value}
 use Rattle.evaluate_context.specs.Surroundings.{by_name, given, removed}
 use Rattle.meaning_runs.specs.Failures.{Failure, next_by}
-use Rattle.meaning_calls.specs.Named.{VariableName, VariableRow, ModuleRow, Modules, no_module, a_module, Definitions, paths_of}
+use Rattle.meaning_evaluation.specs.Named.{VariableName, VariableRow, ModuleRow, Modules, no_module, a_module, Definitions, paths_of}
 use Rattle.modules_compilation.specs.Modulepaths.{pieces}
-use Rattle.meaning_calls.specs.Scopes.{Configuration, Scene, surroundings_in}
+use Rattle.meaning_evaluation.specs.Scopes.{Configuration, Scene, surroundings_in}
 use Rattle.just_meaning.specs.Opening.{reading_in, Held, held, Opened, OpensAll, named, opening_standing, scene_in, pairs_of, variable_says, IsOpened}
-use Rattle.meaning_opening.specs.Requests.{OpeningFailure}
+use Rattle.meaning_evaluation.specs.Requests.{OpeningFailure}
 use Rattle.just_meaning.specs.Runs.{pairs_at, values_at}
-use Rattle.meaning_calls.specs.Calling.{without_next}
+use Rattle.meaning_evaluation.specs.Calling.{without_next}
 use Rattle.meaning_runs.specs.Task.{Task, TaskLeads, ends, hands, line}
 
 -- ---- what is evaluated

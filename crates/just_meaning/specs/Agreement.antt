@@ -3,11 +3,11 @@ use Rattle.std.specs.Prelude.{◌≡◌, ℕ, List, ◌++◌, Result}
 use Rattle.just_host.specs.declared.entry.Entry.{Entry}
 use Rattle.just_host.specs.declared.job.Pair.{Pair}
 use Rattle.meaning_dialogues.specs.Faults.{Fault}
-use Rattle.meaning_calls.specs.Named.{VariableName, Call, ModuleRow, Definitions}
-use Rattle.meaning_calls.specs.Scopes.{Configuration}
+use Rattle.meaning_evaluation.specs.Named.{VariableName, Call, ModuleRow, Definitions}
+use Rattle.meaning_evaluation.specs.Scopes.{Configuration}
 use Rattle.meaning_runs.specs.Told.{Answers, Agrees, AgreesThere}
 use Rattle.just_meaning.specs.Opening.{Held, Opened, exported_names, Fills, all, has_value, has_none, OpensOne, not_told, opened, refused, OpensAll, none_left, one_more, fault_here, fault_later}
-use Rattle.meaning_opening.specs.Requests.{OpeningFailure}
+use Rattle.meaning_evaluation.specs.Requests.{OpeningFailure}
 use Rattle.meaning_runs.specs.Tallies.{Tally}
 use Rattle.just_meaning.specs.Runs.{Outcome, Runs}
 use Rattle.just_meaning.specs.Runs as runs

@@ -2,8 +2,8 @@
 use Rattle.std.specs.Prelude.{◌≡◌, ◌++◌, ℕ, List, [], ◌∷◌, Bool, false, map, Option, Some, Result, Ok}
 use Rattle.just_host.specs.declared.entry.Entry.{Entry}
 use Rattle.just_host.specs.declared.job.Pair.{Pair}
-use Rattle.meaning_stages.specs.Parameters.{Bound}
-use Rattle.meaning_opening.specs.Requests.{OpeningFailure, Requests}
+use Rattle.meaning_evaluation.specs.Stages.Parameters.{Bound}
+use Rattle.meaning_evaluation.specs.Requests.{OpeningFailure, Requests}
 use Rattle.meaning_runs.specs.Acts.{begin, finish}
 use Rattle.meaning_runs.specs.Counts.{IsCounted}
 use Rattle.meaning_runs.specs.Cut.{Cuts, cut_parts}
@@ -12,9 +12,9 @@ use Rattle.meaning_runs.specs.Goes.{Goes}
 use Rattle.meaning_runs.specs.Parts.{Parts}
 use Rattle.meaning_runs.specs.Tallies.{Tally}
 use Rattle.meaning_runs.specs.Task.{TaskBegins}
-use Rattle.meaning_calls.specs.Calling.{acts}
-use Rattle.meaning_calls.specs.Named.{Call, Definitions, ModuleRow, VariableName, paths_of}
-use Rattle.meaning_calls.specs.Scopes.{Configuration}
+use Rattle.meaning_evaluation.specs.Calling.{acts}
+use Rattle.meaning_evaluation.specs.Named.{Call, Definitions, ModuleRow, VariableName, paths_of}
+use Rattle.meaning_evaluation.specs.Scopes.{Configuration}
 use Rattle.just_meaning.specs.Actions.{ActionEnd, CommandGoes, IsKept}
 use Rattle.just_meaning.specs.Opening.{IsOpened, Opened, OpensAll, OpensOne}
 use Rattle.just_meaning.specs.Runs.{Opens, ground_of, reading_at, steps}

@@ -11,14 +11,14 @@ use Rattle.tree_items.specs.Files.{alias_item, assignment_item, function_item, r
 use Rattle.tree_items.specs.Items.{AliasShape, AssignmentShape, FunctionShape}
 use Rattle.tree_items.specs.Recipes.{RecipeShape}
 use Rattle.meaning_dialogues.specs.Evaluation.{Value}
-use Rattle.meaning_worlds.specs.Given.{Text, World, Overrides}
-use Rattle.meaning_worlds.specs.Modules.{IsModule}
-use Rattle.meaning_worlds.specs.Keeping.{an_alias, a_function, a_recipe, a_variable, an_unexport, IsDefined, IsOn, KeepsAt, Keeps}
+use Rattle.meaning_rules.specs.Worlds.Given.{Text, World, Overrides}
+use Rattle.meaning_rules.specs.Worlds.Modules.{IsModule}
+use Rattle.meaning_rules.specs.Worlds.Keeping.{an_alias, a_function, a_recipe, a_variable, an_unexport, IsDefined, IsOn, KeepsAt, Keeps}
 use Rattle.meaning_rules.specs.Naming.{Part}
 use Rattle.meaning_rules.specs.Overriding.{IsOverriddenBy}
 use Rattle.meaning_rules.specs.Constants.{HasSetting, IsPartOf, HasValue}
 use Rattle.meaning_rules.specs.Rules.{has}
-use Rattle.meaning_calls.specs.Named.{RecipeName, VariableName, RecipeRow, VariableRow, FunctionRow, ModuleRow, Modules, no_module, a_module, paths_of, Definitions}
+use Rattle.meaning_evaluation.specs.Named.{RecipeName, VariableName, RecipeRow, VariableRow, FunctionRow, ModuleRow, Modules, no_module, a_module, paths_of, Definitions}
 use Rattle.just_meaning.specs.Rows.{recipe_row, module_row}
 
 -- ---- names

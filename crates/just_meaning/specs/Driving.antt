@@ -3,12 +3,12 @@ use Rattle.std.specs.Prelude.{◌≡◌, Bool, List, map, Option, Some, None}
 use Rattle.just_host.specs.declared.entry.Entry.{Entry}
 use Rattle.just_value.specs.declared.positional.Positional.{Positional}
 use Rattle.semver.specs.declared.Version.{Version}
-use Rattle.meaning_worlds.specs.Given.{Text, Given, World, Overrides}
-use Rattle.meaning_worlds.specs.Standing.{StandsFor}
+use Rattle.meaning_rules.specs.Worlds.Given.{Text, Given, World, Overrides}
+use Rattle.meaning_rules.specs.Worlds.Standing.{StandsFor}
 use Rattle.meaning_rules.specs.Rules.{Rule, Broken}
 use Rattle.meaning_runs.specs.Tallies.{Tally}
-use Rattle.meaning_calls.specs.Named.{Definitions}
-use Rattle.meaning_calls.specs.Scopes.{Configuration}
+use Rattle.meaning_evaluation.specs.Named.{Definitions}
+use Rattle.meaning_evaluation.specs.Scopes.{Configuration}
 use Rattle.just_meaning.specs.Defining.{AreDefined}
 use Rattle.just_meaning.specs.Runs.{Outcome, broken, RunGoes}
 

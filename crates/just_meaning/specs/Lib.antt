@@ -11,3 +11,7 @@ pub mod Actions
 pub mod Begun
 pub mod Defining
 pub mod Driving
+pub mod Configured
+pub mod Determined
+pub mod Known
+pub mod Certain

@@ -10,14 +10,14 @@ use Rattle.meaning_dialogues.specs.Faults.{Fault}
 use Rattle.meaning_dialogues.specs.Dialogue.{Dialogue, Lookup, Variable, around}
 use Rattle.meaning_dialogues.specs.Evaluation.{Value}
 use Rattle.meaning_dialogues.specs.Meaning.{Meaning, variable_meaning}
-use Rattle.meaning_stages.specs.Parameters.{Bound}
+use Rattle.meaning_evaluation.specs.Stages.Parameters.{Bound}
 use Rattle.evaluate_context.specs.Surroundings.{by_name}
 use Rattle.meaning_runs.specs.Failures.{Failure}
-use Rattle.meaning_calls.specs.Named.{RecipeName, VariableName, Call, ModuleRow, Definitions, same_call}
-use Rattle.meaning_calls.specs.Scopes.{Configuration}
+use Rattle.meaning_evaluation.specs.Named.{RecipeName, VariableName, Call, ModuleRow, Definitions, same_call}
+use Rattle.meaning_evaluation.specs.Scopes.{Configuration}
 use Rattle.meaning_runs.specs.Told.{Answers, of_variables}
 use Rattle.just_meaning.specs.Opening.{exported_names, side_of, side_dialogue, scene_in, IsOpened}
-use Rattle.meaning_calls.specs.Calling.{Ground, acts}
+use Rattle.meaning_evaluation.specs.Calling.{Ground, acts}
 use Rattle.meaning_runs.specs.Acts.{meaning_of}
 use Rattle.meaning_runs.specs.Naive.{CallMeaning, RunPart, naive, IsSteady}
 use Rattle.meaning_runs.specs.Laws.{OfTrees}

@@ -1,8 +1,8 @@
 -- What words mean by what is defined.
 use Rattle.std.specs.Prelude.{ℕ, List, [], ◌∷◌, ◌++◌, Bool, false, not, ◌||◌, map, Option, Some, None, is_some}
 use Rattle.tree_items.specs.Recipes.{is_variadic}
-use Rattle.meaning_stages.specs.Parameters.{is_star}
-use Rattle.meaning_calls.specs.Named.{RecipeName, ParameterRow, RecipeRow, ModuleRow, Definitions}
+use Rattle.meaning_evaluation.specs.Stages.Parameters.{is_star}
+use Rattle.meaning_evaluation.specs.Named.{RecipeName, ParameterRow, RecipeRow, ModuleRow, Definitions}
 use Rattle.meaning_runs.specs.Words.{Slot, Words, WordMeaning, recipe, submodule}
 
 -- a parameter as words see it: a flag, or one with a value of its own, takes no value; one without a default has to be given, unless it is a star or a flag

@@ -9,14 +9,14 @@ use Rattle.meaning_dialogues.specs.Dialogue.{Dialogue, Ends, DialogueGoes, Varia
 use Rattle.meaning_dialogues.specs.Terms.{Term}
 use Rattle.meaning_dialogues.specs.Evaluation.{Value, dialogue}
 use Rattle.evaluate_context.specs.Surroundings.{Standing}
-use Rattle.meaning_stages.specs.Stages.{run_stage, calls_allowed}
+use Rattle.meaning_evaluation.specs.Stages.Stages.{run_stage, calls_allowed}
 use Rattle.meaning_dialogues.specs.Calls.{unreadable}
-use Rattle.meaning_calls.specs.Named.{RecipeName, VariableName, RecipeRow, VariableRow, ModuleRow, Definitions}
+use Rattle.meaning_evaluation.specs.Named.{RecipeName, VariableName, RecipeRow, VariableRow, ModuleRow, Definitions}
 use Rattle.meaning_dialogues.specs.Written.{term_in, unnumbered}
-use Rattle.meaning_calls.specs.Scopes.{defined_in, Configuration, Scene, surroundings_in, exported_pair}
+use Rattle.meaning_evaluation.specs.Scopes.{defined_in, Configuration, Scene, surroundings_in, exported_pair}
 use Rattle.just_meaning.specs.Reading.{VariableReads, RecipeReads}
 use Rattle.meaning_runs.specs.Counts.{each_once}
-use Rattle.meaning_opening.specs.Requests.{OpeningFailure, Requests, opening}
+use Rattle.meaning_evaluation.specs.Requests.{OpeningFailure, Requests, opening}
 
 abbrev pub named : List (List ℕ) → List ℕ → VariableName
 named path name = record { path = path; name = name }

@@ -2,7 +2,7 @@
 use Rattle.std.specs.Prelude.{◌≡◌, ℕ, List, [], Bool, Some, None, Contains}
 use Rattle.tree_expressions.specs.Shape.{Shape}
 use Rattle.meaning_rules.specs.Naming.{a_call, occurrences}
-use Rattle.meaning_calls.specs.Named.{RecipeName, VariableName, RecipeRow, VariableRow, Definitions}
+use Rattle.meaning_evaluation.specs.Named.{RecipeName, VariableName, RecipeRow, VariableRow, Definitions}
 use Rattle.just_meaning.specs.Opening.{IsReached, IsOpened, named}
 use Rattle.just_meaning.specs.Reading.{Reaches, ReadsIn, expressions_in, function_row}
 

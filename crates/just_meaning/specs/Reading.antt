@@ -7,7 +7,7 @@ use Rattle.tree_items.specs.Lines.{Piece}
 use Rattle.tree_items.specs.Lines as pieces
 use Rattle.tree_attributes.specs.Settings.{InterpreterShape}
 use Rattle.meaning_rules.specs.Naming.{a_variable, a_call, occurrences}
-use Rattle.meaning_calls.specs.Named.{RecipeName, VariableName, ParameterRow, DependencyRow, RecipeRow, VariableRow, FunctionRow, Definitions}
+use Rattle.meaning_evaluation.specs.Named.{RecipeName, VariableName, ParameterRow, DependencyRow, RecipeRow, VariableRow, FunctionRow, Definitions}
 
 -- the first function of a name
 abbrev pub function_row : List ℕ → List FunctionRow → Option FunctionRow

@@ -8,7 +8,7 @@ use Rattle.tree_attributes.specs.Settings.{InterpreterShape, ValueShape, SetShap
 use Rattle.tree_attributes.specs.Attributes.{AttributeShape, kind_name, plain, with_prompt, with_pair, with_string, with_interpreter}
 use Rattle.tree_attributes.specs.declared.attribute.AttributeKind.{AttributeKind}
 use Rattle.tree_attributes.specs.declared.attribute.AttributeKind.TheVariants.{Confirm, Extension, NoCd, NoQuiet, PositionalArguments, Script, WorkingDirectory}
-use Rattle.tree_attribute_sets.specs.Order.{in_order}
+use Rattle.tree_attributes.specs.Sets.Order.{in_order}
 use Rattle.parse_expressions.specs.Literals.{Expansion, text_or_none}
 use Rattle.just_host.specs.declared.job.DotenvRequest.{DotenvRequest}
 use Rattle.tree_items.specs.Recipes.{RecipeShape, ParameterShape, DependencyShape}
@@ -18,7 +18,7 @@ use Rattle.meaning_dialogues.specs.Evaluation.{Value}
 use Rattle.parse_attributed_items.specs.Options.{meant_for}
 use Rattle.meaning_rules.specs.Fixed.{options_in}
 use Rattle.meaning_rules.specs.Rules.{has}
-use Rattle.meaning_calls.specs.Named.{RecipeName, ParameterRow, DependencyRow, RecipeRow, ModuleRow}
+use Rattle.meaning_evaluation.specs.Named.{RecipeName, ParameterRow, DependencyRow, RecipeRow, ModuleRow}
 
 -- by what strings expand to
 module _ (expansion : Expansion) where

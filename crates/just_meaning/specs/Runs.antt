@@ -5,16 +5,16 @@ use Rattle.std.specs.Cmp.Lexicographic.{pointwise}
 use Rattle.just_host.specs.declared.entry.Entry.{Entry}
 use Rattle.just_host.specs.declared.job.Pair.{Pair}
 use Rattle.meaning_dialogues.specs.Dialogue.{Reading}
-use Rattle.meaning_stages.specs.Parameters.{Bound}
+use Rattle.meaning_evaluation.specs.Stages.Parameters.{Bound}
 use Rattle.evaluate_context.specs.Surroundings.{by_name}
 use Rattle.meaning_runs.specs.Failures.{Failure}
-use Rattle.meaning_calls.specs.Named.{RecipeName, Call, Definitions, paths_of}
+use Rattle.meaning_evaluation.specs.Named.{RecipeName, Call, Definitions, paths_of}
 use Rattle.just_meaning.specs.Menus.{menu_of}
 use Rattle.meaning_runs.specs.Invokes.{WordRule, Invoke, BreaksWords}
-use Rattle.meaning_calls.specs.Scopes.{Configuration}
+use Rattle.meaning_evaluation.specs.Scopes.{Configuration}
 use Rattle.just_meaning.specs.Opening.{Held, Opened, OpensAll, IsOpened, reading_in, pairs_of}
-use Rattle.meaning_opening.specs.Requests.{OpeningFailure}
-use Rattle.meaning_calls.specs.Calling.{Ground, acts}
+use Rattle.meaning_evaluation.specs.Requests.{OpeningFailure}
+use Rattle.meaning_evaluation.specs.Calling.{Ground, acts}
 use Rattle.meaning_runs.specs.Acts.{host_parts}
 use Rattle.meaning_runs.specs.Parts.{Parts}
 use Rattle.meaning_runs.specs.Tallies.{Tally}

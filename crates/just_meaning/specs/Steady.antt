@@ -2,7 +2,7 @@
 use Rattle.std.specs.Prelude.{◌≡◌, List, [], ◌++◌, cond, Some, None, Contains}
 use Rattle.tree_expressions.specs.Shape.{Shape}
 use Rattle.tree_items.specs.Recipes.{ArgumentShape}
-use Rattle.meaning_calls.specs.Named.{RecipeName, ParameterRow, DependencyRow, RecipeRow, ModuleRow, Definitions}
+use Rattle.meaning_evaluation.specs.Named.{RecipeName, ParameterRow, DependencyRow, RecipeRow, ModuleRow, Definitions}
 use Rattle.just_meaning.specs.Reading.{AsksIn}
 
 -- the dependencies whose arguments both flags have to agree on: the priors, and the subsequents where these share the table

@@ -10,7 +10,7 @@ use Rattle.std.proofs.lemmas.Slice.Eq.{bytes_eq-Decides}
 use Rattle.just_text.specs.Tokens.{lexeme}
 use Rattle.tree_expressions.specs.Shape.{shape_of}
 use Rattle.tree_attributes.specs.Attributes.{AttributeShape, OptionsShape, plain, with_options, with_prompt, with_pair, with_string, with_strings, with_interpreter}
-use Rattle.tree_attribute_sets.specs.Order.{in_order, is_before}
+use Rattle.tree_attributes.specs.Sets.Order.{in_order, is_before}
 use Rattle.tree_items.specs.declared.recipe.Parameter.{Parameter}
 use Rattle.tree_items.specs.Recipes.{ParameterShape, RecipeShape}
 use Rattle.parse_attributes.specs.Seen.{options_in as seen_options}
@@ -21,7 +21,7 @@ use Rattle.parse_attributed_items.specs.Rules.{are_distinct, fault_of, for_name,
 use Rattle.parse_attributed_items.proofs.Ordered.{all_sorted}
 use Rattle.parse_attributed_items.proofs.Reordered.{distinct_if_fits, found_alike}
 use Rattle.meaning_rules.specs.Fixed.{options_in, value_of}
-use Rattle.meaning_worlds.proofs.Places.{contains_cases, contains_first, contains_later, contains_none}
+use Rattle.meaning_rules.proofs.Worlds.Places.{contains_cases, contains_first, contains_later, contains_none}
 use Rattle.just_modules.proofs.Outcomes.{and_true}
 use Rattle.just_modules.proofs.Contained.{any_at, any_of, mapped, mapped_from}
 

@@ -17,7 +17,7 @@ use Rattle.just_text.specs.declared.name.Name.{Name}
 use Rattle.just_text.specs.declared.os.Os.{Os}
 use Rattle.parse_expressions.specs.Literals.{Expansion}
 use Rattle.semver.specs.declared.Version.{Version}
-use Rattle.tree_attribute_sets.specs.Sets.{is_enabled, items_of as attributes_of}
+use Rattle.tree_attributes.specs.Sets.Sets.{is_enabled, items_of as attributes_of}
 use Rattle.tree_items.specs.declared.ast.Item.{Item}
 use Rattle.tree_items.specs.declared.ast.Item.TheVariants.{Alias as alias_item, Assignment, Comment, Function as function_item, Import, Module as module_item, Newline, Recipe as recipe_item, Set as set_item, Unexport as unexport_item}
 use Rattle.modules_compilation.specs.Fronts.{front_of}

@@ -26,24 +26,24 @@ use Rattle.modules_definitions.specs.declared.definition.Definition.{Definition}
 use Rattle.modules_sources.specs.Items.{key_of}
 use Rattle.modules_sources.specs.Loaded.{AreLoaded}
 use Rattle.modules_sources.specs.Submodules.{AreFound, Found}
-use Rattle.meaning_worlds.specs.Given.{Overrides, Text, World}
-use Rattle.meaning_worlds.specs.Keeping.{IsTwice, Kind}
-use Rattle.meaning_worlds.specs.Modules.{IsModule}
-use Rattle.meaning_worlds.specs.Sources.{HasModule, ImportsAt, IsFileOf, MayMean, Reached}
-use Rattle.meaning_worlds.specs.Standing.{StandsFor}
-use Rattle.meaning_worlds.proofs.Places.{contains_first, contains_later}
-use Rattle.meaning_worlds.proofs.Reached.{own_reached}
+use Rattle.meaning_rules.specs.Worlds.Given.{Overrides, Text, World}
+use Rattle.meaning_rules.specs.Worlds.Keeping.{IsTwice, Kind}
+use Rattle.meaning_rules.specs.Worlds.Modules.{IsModule}
+use Rattle.meaning_rules.specs.Worlds.Sources.{HasModule, ImportsAt, IsFileOf, MayMean, Reached}
+use Rattle.meaning_rules.specs.Worlds.Standing.{StandsFor}
+use Rattle.meaning_rules.proofs.Worlds.Places.{contains_first, contains_later}
+use Rattle.meaning_rules.proofs.Worlds.Reached.{own_reached}
 use Rattle.meaning_rules.specs.Rules.{Breaks, Broken, IsFileFault, IsTwiceOf, LeadsNowhere, Rule, syntax, missing_root, missing_import, circular_import, missing_module, ambiguous_module, redefinition, duplicate_variable, duplicate_set, duplicate_unexport, export_unexported, unknown_alias_target, unstable_feature, lists_needed, cache_left_out, attribute_conflict, undefined_variable, unknown_function, function_argument_count, circular_variable, unknown_dependency, circular_recipe, dependency_argument_count, const_error, unknown_override, module_as_recipe, is_of_sources}
-use Rattle.meaning_files.specs.Laws.{AreLoadedFiles}
-use Rattle.meaning_files.specs.Views.{given_of}
-use Rattle.meaning_files.proofs.Loaded.{loaded_are_faultless, loaded_are_files, loaded_import_there}
-use Rattle.meaning_submodules.specs.Submodules.{AreSubmodules}
-use Rattle.meaning_submodules.proofs.Files.{found_are_submodules}
-use Rattle.meaning_definitions.proofs.Twice.{single_is_not_twice}
-use Rattle.meaning_modules.proofs.Loaded.{file_at_key, HasFileAt, of_module}
-use Rattle.meaning_modules.proofs.Ranges.{in_range}
-use Rattle.meaning_modules.proofs.Said.{range_said}
-use Rattle.meaning_modules.proofs.Waiting.{waits_of}
+use Rattle.laws_modules.specs.Files.Laws.{AreLoadedFiles}
+use Rattle.meaning_rules.specs.Worlds.Views.{given_of}
+use Rattle.laws_modules.proofs.Files.Loaded.{loaded_are_faultless, loaded_are_files, loaded_import_there}
+use Rattle.laws_modules.specs.Submodules.Submodules.{AreSubmodules}
+use Rattle.laws_modules.proofs.Submodules.Files.{found_are_submodules}
+use Rattle.laws_modules.proofs.Definitions.Twice.{single_is_not_twice}
+use Rattle.laws_modules.proofs.Modules.Loaded.{file_at_key, HasFileAt, of_module}
+use Rattle.laws_modules.proofs.Modules.Ranges.{in_range}
+use Rattle.laws_modules.proofs.Modules.Said.{range_said}
+use Rattle.laws_modules.proofs.Modules.Waiting.{waits_of}
 use Rattle.just_modules.specs.Keeping.{AreFilled, files_of, Keeps, range_of, truths_in}
 use Rattle.just_modules.specs.ModuleRules.{BreaksOwn, ExportsUnexported, is_of_items}
 use Rattle.just_modules.specs.Settings.{allowed_by}

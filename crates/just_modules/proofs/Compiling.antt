@@ -22,27 +22,27 @@ use Rattle.modules_compilation.specs.declared.module_node.File.{File}
 use Rattle.modules_compilation.specs.declared.module_node.ModuleNode.{ModuleNode}
 use Rattle.modules_definitions.specs.Lists.{IsSameModule}
 use Rattle.modules_sources.specs.Loaded.{AreLoaded, first_numbers}
-use Rattle.meaning_worlds.specs.Given.{Overrides, Text, World}
-use Rattle.meaning_worlds.specs.Sources.{IsFileOf}
-use Rattle.meaning_worlds.specs.Modules.{IsModule}
-use Rattle.meaning_worlds.specs.Compiled.{FileView}
-use Rattle.meaning_worlds.specs.Standing.{StandsFor}
-use Rattle.meaning_worlds.proofs.There.{worlds_are_there}
-use Rattle.meaning_worlds.specs.Keeping.{Kind, an_alias, a_function, a_recipe, a_setting, a_submodule, a_variable, an_unexport, IsTwice}
+use Rattle.meaning_rules.specs.Worlds.Given.{Overrides, Text, World}
+use Rattle.meaning_rules.specs.Worlds.Sources.{IsFileOf}
+use Rattle.meaning_rules.specs.Worlds.Modules.{IsModule}
+use Rattle.meaning_rules.specs.Worlds.Compiled.{FileView}
+use Rattle.meaning_rules.specs.Worlds.Standing.{StandsFor}
+use Rattle.meaning_rules.proofs.Worlds.There.{worlds_are_there}
+use Rattle.meaning_rules.specs.Worlds.Keeping.{Kind, an_alias, a_function, a_recipe, a_setting, a_submodule, a_variable, an_unexport, IsTwice}
 use Rattle.meaning_rules.specs.Rules.{Breaks, Broken, Rule, circular_import, is_of_sources, unknown_alias_target}
 use Rattle.meaning_rules.specs.Told.{IsTold, rule_of}
-use Rattle.meaning_files.specs.Views.{file_view, given_of}
-use Rattle.meaning_files.proofs.Loaded.{loaded_are_files}
-use Rattle.meaning_submodules.proofs.Files.{found_are_submodules}
-use Rattle.meaning_modules.proofs.Loaded.{complete, of_module}
-use Rattle.meaning_modules.proofs.Numbers.{bindings_above}
-use Rattle.meaning_modules.proofs.Ranges.{there_within}
-use Rattle.meaning_modules.proofs.Said.{each_read}
-use Rattle.meaning_modules.proofs.There.{world_is_there}
-use Rattle.meaning_modules.proofs.Rounds.{no_round}
-use Rattle.meaning_names.specs.Meant.{AreFilesCooked, IsMeantWhole}
-use Rattle.meaning_names.specs.Names.{AreSetOnce, AreSingle, HasNode, IsOfWorld, views}
-use Rattle.meaning_names.proofs.Aliases.{leading_aliases_are_known, other_aliases_are_unknown}
+use Rattle.meaning_rules.specs.Worlds.Views.{file_view, given_of}
+use Rattle.laws_modules.proofs.Files.Loaded.{loaded_are_files}
+use Rattle.laws_modules.proofs.Submodules.Files.{found_are_submodules}
+use Rattle.laws_modules.proofs.Modules.Loaded.{complete, of_module}
+use Rattle.laws_modules.proofs.Modules.Numbers.{bindings_above}
+use Rattle.laws_modules.proofs.Modules.Ranges.{there_within}
+use Rattle.laws_modules.proofs.Modules.Said.{each_read}
+use Rattle.laws_modules.proofs.Modules.There.{world_is_there}
+use Rattle.laws_modules.proofs.Modules.Rounds.{no_round}
+use Rattle.laws_modules.specs.Names.Meant.{AreFilesCooked, IsMeantWhole}
+use Rattle.laws_modules.specs.Names.Names.{AreSetOnce, AreSingle, HasNode, IsOfWorld, views}
+use Rattle.laws_modules.proofs.Names.Aliases.{leading_aliases_are_known, other_aliases_are_unknown}
 use Rattle.just_modules.specs.Aliases.{AllAliasesLead, IsAliasUnknown}
 use Rattle.just_modules.specs.Keeping.{AreFilled}
 use Rattle.just_modules.specs.Worlds.{HasWorld}

@@ -5,7 +5,7 @@ use Rattle.std.proofs.lemmas.Option.{none-some, same_Some}
 use Rattle.std.specs.List.{filter, flat_map, list_any}
 use Rattle.std.proofs.lemmas.Bool.{false≢true}
 use Rattle.std.proofs.lemmas.List.Elements.{Contains-append_left, Contains-append_right, Contains-append_cases}
-use Rattle.meaning_worlds.proofs.Places.{contains_at, place_of, contains_cases, contains_first, contains_later, contains_none}
+use Rattle.meaning_rules.proofs.Worlds.Places.{contains_at, place_of, contains_cases, contains_first, contains_later, contains_none}
 
 module _ {X Y : Type 0} (f : X → Y) where
   pub mapped : (xs : List X) (x : X) → Contains xs x → Contains (map f xs) (f x)

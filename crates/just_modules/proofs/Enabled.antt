@@ -5,11 +5,11 @@ use Rattle.std.specs.List.{list_any}
 use Rattle.just_text.specs.declared.os.Os.{Os}
 use Rattle.tree_attributes.specs.declared.attribute.AttributeKind.{AttributeKind}
 use Rattle.tree_attributes.specs.declared.attribute.AttributeKind.TheVariants.{Unix}
-use Rattle.tree_attribute_sets.specs.declared.attribute_item.AttributeItem.{AttributeItem}
-use Rattle.tree_attribute_sets.specs.declared.attribute_set.AttributeSet.{AttributeSet}
-use Rattle.tree_attribute_sets.specs.Order.{item_shape as attribute_shape}
-use Rattle.tree_attribute_sets.specs.Sets.{has_kind, is_of, is_enabled as held_enabled, items_of, kind_for, names_system, shapes_in}
-use Rattle.meaning_worlds.specs.Sources.{enabled}
+use Rattle.tree_attributes.specs.declared.attribute_item.AttributeItem.{AttributeItem}
+use Rattle.tree_attributes.specs.declared.attribute_set.AttributeSet.{AttributeSet}
+use Rattle.tree_attributes.specs.Sets.Order.{item_shape as attribute_shape}
+use Rattle.tree_attributes.specs.Sets.Sets.{has_kind, is_of, is_enabled as held_enabled, items_of, kind_for, names_system, shapes_in}
+use Rattle.meaning_rules.specs.Worlds.Sources.{enabled}
 use Rattle.meaning_rules.specs.Rules.{has}
 
 pub any_mapped : {A B : Type 0} (p : B → Bool) (f : A → B) (xs : List A) → list_any p (map f xs) ≡ list_any (λ x. p (f x)) xs

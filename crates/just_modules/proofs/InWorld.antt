@@ -12,21 +12,21 @@ use Rattle.modules_compilation.specs.declared.module_node.File.{File}
 use Rattle.modules_compilation.specs.declared.module_node.ModuleNode.{ModuleNode}
 use Rattle.modules_definitions.specs.declared.definition.Definition.{Definition}
 use Rattle.modules_sources.specs.Loaded.{AreLoaded}
-use Rattle.meaning_worlds.specs.Given.{Text, World}
-use Rattle.meaning_worlds.specs.Sources.{AreSaid}
-use Rattle.meaning_worlds.specs.Standing.{StandsFor}
-use Rattle.meaning_files.specs.Files.{AreFiles}
-use Rattle.meaning_files.specs.Views.{given_of}
-use Rattle.meaning_files.proofs.Followed.{has_sources}
-use Rattle.meaning_files.proofs.Loaded.{loaded_are_files}
-use Rattle.meaning_submodules.proofs.Files.{found_are_submodules}
-use Rattle.meaning_definitions.specs.Laws.{AreApart, IsAllowed}
-use Rattle.meaning_definitions.specs.Nodes.{AreFound}
-use Rattle.meaning_modules.specs.Laws.{IsLoaded}
-use Rattle.meaning_modules.specs.Modules.{AreModules}
-use Rattle.meaning_modules.proofs.Inner.{inner_modules, own_items}
-use Rattle.meaning_modules.proofs.Loaded.{all_said, loaded_are_modules}
-use Rattle.meaning_modules.proofs.Said.{loaded_said}
+use Rattle.meaning_rules.specs.Worlds.Given.{Text, World}
+use Rattle.meaning_rules.specs.Worlds.Sources.{AreSaid}
+use Rattle.meaning_rules.specs.Worlds.Standing.{StandsFor}
+use Rattle.laws_modules.specs.Files.Files.{AreFiles}
+use Rattle.meaning_rules.specs.Worlds.Views.{given_of}
+use Rattle.laws_modules.proofs.Files.Followed.{has_sources}
+use Rattle.laws_modules.proofs.Files.Loaded.{loaded_are_files}
+use Rattle.laws_modules.proofs.Submodules.Files.{found_are_submodules}
+use Rattle.laws_modules.specs.Definitions.Laws.{AreApart, IsAllowed}
+use Rattle.laws_modules.specs.Definitions.Nodes.{AreFound}
+use Rattle.laws_modules.specs.Modules.Laws.{IsLoaded}
+use Rattle.laws_modules.specs.Modules.Modules.{AreModules}
+use Rattle.laws_modules.proofs.Modules.Inner.{inner_modules, own_items}
+use Rattle.laws_modules.proofs.Modules.Loaded.{all_said, loaded_are_modules}
+use Rattle.laws_modules.proofs.Modules.Said.{loaded_said}
 use Rattle.just_modules.specs.Fitting.{IsParsed}
 use Rattle.just_modules.specs.Keeping.{AreDefinitionsOf, files_of, range_of, truths_in}
 use Rattle.just_modules.specs.Settings.{allowed_by}

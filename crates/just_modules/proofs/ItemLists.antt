@@ -6,9 +6,9 @@ use Rattle.std.proofs.lemmas.List.Elements.{Contains-append_cases, Contains-appe
 use Rattle.just_text.specs.Tokens.{lexeme}
 use Rattle.tree_attributes.specs.Attributes.{AttributeShape, with_options}
 use Rattle.tree_attributes.specs.Settings.{value_shape}
-use Rattle.tree_attribute_sets.specs.declared.attribute_set.AttributeSet.{AttributeSet}
-use Rattle.tree_attribute_sets.specs.Order.{in_order, item_shape as attribute_item_shape}
-use Rattle.tree_attribute_sets.specs.Sets.{items_of, shapes_in}
+use Rattle.tree_attributes.specs.declared.attribute_set.AttributeSet.{AttributeSet}
+use Rattle.tree_attributes.specs.Sets.Order.{in_order, item_shape as attribute_item_shape}
+use Rattle.tree_attributes.specs.Sets.Sets.{items_of, shapes_in}
 use Rattle.tree_items.specs.declared.ast.Item.{Item}
 use Rattle.tree_items.specs.declared.ast.Item.TheVariants.{Alias, Assignment, Comment, Function, Import, Module, Newline, Recipe as RecipeItem, Set, Unexport}
 use Rattle.tree_items.specs.declared.ast.ListFeature.{ListFeature}
@@ -25,8 +25,8 @@ use Rattle.tree_items.specs.Recipes.{ParameterShape, RecipeShape, argument_shape
 use Rattle.tree_expressions.specs.declared.expression.Expression.{Expression}
 use Rattle.tree_expressions.specs.Shape.{shape_of}
 use Rattle.parse_attributed_items.specs.Held.{HasOptions, IsOwnItem}
-use Rattle.meaning_worlds.specs.Given.{Text, World}
-use Rattle.meaning_worlds.proofs.Places.{contains_none}
+use Rattle.meaning_rules.specs.Worlds.Given.{Text, World}
+use Rattle.meaning_rules.proofs.Worlds.Places.{contains_none}
 use Rattle.meaning_rules.specs.Fixed.{value_of}
 use Rattle.meaning_rules.specs.Naming.{Part, part, parts_of, parts_of_attribute, parts_of_body, parts_of_dependencies, parts_of_parameters}
 use Rattle.meaning_rules.specs.Rules.{UsesList, by_star, has_star, in_part}

@@ -18,8 +18,8 @@ use Rattle.tree_items.specs.Recipes.{RecipeShape}
 use Rattle.modules_compilation.specs.declared.module_node.File.{File}
 use Rattle.just_modules.specs.declared.truths.Truths.{Truths}
 use Rattle.just_modules.specs.Lists.{first, lists_of}
-use Rattle.meaning_worlds.specs.Given.{World}
-use Rattle.meaning_worlds.specs.Sources.{is_enabled}
+use Rattle.meaning_rules.specs.Worlds.Given.{World}
+use Rattle.meaning_rules.specs.Worlds.Sources.{is_enabled}
 use Rattle.meaning_rules.specs.Rules.{Rule, UsesUnstable, defining, caching, setting_lists, has}
 use Rattle.just_modules.specs.ItemRules.{BreaksEnabled, lists, recipe, BreaksIfRecipe, BreaksItem, unstable, there, BreaksItems, BreaksFiles, unstable_in}
 

@@ -6,7 +6,7 @@ use Rattle.std.specs.declared.string.String.{String}
 use Rattle.std.proofs.lemmas.List.Elements.{Contains-append_cases}
 use Rattle.just_text.specs.Tokens.{Word}
 use Rattle.tree_attributes.specs.Attributes.{AttributeShape}
-use Rattle.tree_attribute_sets.specs.Order.{in_order}
+use Rattle.tree_attributes.specs.Sets.Order.{in_order}
 use Rattle.tree_items.specs.Files.{ItemShape, alias_item, assignment_item, comment_item, function_item, import_item, module_item, newline_item, recipe_item, set_item, unexport_item}
 use Rattle.tree_items.specs.Recipes.{RecipeShape}
 use Rattle.parse_expressions.specs.Literals.{Expansion}
@@ -17,8 +17,8 @@ use Rattle.justfile_syntax.specs.Reads.{Reads}
 use Rattle.semver.specs.declared.Version.{Version}
 use Rattle.modules_compilation.specs.declared.module_node.File.{File}
 use Rattle.modules_sources.specs.ReadingOrder.{AreFilesOf, IsOfModule}
-use Rattle.meaning_worlds.proofs.Places.{contains_cases, contains_none, place_of}
-use Rattle.meaning_worlds.specs.Given.{Text}
+use Rattle.meaning_rules.proofs.Worlds.Places.{contains_cases, contains_none, place_of}
+use Rattle.meaning_rules.specs.Worlds.Given.{Text}
 use Rattle.just_modules.specs.Fitting.{FitsAsWritten, IsParsed}
 
 module _ (expansion : Expansion) (version : Version) where

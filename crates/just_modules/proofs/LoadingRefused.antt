@@ -23,25 +23,25 @@ use Rattle.modules_sources.specs.Above.{above_own, above_parent, IsAbove}
 use Rattle.modules_sources.specs.Loading.{IsUnread}
 use Rattle.modules_sources.specs.ReadingOrder.{AreFilesOf}
 use Rattle.modules_sources.specs.Submodules.{Above, AreFound, IsCircular, IsRefused, IsRefusedAmong, IsRound as IsRoundAt, Waiting}
-use Rattle.meaning_worlds.specs.Given.{Overrides, Text, World}
-use Rattle.meaning_worlds.specs.Sources.{Leads, further, itself, Reached, root as reached_root}
-use Rattle.meaning_worlds.specs.Standing.{StandsFor}
-use Rattle.meaning_worlds.proofs.Places.{push_here}
-use Rattle.meaning_worlds.proofs.Reached.{leads_reached, own_reached}
+use Rattle.meaning_rules.specs.Worlds.Given.{Overrides, Text, World}
+use Rattle.meaning_rules.specs.Worlds.Sources.{Leads, further, itself, Reached, root as reached_root}
+use Rattle.meaning_rules.specs.Worlds.Standing.{StandsFor}
+use Rattle.meaning_rules.proofs.Worlds.Places.{push_here}
+use Rattle.meaning_rules.proofs.Worlds.Reached.{leads_reached, own_reached}
 use Rattle.meaning_rules.specs.Rules.{Broken, Comes, by_import, by_submodule, itself as comes_itself, missing_root}
 use Rattle.meaning_rules.specs.Told.{IsTold}
-use Rattle.meaning_files.specs.Files.{AreSaidWhereReached, IsFile}
-use Rattle.meaning_files.specs.Views.{given_of, HasSources, name_text}
-use Rattle.meaning_files.proofs.Faults.{round_told, unread_told}
-use Rattle.meaning_files.proofs.Followed.{followed_said, has_sources}
-use Rattle.meaning_files.proofs.Loaded.{loaded_are_files}
-use Rattle.meaning_files.proofs.Refusals.{refused_are_told}
-use Rattle.meaning_submodules.specs.Submodules.{IsFileOfWorld}
-use Rattle.meaning_submodules.proofs.Files.{found_are_submodules}
-use Rattle.meaning_submodules.proofs.Refusing.{refusals_are_told}
-use Rattle.meaning_modules.proofs.Ranges.{drop_at, there_within}
-use Rattle.meaning_modules.proofs.Said.{loaded_said}
-use Rattle.meaning_modules.proofs.Started.{AreStarted, each_here, has_file, waiting_is_module}
+use Rattle.laws_modules.specs.Files.Files.{AreSaidWhereReached, IsFile}
+use Rattle.meaning_rules.specs.Worlds.Views.{given_of, HasSources, name_text}
+use Rattle.laws_modules.proofs.Files.Faults.{round_told, unread_told}
+use Rattle.laws_modules.proofs.Files.Followed.{followed_said, has_sources}
+use Rattle.laws_modules.proofs.Files.Loaded.{loaded_are_files}
+use Rattle.laws_modules.proofs.Files.Refusals.{refused_are_told}
+use Rattle.laws_modules.specs.Submodules.Submodules.{IsFileOfWorld}
+use Rattle.laws_modules.proofs.Submodules.Files.{found_are_submodules}
+use Rattle.laws_modules.proofs.Submodules.Refusing.{refusals_are_told}
+use Rattle.laws_modules.proofs.Modules.Ranges.{drop_at, there_within}
+use Rattle.laws_modules.proofs.Modules.Said.{loaded_said}
+use Rattle.laws_modules.proofs.Modules.Started.{AreStarted, each_here, has_file, waiting_is_module}
 
 -- imports lead further
 leads_further : (w : World) (from file other : Text) (count : ℕ) → Comes w from file → Leads w file count other → Comes w from other

@@ -17,17 +17,17 @@ use Rattle.modules_compilation.specs.declared.module_node.ModuleNode.{ModuleNode
 use Rattle.modules_definitions.specs.Lists.{Gains}
 use Rattle.modules_definitions.proofs.Elements.{contains_at, place_of}
 use Rattle.modules_sources.specs.Loaded.{AreLoaded}
-use Rattle.meaning_worlds.specs.Given.{Text, World}
-use Rattle.meaning_worlds.specs.Standing.{StandsFor}
-use Rattle.meaning_worlds.specs.Compiled.{HasItem, IsCompiled}
-use Rattle.meaning_files.specs.Views.{file_view, given_of, name_text, node_view}
-use Rattle.meaning_definitions.specs.Laws.{AreChildren}
-use Rattle.meaning_definitions.proofs.Inner.{submodules_are_meant}
-use Rattle.meaning_definitions.proofs.Listed.{lists_are_meant}
-use Rattle.meaning_modules.proofs.Numbers.{bindings_rise, recipes_rise}
-use Rattle.meaning_modules.proofs.Ranges.{mapped}
-use Rattle.meaning_compiled.specs.Filled.{IsFilled as IsFilledOf}
-use Rattle.meaning_compiled.proofs.Compiled.{filled_are_compiled}
+use Rattle.meaning_rules.specs.Worlds.Given.{Text, World}
+use Rattle.meaning_rules.specs.Worlds.Standing.{StandsFor}
+use Rattle.meaning_rules.specs.Worlds.Compiled.{HasItem, IsCompiled}
+use Rattle.meaning_rules.specs.Worlds.Views.{file_view, given_of, name_text, node_view}
+use Rattle.laws_modules.specs.Definitions.Laws.{AreChildren}
+use Rattle.laws_modules.proofs.Definitions.Inner.{submodules_are_meant}
+use Rattle.laws_modules.proofs.Definitions.Listed.{lists_are_meant}
+use Rattle.laws_modules.proofs.Modules.Numbers.{bindings_rise, recipes_rise}
+use Rattle.laws_modules.proofs.Modules.Ranges.{mapped}
+use Rattle.laws_modules.specs.Compiled.Filled.{IsFilled as IsFilledOf}
+use Rattle.laws_modules.proofs.Compiled.Compiled.{filled_are_compiled}
 use Rattle.just_modules.specs.Keeping.{AreFilled, range_of, truths_in}
 use Rattle.just_modules.specs.Settings.{allowed_by}
 use Rattle.just_modules.proofs.InWorld.{modules, node_apart, node_found}

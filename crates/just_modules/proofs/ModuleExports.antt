@@ -8,7 +8,7 @@ use Rattle.just_text.specs.Tokens.{lexeme}
 use Rattle.just_text.specs.declared.name.Name.{Name}
 use Rattle.just_text.specs.declared.os.Os.{Os}
 use Rattle.tree_attributes.specs.Attributes.{AttributeShape}
-use Rattle.tree_attribute_sets.specs.Sets.{shapes_in}
+use Rattle.tree_attributes.specs.Sets.Sets.{shapes_in}
 use Rattle.tree_items.specs.declared.ast.Item.{Item}
 use Rattle.tree_items.specs.declared.ast.Item.TheVariants.{Alias, Assignment, Comment, Function, Import, Module, Newline, Recipe, Set, Unexport as UnexportItem}
 use Rattle.tree_items.specs.Files.{ItemShape, is_blank, item_shape, assignment_item, unexport_item}
@@ -24,13 +24,13 @@ use Rattle.modules_definitions.specs.declared.definition.Kind.{Kind}
 use Rattle.modules_definitions.specs.declared.definition.Kind.TheVariants.{Alias as AliasKind, Disabled as DisabledKind, Function as FunctionKind, Module as ModuleKind, Recipe as RecipeKind, Set as SetKind, Unexport, Variable}
 use Rattle.modules_definitions.specs.declared.file_range.FileRange.{FileRange}
 use Rattle.modules_definitions.proofs.Elements.{before_take}
-use Rattle.meaning_worlds.specs.Given.{Overrides, Text, World}
-use Rattle.meaning_worlds.specs.Modules.{IsModule}
-use Rattle.meaning_worlds.specs.Sources.{AreSaid, Has, enabled}
-use Rattle.meaning_worlds.proofs.Places.{contains_at, contains_cases, contains_first, contains_later, contains_none, place_of}
+use Rattle.meaning_rules.specs.Worlds.Given.{Overrides, Text, World}
+use Rattle.meaning_rules.specs.Worlds.Modules.{IsModule}
+use Rattle.meaning_rules.specs.Worlds.Sources.{AreSaid, Has, enabled}
+use Rattle.meaning_rules.proofs.Worlds.Places.{contains_at, contains_cases, contains_first, contains_later, contains_none, place_of}
 use Rattle.meaning_rules.specs.Rules.{Broken, InModule, Stands, export_unexported}
 use Rattle.meaning_rules.specs.Told.{IsNamedBy}
-use Rattle.meaning_files.specs.Files.{AreFiles}
+use Rattle.laws_modules.specs.Files.Files.{AreFiles}
 use Rattle.just_modules.specs.Exports.{export_refusal, exports, exports_at, first_unexported, is_exported, is_refused, is_unexported}
 use Rattle.just_modules.specs.Keeping.{AreDefinitionsOf, files_of, range_of}
 use Rattle.just_modules.proofs.Enabled.{same_enabled}

@@ -5,11 +5,11 @@ use Rattle.std.proofs.lemmas.Option.{same_Some}
 use Rattle.tree_items.specs.declared.ast.Item.{Item}
 use Rattle.tree_items.specs.Files.{ItemShape, is_blank, item_shape, item_shapes}
 use Rattle.modules_compilation.specs.declared.module_node.File.{File}
-use Rattle.meaning_worlds.specs.Given.{Text, World, filled}
-use Rattle.meaning_worlds.specs.Sources.{Has, IsFileOf}
-use Rattle.meaning_worlds.proofs.Places.{contains_at, place_of}
-use Rattle.meaning_worlds.proofs.Reading.{orders_have_reached}
-use Rattle.meaning_files.specs.Files.{AreFiles, IsSaid, keys_of}
+use Rattle.meaning_rules.specs.Worlds.Given.{Text, World, filled}
+use Rattle.meaning_rules.specs.Worlds.Sources.{Has, IsFileOf}
+use Rattle.meaning_rules.proofs.Worlds.Places.{contains_at, place_of}
+use Rattle.meaning_rules.proofs.Worlds.Reading.{orders_have_reached}
+use Rattle.laws_modules.specs.Files.Files.{AreFiles, IsSaid, keys_of}
 use Rattle.just_modules.proofs.Contained.{mapped, mapped_from, passed, passed_from}
 
 not_blank : (shape : ItemShape) → is_blank shape ≡ false → not (is_blank shape) ≡ true

@@ -8,7 +8,7 @@ use Rattle.just_text.specs.declared.compile_error.CompileErrorKind.TheVariants a
 use Rattle.just_text.specs.declared.os.Os.{Os}
 use Rattle.tree_attributes.specs.declared.attribute.AttributeKind.TheVariants.{Script}
 use Rattle.tree_attributes.specs.Attributes.{AttributeShape}
-use Rattle.tree_attribute_sets.specs.Sets.{shapes_in}
+use Rattle.tree_attributes.specs.Sets.Sets.{shapes_in}
 use Rattle.tree_items.specs.declared.ast.Item.{Item}
 use Rattle.tree_items.specs.declared.ast.Item.TheVariants.{Alias, Assignment, Comment, Function, Import, Module, Newline, Recipe as RecipeItem, Set, Unexport}
 use Rattle.tree_items.specs.declared.ast.ListFeature.{ListFeature}
@@ -18,14 +18,14 @@ use Rattle.tree_items.specs.Lines.{Piece}
 use Rattle.tree_items.specs.Recipes.{RecipeShape, recipe_shape}
 use Rattle.modules_compilation.specs.declared.module_node.File.{File}
 use Rattle.parse_attributed_items.specs.Held.{IsOwnItem}
-use Rattle.meaning_worlds.specs.Given.{Overrides, Text, World}
-use Rattle.meaning_worlds.specs.Modules.{IsModule}
-use Rattle.meaning_worlds.specs.Sources.{AreSaid, is_enabled}
-use Rattle.meaning_worlds.proofs.Places.{contains_none}
+use Rattle.meaning_rules.specs.Worlds.Given.{Overrides, Text, World}
+use Rattle.meaning_rules.specs.Worlds.Modules.{IsModule}
+use Rattle.meaning_rules.specs.Worlds.Sources.{AreSaid, is_enabled}
+use Rattle.meaning_rules.proofs.Worlds.Places.{contains_none}
 use Rattle.meaning_rules.specs.Told.{IsNamedBy}
 use Rattle.modules_compilation.specs.declared.error.Error.{Error}
 use Rattle.meaning_rules.specs.Rules.{Breaks, Broken, InModule, IsBodyFault, IsOwnLine, IsScript, Rule, UsesList, UsesUnstable, begins_shebang, has, caching, defining, setting_lists, syntax, missing_root, missing_import, circular_import, missing_module, ambiguous_module, redefinition, duplicate_variable, duplicate_set, duplicate_unexport, export_unexported, unknown_alias_target, unstable_feature, lists_needed, cache_left_out, attribute_conflict, undefined_variable, unknown_function, function_argument_count, circular_variable, unknown_dependency, circular_recipe, dependency_argument_count, const_error, unknown_override, module_as_recipe}
-use Rattle.meaning_files.specs.Files.{AreFiles}
+use Rattle.laws_modules.specs.Files.Files.{AreFiles}
 use Rattle.just_modules.specs.Settings.{is_on, truths_of}
 use Rattle.just_modules.specs.Lists.{lists_of}
 use Rattle.just_modules.specs.ItemRules.{BreaksEnabled, BreaksFiles, BreaksIfRecipe, BreaksItem, BreaksLine, BreaksRecipe, body, cache, conflict, is_script, lists, marks, recipe, space, there, unstable}

@@ -9,10 +9,10 @@ use Rattle.tree_attributes.specs.Attributes.{AttributeShape}
 use Rattle.tree_attributes.specs.Settings.{SetShape, ValueShape, truth, expression, interpreter, string}
 use Rattle.tree_items.specs.Files.{ItemShape, item_shape, is_blank, alias_item, assignment_item, comment_item, function_item, import_item, module_item, newline_item, recipe_item, set_item, unexport_item}
 use Rattle.modules_compilation.specs.declared.module_node.File.{File}
-use Rattle.meaning_worlds.specs.Given.{Text, World}
-use Rattle.meaning_worlds.specs.Sources.{Has, enabled}
-use Rattle.meaning_worlds.specs.Keeping.{Kind, a_setting, if_enabled, IsOn}
-use Rattle.meaning_files.specs.Files.{AreFiles}
+use Rattle.meaning_rules.specs.Worlds.Given.{Text, World}
+use Rattle.meaning_rules.specs.Worlds.Sources.{Has, enabled}
+use Rattle.meaning_rules.specs.Worlds.Keeping.{Kind, a_setting, if_enabled, IsOn}
+use Rattle.laws_modules.specs.Files.Files.{AreFiles}
 use Rattle.just_modules.specs.Settings.{is_on, is_on_among, is_true, turns_on}
 use Rattle.just_modules.proofs.Outcomes.{and_true}
 use Rattle.just_modules.proofs.Contained.{any_at, any_of}

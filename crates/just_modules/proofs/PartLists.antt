@@ -20,8 +20,8 @@ use Rattle.tree_items.specs.declared.ast.ListFeature.TheVariants.{StarredArgumen
 use Rattle.tree_items.specs.Lines.{Piece, text}
 use Rattle.tree_items.specs.Lines as lines
 use Rattle.tree_items.specs.Recipes.{ArgumentShape, DependencyShape, ParameterShape}
-use Rattle.meaning_worlds.specs.Given.{Text}
-use Rattle.meaning_worlds.proofs.Places.{contains_cases, contains_first, contains_later, contains_none}
+use Rattle.meaning_rules.specs.Worlds.Given.{Text}
+use Rattle.meaning_rules.proofs.Worlds.Places.{contains_cases, contains_first, contains_later, contains_none}
 use Rattle.meaning_rules.specs.Naming.{Part, part, part_if_there, parts_of_attribute, parts_of_body, parts_of_dependencies, parts_of_interpreter, parts_of_parameters, parts_of_piece, parts_of_value}
 use Rattle.meaning_rules.specs.Rules.{lists_in}
 use Rattle.just_modules.specs.Lists.{in_attribute, in_expression, in_interpreter, in_option, in_setting}

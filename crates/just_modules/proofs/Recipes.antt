@@ -5,7 +5,7 @@ use Rattle.just_text.specs.declared.compile_error.CompileErrorKind.{CompileError
 use Rattle.tree_attributes.specs.declared.attribute.AttributeKind.TheVariants.{Cache, ExitMessage, NoCd, NoExitMessage, Script, WorkingDirectory}
 use Rattle.tree_attributes.specs.Attributes.{AttributeShape}
 use Rattle.tree_items.specs.Recipes.{RecipeShape}
-use Rattle.meaning_worlds.specs.Given.{World}
+use Rattle.meaning_rules.specs.Worlds.Given.{World}
 use Rattle.meaning_rules.specs.Rules.{Rule, syntax, Excludes, by_folder, by_script, by_message, begins_shebang, has, last_of}
 use Rattle.tree_items.specs.Lines.{Piece, is_continuation}
 use Rattle.just_modules.specs.declared.truths.Truths.{Truths}

@@ -17,17 +17,17 @@ use Rattle.modules_definitions.specs.declared.definition.Definition.{Definition}
 use Rattle.modules_definitions.specs.declared.definition.Kind.{Kind as FoundKind}
 use Rattle.modules_definitions.specs.declared.definition.Kind.TheVariants as found
 use Rattle.modules_sources.specs.Loaded.{AreLoaded}
-use Rattle.meaning_worlds.specs.Given.{Overrides, Text, World}
-use Rattle.meaning_worlds.specs.Keeping.{IsTwice, Kind, an_alias, a_function, a_recipe, a_setting, a_submodule, a_variable, an_unexport}
-use Rattle.meaning_worlds.specs.Modules.{IsModule}
-use Rattle.meaning_worlds.specs.Sources.{AreSaid}
-use Rattle.meaning_worlds.specs.Standing.{StandsFor}
-use Rattle.meaning_worlds.proofs.Places.{contains_at}
+use Rattle.meaning_rules.specs.Worlds.Given.{Overrides, Text, World}
+use Rattle.meaning_rules.specs.Worlds.Keeping.{IsTwice, Kind, an_alias, a_function, a_recipe, a_setting, a_submodule, a_variable, an_unexport}
+use Rattle.meaning_rules.specs.Worlds.Modules.{IsModule}
+use Rattle.meaning_rules.specs.Worlds.Sources.{AreSaid}
+use Rattle.meaning_rules.specs.Worlds.Standing.{StandsFor}
+use Rattle.meaning_rules.proofs.Worlds.Places.{contains_at}
 use Rattle.meaning_rules.specs.Rules.{Broken, redefinition, duplicate_variable, duplicate_set, duplicate_unexport}
 use Rattle.meaning_rules.specs.Told.{IsNamedBy, IsTold}
-use Rattle.meaning_files.specs.Views.{given_of}
-use Rattle.meaning_definitions.specs.Kinds.{kind_of}
-use Rattle.meaning_definitions.proofs.Twice.{duplicates_are_twice}
+use Rattle.meaning_rules.specs.Worlds.Views.{given_of}
+use Rattle.laws_modules.specs.Definitions.Kinds.{kind_of}
+use Rattle.laws_modules.proofs.Definitions.Twice.{duplicates_are_twice}
 use Rattle.just_modules.specs.Keeping.{AreDefinitionsOf, AreRefused, AreRefusedIn, by_item, by_definition, duplicate, export, IsFirstRefused, files_of, range_of, truths_in}
 use Rattle.just_modules.specs.Settings.{allowed_by}
 use Rattle.just_modules.proofs.ModuleExports.{export_broken}

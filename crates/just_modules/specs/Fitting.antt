@@ -1,7 +1,7 @@
 -- Files whose trees are what texts say.
 use Rattle.std.specs.Prelude.{◌≡◌, List, None}
 use Rattle.tree_attributes.specs.Attributes.{AttributeShape}
-use Rattle.tree_attribute_sets.specs.Order.{in_order}
+use Rattle.tree_attributes.specs.Sets.Order.{in_order}
 use Rattle.tree_items.specs.Files.{ItemShape, item_shapes, recipe_item}
 use Rattle.parse_expressions.specs.Literals.{Expansion, from_file}
 use Rattle.parse_attributed_items.specs.Fitting.{options_among}
@@ -10,7 +10,7 @@ use Rattle.justfile_syntax.specs.Parsed.{IsWhole}
 use Rattle.justfile_syntax.specs.Reads.{Reads}
 use Rattle.semver.specs.declared.Version.{Version}
 use Rattle.modules_compilation.specs.declared.module_node.File.{File}
-use Rattle.meaning_worlds.specs.Given.{Text}
+use Rattle.meaning_rules.specs.Worlds.Given.{Text}
 
 module _ (expansion : Expansion) where
   -- a recipe has its attributes in their order, and the `arg`s among those that are written break no rule

@@ -11,13 +11,13 @@ use Rattle.tree_items.specs.declared.ast.UnstableFeature.{UnstableFeature}
 use Rattle.tree_items.specs.declared.ast.UnstableFeature.TheVariants.{CachedRecipes, DefinedFunctions, Lists}
 use Rattle.tree_items.specs.Files.{ItemShape, item_shape, function_item, recipe_item, set_item}
 use Rattle.tree_items.specs.Lines.{Piece, text, begins_with_space, is_continuation, sigils_of}
-use Rattle.tree_attribute_sets.specs.Sets.{shapes_in}
+use Rattle.tree_attributes.specs.Sets.Sets.{shapes_in}
 use Rattle.tree_items.specs.Recipes.{RecipeShape, recipe_shape}
 use Rattle.modules_compilation.specs.declared.module_node.File.{File}
 use Rattle.just_modules.specs.declared.truths.Truths.{Truths}
 use Rattle.just_modules.specs.Lists.{lists_of}
-use Rattle.meaning_worlds.specs.Given.{World}
-use Rattle.meaning_worlds.specs.Sources.{is_enabled}
+use Rattle.meaning_rules.specs.Worlds.Given.{World}
+use Rattle.meaning_rules.specs.Worlds.Sources.{is_enabled}
 use Rattle.meaning_rules.specs.Rules.{Rule, syntax, unstable_feature, lists_needed, cache_left_out, attribute_conflict, has, first_of, last_of, begins_shebang, Excludes, UsesUnstable, IsOwnLine}
 
 -- what is wrong with a line of a body that doesn't go on with the one before

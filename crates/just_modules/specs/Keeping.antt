@@ -24,7 +24,7 @@ use Rattle.just_modules.specs.ItemRules.{BreaksFiles}
 use Rattle.meaning_rules.specs.Told.{IsNamedBy}
 use Rattle.just_modules.specs.Settings.{allowed_by, truths_of}
 use Rattle.just_modules.specs.declared.truths.Truths.{Truths}
-use Rattle.meaning_worlds.specs.Given.{World}
+use Rattle.meaning_rules.specs.Worlds.Given.{World}
 use Rattle.meaning_rules.specs.Rules.{Rule}
 
 -- memory ran out, or this is so

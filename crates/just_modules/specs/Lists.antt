@@ -11,9 +11,9 @@ use Rattle.tree_attributes.specs.declared.attribute.Attribute.TheVariants.{Arg, 
 use Rattle.tree_attributes.specs.declared.setting.Interpreter.{Interpreter}
 use Rattle.tree_attributes.specs.declared.setting.Setting.{Setting}
 use Rattle.tree_attributes.specs.declared.setting.Setting.TheVariants.{DotenvCommand, DotenvFilename, DotenvPath, ScriptInterpreter, Shell, Tempdir, WindowsShell, WorkingDirectory}
-use Rattle.tree_attribute_sets.specs.declared.attribute_item.AttributeItem.{AttributeItem}
-use Rattle.tree_attribute_sets.specs.declared.attribute_set.AttributeSet.{AttributeSet}
-use Rattle.tree_attribute_sets.specs.Sets.{items_of}
+use Rattle.tree_attributes.specs.declared.attribute_item.AttributeItem.{AttributeItem}
+use Rattle.tree_attributes.specs.declared.attribute_set.AttributeSet.{AttributeSet}
+use Rattle.tree_attributes.specs.Sets.Sets.{items_of}
 use Rattle.tree_items.specs.declared.ast.Item.{Item}
 use Rattle.tree_items.specs.declared.ast.Item.TheVariants.{Assignment, Function, Recipe as RecipeItem, Set}
 use Rattle.tree_items.specs.declared.ast.ListFeature.{ListFeature}

@@ -8,8 +8,8 @@ use Rattle.tree_items.specs.Files.{ItemShape, assignment_item, recipe_item, unex
 use Rattle.tree_items.specs.Items.{AssignmentShape}
 use Rattle.tree_items.specs.Lines.{begins_with_space}
 use Rattle.tree_items.specs.Recipes.{RecipeShape}
-use Rattle.meaning_worlds.specs.Given.{Text, World}
-use Rattle.meaning_worlds.specs.Keeping.{IsOn}
+use Rattle.meaning_rules.specs.Worlds.Given.{Text, World}
+use Rattle.meaning_rules.specs.Worlds.Keeping.{IsOn}
 use Rattle.meaning_rules.specs.Rules.{Rule, syntax, unstable_feature, lists_needed, cache_left_out, attribute_conflict, Excludes, HasLine, InModule, IsGuarded, Stands, UsesList, UsesUnstable, first_of, has}
 
 module _ (w : World) (own : Text) where

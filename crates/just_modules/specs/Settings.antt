@@ -8,7 +8,7 @@ use Rattle.tree_items.specs.declared.ast.Item.{Item}
 use Rattle.modules_compilation.specs.declared.module_node.File.{File}
 use Rattle.modules_definitions.specs.declared.keep.Allowed.{Allowed}
 use Rattle.just_modules.specs.declared.truths.Truths.{Truths}
-use Rattle.meaning_worlds.specs.Sources.{enabled}
+use Rattle.meaning_rules.specs.Worlds.Sources.{enabled}
 
 abbrev pub is_true : ValueShape → Bool
 is_true (truth value) = value

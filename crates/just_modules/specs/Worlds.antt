@@ -7,12 +7,12 @@ use Rattle.parse_expressions.specs.Literals.{Expansion}
 use Rattle.semver.specs.declared.Version.{Version}
 use Rattle.modules_compilation.specs.declared.compilation.Compilation.{Compilation}
 use Rattle.modules_compilation.specs.declared.error.Error.{Error}
-use Rattle.meaning_worlds.specs.Given.{Overrides, World}
-use Rattle.meaning_worlds.specs.Standing.{StandsFor}
-use Rattle.meaning_worlds.specs.Compiled.{IsCompiled}
+use Rattle.meaning_rules.specs.Worlds.Given.{Overrides, World}
+use Rattle.meaning_rules.specs.Worlds.Standing.{StandsFor}
+use Rattle.meaning_rules.specs.Worlds.Compiled.{IsCompiled}
 use Rattle.meaning_rules.specs.Rules.{Broken, Rule, is_of_sources}
 use Rattle.meaning_rules.specs.Told.{IsTold}
-use Rattle.meaning_files.specs.Views.{file_view, given_of, node_view}
+use Rattle.meaning_rules.specs.Worlds.Views.{file_view, given_of, node_view}
 
 -- this is so in each world that a call stands for which compiles the file at the key `root` of these sources
 abbrev pub InEachWorld : {Y Z : Type 0} → Os → Bool → BTreeMap (String Y) (String Z) → Expansion → Version → List ℕ → (World → Type 0) → Type 0

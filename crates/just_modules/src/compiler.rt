@@ -1,7 +1,7 @@
 //! From texts to modules.
 ghost use Rattle.std.specs.Prelude.{[], ◌≡◌, ◌≢◌, ◌≤◌, ◌&&◌, ◌||◌, ℕ, Bool, true, List, IfErr, IfOk, OnOk, Ok, Err, Some, None, bytes_eq, length, slice_get};
 ghost use Rattle.just_value.specs.Constants.{constant_rows};
-ghost use Rattle.meaning_names.specs.Meant.{IsMeantWhole};
+ghost use Rattle.laws_modules.specs.Names.Meant.{IsMeantWhole};
 ghost use Rattle.modules_compilation.specs.declared.compilation.Compilation.{Compilation};
 ghost use Rattle.modules_compilation.specs.declared.module_node.ModuleNode.{ModuleNode};
 ghost use Rattle.modules_definitions.specs.Keeping.{AreInOrder, AreKept};

@@ -6,8 +6,7 @@ ghost use Rattle.just_modules.specs.Lists as spec;
 ghost use Rattle.just_modules.specs.Lists.{feature_of, first};
 
 use just_text::Token;
-use tree_attribute_sets::AttributeSet;
-use tree_attributes::{Attribute, Interpreter, Setting};
+use tree_attributes::{Attribute, AttributeSet, Interpreter, Setting};
 use tree_expressions::{Expression, StringLiteral};
 use tree_items::{
     DependencyArgument, Fragment, Item, Line, ListFeature, Parameter, Recipe, UnresolvedDependency,

@@ -2,14 +2,14 @@
 ghost use Rattle.std.specs.Prelude.{◌≡◌, ◌<◌, ◌&&◌, ℕ, not, length, map, false, List, Some, None, OnOk, IfErr, IfSome, is_some, option_map, Contains};
 ghost use Rattle.just_text.specs.declared.compile_error.CompileErrorKind.{CompileErrorKind};
 ghost use Rattle.tree_attributes.specs.declared.attribute.AttributeKind.TheVariants.{Cache, Script};
-ghost use Rattle.tree_attribute_sets.specs.Sets.{shapes_in};
+ghost use Rattle.tree_attributes.specs.Sets.Sets.{shapes_in};
 ghost use Rattle.tree_items.specs.declared.ast.ListFeature.{ListFeature};
 ghost use Rattle.tree_items.specs.declared.ast.UnstableFeature.{UnstableFeature};
 ghost use Rattle.tree_items.specs.Files.{item_shape, attributes_of};
 ghost use Rattle.tree_items.specs.Lines.{first_piece, pieces_of};
 ghost use Rattle.tree_items.specs.Recipes.{body_shape, recipe_shape};
-ghost use Rattle.meaning_worlds.specs.Given.{World};
-ghost use Rattle.meaning_worlds.specs.Sources.{enabled};
+ghost use Rattle.meaning_rules.specs.Worlds.Given.{World};
+ghost use Rattle.meaning_rules.specs.Worlds.Sources.{enabled};
 ghost use Rattle.meaning_rules.specs.Rules.{Rule, syntax, lists_needed, Excludes, UsesUnstable, begins_shebang, has};
 ghost use Rattle.just_modules.specs.Lists.{lists_of};
 ghost use Rattle.just_modules.specs.declared.truths.Truths.{Truths};
@@ -21,8 +21,7 @@ use crate::lists::{ListUse, list_use};
 use crate::truths::Truths;
 use just_text::{CompileErrorKind, Os, Token};
 use modules_compilation::{Error, File};
-use tree_attribute_sets::AttributeSet;
-use tree_attributes::AttributeKind;
+use tree_attributes::{AttributeKind, AttributeSet};
 use tree_items::{Fragment, Item, Line, Recipe, UnresolvedDependency, UnstableFeature};
 
 /// A feature that may still change, and where it is used.

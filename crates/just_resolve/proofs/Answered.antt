@@ -9,7 +9,7 @@ use Rattle.resolve_references.specs.Places.{places_before, places_of}
 use Rattle.resolve_references.specs.declared.read_fault.ReadFault.{ReadFault}
 use Rattle.resolve_references.specs.declared.references.Reference.{Reference}
 use Rattle.resolve_references.specs.declared.variable_resolver.VariableResolver.{VariableResolver}
-use Rattle.meaning_worlds.proofs.Places.{contains_cases, contains_none}
+use Rattle.meaning_rules.proofs.Worlds.Places.{contains_cases, contains_none}
 use Rattle.just_resolve.specs.Gathered.{all_before, gathered, one_before}
 use Rattle.just_resolve.specs.Table.{first_of}
 use Rattle.just_resolve.proofs.Reading.{both_read, first_refused}

@@ -9,18 +9,18 @@ use Rattle.modules_compilation.specs.declared.compilation.Compilation.{Compilati
 use Rattle.resolve_order.specs.Needs.{rows}
 use Rattle.resolve_analysis.specs.Overriding.{is_named, number_of}
 use Rattle.resolve_analysis.specs.declared.analysis.Analysis.{Analysis}
-use Rattle.meaning_worlds.specs.Given.{Overrides, Text, World}
-use Rattle.meaning_worlds.proofs.Places.{place_of}
+use Rattle.meaning_rules.specs.Worlds.Given.{Overrides, Text, World}
+use Rattle.meaning_rules.proofs.Worlds.Places.{place_of}
 use Rattle.meaning_rules.specs.Constants.{BreaksConstants}
 use Rattle.meaning_rules.specs.Reading.{IsVariableCycle}
 use Rattle.meaning_rules.specs.Rules.{Broken, syntax, missing_root, missing_import, circular_import, missing_module, ambiguous_module, redefinition, duplicate_variable, duplicate_set, duplicate_unexport, export_unexported, unknown_alias_target, unstable_feature, lists_needed, cache_left_out, attribute_conflict}
 use Rattle.meaning_rules.specs.Rules.{undefined_variable, unknown_function, function_argument_count, circular_variable, unknown_dependency, circular_recipe, dependency_argument_count, const_error, unknown_override, module_as_recipe}
-use Rattle.meaning_names.proofs.Modules.{modules_are_nodes}
-use Rattle.meaning_depending.proofs.Lists.{all_at, mapped_back}
-use Rattle.meaning_depending.specs.Dependencies.{NoneIsBroken}
-use Rattle.meaning_overriding.specs.Texts.{overrides_of}
-use Rattle.meaning_reading.specs.Clear.{NoReadBroken}
-use Rattle.meaning_reading.specs.Meant.{IsNumberedWorld}
+use Rattle.laws_modules.proofs.Names.Modules.{modules_are_nodes}
+use Rattle.laws_names.proofs.Depending.Lists.{all_at, mapped_back}
+use Rattle.laws_names.specs.Depending.Dependencies.{NoneIsBroken}
+use Rattle.meaning_rules.specs.Overrides.{overrides_of}
+use Rattle.laws_names.specs.Reading.Clear.{NoReadBroken}
+use Rattle.laws_names.specs.Reading.Meant.{IsNumberedWorld}
 use Rattle.just_resolve.specs.Analysis.{IsAnalysis}
 use Rattle.just_resolve.specs.Rules.{BreaksNone, InEachWorld, IsResolvable}
 use Rattle.just_resolve.proofs.ClearDependencies.{dependencies_clear, recipe_cycles_clear}

@@ -26,15 +26,15 @@ use Rattle.resolve_recipes.specs.declared.recipe_node.RecipeNode.{RecipeNode}
 use Rattle.resolve_recipes.specs.declared.recipe_resolver.RecipeResolver.{RecipeResolver}
 use Rattle.resolve_analysis.specs.declared.module_reads.ModuleReads.{ModuleReads}
 use Rattle.resolve_analysis.specs.declared.recipes.RecipeTable.{RecipeTable}
-use Rattle.meaning_worlds.specs.Given.{Overrides, Text, World}
-use Rattle.meaning_worlds.proofs.Places.{contains_at, contains_cases, contains_none}
+use Rattle.meaning_rules.specs.Worlds.Given.{Overrides, Text, World}
+use Rattle.meaning_rules.proofs.Worlds.Places.{contains_at, contains_cases, contains_none}
 use Rattle.meaning_rules.specs.Rules.{Broken, circular_recipe}
-use Rattle.meaning_names.specs.Targets.{KeepsAlias}
-use Rattle.meaning_depending.specs.Dependencies.{AreOf, ListsDisabled, NoneIsBroken, priors, subsequents}
-use Rattle.meaning_names.specs.Meant.{IsMeant}
-use Rattle.meaning_depending.specs.Meant.{IsResolverFor}
-use Rattle.meaning_depending.proofs.Lists.{given_there}
-use Rattle.meaning_reading.specs.Meant.{IsNumberedWorld}
+use Rattle.laws_modules.specs.Names.Targets.{KeepsAlias}
+use Rattle.laws_names.specs.Depending.Dependencies.{AreOf, ListsDisabled, NoneIsBroken, priors, subsequents}
+use Rattle.laws_modules.specs.Names.Meant.{IsMeant}
+use Rattle.laws_names.specs.Depending.Meant.{IsResolverFor}
+use Rattle.laws_names.proofs.Depending.Lists.{given_there}
+use Rattle.laws_names.specs.Reading.Meant.{IsNumberedWorld}
 use Rattle.just_resolve.specs.Table.{IsResolver, IsTable, all_aliases, disabled_of, disabled_refusal, module_aliases, module_refusal, recipe_refusal, refusal_at, aliases_of, first_of, lists_in}
 use Rattle.just_resolve.proofs.Answered.{each_gathered, none_answers, range_there}
 use Rattle.just_resolve.proofs.Laws.{Laws}

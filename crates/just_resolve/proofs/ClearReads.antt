@@ -25,11 +25,11 @@ use Rattle.resolve_analysis.specs.declared.module_reads.ModuleReads.{ModuleReads
 use Rattle.resolve_analysis.specs.declared.recipes.RecipeTable.{RecipeTable}
 use Rattle.resolve_analysis.specs.declared.variables.ModuleVariables.{ModuleVariables}
 use Rattle.resolve_order.specs.Needs.{rows}
-use Rattle.meaning_worlds.proofs.Places.{contains_at, place_of}
-use Rattle.meaning_names.proofs.Found.{there_within}
-use Rattle.meaning_depending.proofs.Kept.{kept_there}
-use Rattle.meaning_depending.proofs.Lists.{given_there}
-use Rattle.meaning_reading.specs.Clear.{IsClear}
+use Rattle.meaning_rules.proofs.Worlds.Places.{contains_at, place_of}
+use Rattle.laws_modules.proofs.Names.Found.{there_within}
+use Rattle.laws_names.proofs.Depending.Kept.{kept_there}
+use Rattle.laws_names.proofs.Depending.Lists.{given_there}
+use Rattle.laws_names.specs.Reading.Clear.{IsClear}
 use Rattle.just_resolve.specs.Recipes.{resolved, resolved_at, resolved_with, with_reads, Resolved}
 use Rattle.just_resolve.specs.Settling.{AreConstantly, AreSettled, set_at, set_of, sets_at}
 use Rattle.just_resolve.specs.Table.{IsTable}

@@ -28,19 +28,19 @@ use Rattle.resolve_analysis.specs.Reads.{overridden_by}
 use Rattle.resolve_analysis.specs.declared.variables.ModuleVariables.{ModuleVariables}
 use Rattle.meaning_dialogues.specs.Dialogue.{Reading}
 use Rattle.meaning_dialogues.specs.Faults.{Fault}
-use Rattle.meaning_worlds.specs.Compiled.{HasPath}
-use Rattle.meaning_worlds.specs.Given.{Text, World}
-use Rattle.meaning_worlds.proofs.Places.{contains_cases, contains_first, contains_later, contains_none}
+use Rattle.meaning_rules.specs.Worlds.Compiled.{HasPath}
+use Rattle.meaning_rules.specs.Worlds.Given.{Text, World}
+use Rattle.meaning_rules.proofs.Worlds.Places.{contains_cases, contains_first, contains_later, contains_none}
 use Rattle.meaning_rules.specs.Constants.{BreaksConstants}
 use Rattle.meaning_rules.specs.Rules.{Broken, const_error}
-use Rattle.meaning_names.specs.Names.{HasNode, nodes, views}
-use Rattle.meaning_names.proofs.Modules.{reached_are_said}
-use Rattle.meaning_names.proofs.Named.{node_is}
-use Rattle.meaning_depending.proofs.Lists.{given_there}
-use Rattle.meaning_overriding.specs.Texts.{overrides_of}
-use Rattle.meaning_constants.specs.Broken.{AreFoundIn, ConstantsAreTold}
-use Rattle.meaning_constants.specs.Lists.{IsSaidOfLists}
-use Rattle.meaning_constants.specs.Sought.{AreSought, IsListedSet, IsSettledModule}
+use Rattle.laws_modules.specs.Names.Names.{HasNode, nodes, views}
+use Rattle.laws_modules.proofs.Names.Modules.{reached_are_said}
+use Rattle.laws_modules.proofs.Names.Named.{node_is}
+use Rattle.laws_names.proofs.Depending.Lists.{given_there}
+use Rattle.meaning_rules.specs.Overrides.{overrides_of}
+use Rattle.laws_names.specs.Constants.Broken.{AreFoundIn, ConstantsAreTold}
+use Rattle.laws_names.specs.Constants.Lists.{IsSaidOfLists}
+use Rattle.laws_names.specs.Constants.Sought.{AreSought, IsListedSet, IsSettledModule}
 use Rattle.just_resolve.specs.Overrides.{AreGiven}
 use Rattle.just_resolve.specs.Rules.{IsResolvable}
 use Rattle.just_resolve.specs.Settling as settling

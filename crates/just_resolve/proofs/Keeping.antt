@@ -15,9 +15,9 @@ use Rattle.resolve_analysis.specs.Reads.{IsResolverOf, expressions_of, rows_of}
 use Rattle.resolve_analysis.specs.declared.module_lists.ModuleLists.{ModuleLists}
 use Rattle.resolve_analysis.specs.declared.module_reads.ModuleReads.{ModuleReads}
 use Rattle.resolve_analysis.specs.declared.variables.ModuleVariables.{ModuleVariables}
-use Rattle.meaning_names.proofs.Found.{mapped, mapped_at, there_within}
-use Rattle.meaning_reading.specs.Cycles.{IsGraphOf}
-use Rattle.meaning_reading.specs.Places.{variable_names}
+use Rattle.laws_modules.proofs.Names.Found.{mapped, mapped_at, there_within}
+use Rattle.laws_names.specs.Reading.Cycles.{IsGraphOf}
+use Rattle.laws_names.specs.Reading.Places.{variable_names}
 use Rattle.just_resolve.specs.Settling.{IsModuleAt}
 use Rattle.just_resolve.specs.Variables.{AreVariables, IsOrderOf, IsReads}
 

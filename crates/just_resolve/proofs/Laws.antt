@@ -1,15 +1,15 @@
 -- The laws on names by which resolving is judged.
 use Rattle.std.specs.Prelude.{ℕ, String}
 use Rattle.std.specs.BTreeMap.{BTreeMap}
-use Rattle.meaning_overriding.specs.Texts.{NamedOverridesAreKnown, UnnamedOverridesAreUnknown}
-use Rattle.meaning_reading.specs.Clear.{ReadsAreClear}
-use Rattle.meaning_reading.specs.Cycles.{CyclesAreBroken, OrdersHaveNoCycle}
-use Rattle.meaning_reading.specs.Parts.{RecipeReferencesAreSeen, SettingReferencesAreSeen}
-use Rattle.meaning_reading.specs.Told.{ReadsAreTold, RefusalsAreTold}
-use Rattle.meaning_depending.specs.Cycles.{CyclesAreClear, CyclesAreTold}
-use Rattle.meaning_depending.specs.Dependencies.{AliasesAreTold, DependenciesAreClear, DisabledDependenciesAreTold, KeptDependenciesAreTold}
-use Rattle.meaning_constants.specs.Broken.{FoundConstantsAreTold}
-use Rattle.meaning_constants.specs.Lists.{ListsAreSaid}
+use Rattle.laws_names.specs.Overriding.Texts.{NamedOverridesAreKnown, UnnamedOverridesAreUnknown}
+use Rattle.laws_names.specs.Reading.Clear.{ReadsAreClear}
+use Rattle.laws_names.specs.Reading.Cycles.{CyclesAreBroken, OrdersHaveNoCycle}
+use Rattle.laws_names.specs.Reading.Parts.{RecipeReferencesAreSeen, SettingReferencesAreSeen}
+use Rattle.laws_names.specs.Reading.Told.{ReadsAreTold, RefusalsAreTold}
+use Rattle.laws_names.specs.Depending.Cycles.{CyclesAreClear, CyclesAreTold}
+use Rattle.laws_names.specs.Depending.Dependencies.{AliasesAreTold, DependenciesAreClear, DisabledDependenciesAreTold, KeptDependenciesAreTold}
+use Rattle.laws_names.specs.Constants.Broken.{FoundConstantsAreTold}
+use Rattle.laws_names.specs.Constants.Lists.{ListsAreSaid}
 
 -- a broken rule is named where words, variables, settings, recipes or aliases are refused, and none is broken where they are not
 pub record Laws : Type 1 where

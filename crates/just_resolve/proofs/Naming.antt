@@ -9,10 +9,10 @@ use Rattle.evaluate_context.specs.Refusals.{fault_of}
 use Rattle.evaluate_context.specs.declared.error.Error as evaluations
 use Rattle.evaluate_context.specs.declared.error.Error.TheVariants as evaluation
 use Rattle.meaning_dialogues.specs.Faults.{const_fault, memory}
-use Rattle.meaning_worlds.specs.Given.{Overrides, World}
+use Rattle.meaning_rules.specs.Worlds.Given.{Overrides, World}
 use Rattle.meaning_rules.specs.Rules.{Broken, const_error}
-use Rattle.meaning_reading.specs.Meant as reading
-use Rattle.meaning_depending.specs.Meant as depending
+use Rattle.laws_names.specs.Reading.Meant as reading
+use Rattle.laws_names.specs.Depending.Meant as depending
 use Rattle.just_resolve.specs.Faults.{constant_error, naming_error, reading_error}
 use Rattle.just_resolve.specs.Rules.{IsNamed}
 

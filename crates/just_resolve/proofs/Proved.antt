@@ -1,16 +1,16 @@
 -- The laws on names, which are proved.
-use Rattle.meaning_constants.proofs.Broken.{constants_are_told}
-use Rattle.meaning_constants.proofs.Lists.{lists_are_said}
-use Rattle.meaning_depending.proofs.Clear.{dependencies_are_clear}
-use Rattle.meaning_depending.proofs.Cycles.{cycles_are_told}
-use Rattle.meaning_depending.proofs.Refused.{disabled_dependencies_are_told}
-use Rattle.meaning_depending.proofs.Told.{aliases_are_told, kept_dependencies_are_told}
-use Rattle.meaning_depending.proofs.Walks.{cycles_are_clear}
-use Rattle.meaning_overriding.proofs.Texts.{named_overrides_are_known, unnamed_overrides_are_unknown}
-use Rattle.meaning_reading.proofs.Clear.{reads_are_clear}
-use Rattle.meaning_reading.proofs.Cycles.{cycles_are_broken, orders_have_no_cycle}
-use Rattle.meaning_reading.proofs.References.{recipe_references_are_seen, setting_references_are_seen}
-use Rattle.meaning_reading.proofs.Told.{reads_are_told, refusals_are_told}
+use Rattle.laws_names.proofs.Constants.Broken.{constants_are_told}
+use Rattle.laws_names.proofs.Constants.Lists.{lists_are_said}
+use Rattle.laws_names.proofs.Depending.Clear.{dependencies_are_clear}
+use Rattle.laws_names.proofs.Depending.Cycles.{cycles_are_told}
+use Rattle.laws_names.proofs.Depending.Refused.{disabled_dependencies_are_told}
+use Rattle.laws_names.proofs.Depending.Told.{aliases_are_told, kept_dependencies_are_told}
+use Rattle.laws_names.proofs.Depending.Walks.{cycles_are_clear}
+use Rattle.laws_names.proofs.Overriding.Texts.{named_overrides_are_known, unnamed_overrides_are_unknown}
+use Rattle.laws_names.proofs.Reading.Clear.{reads_are_clear}
+use Rattle.laws_names.proofs.Reading.Cycles.{cycles_are_broken, orders_have_no_cycle}
+use Rattle.laws_names.proofs.Reading.References.{recipe_references_are_seen, setting_references_are_seen}
+use Rattle.laws_names.proofs.Reading.Told.{reads_are_told, refusals_are_told}
 use Rattle.just_resolve.proofs.Laws.{Laws}
 
 pub laws : Laws

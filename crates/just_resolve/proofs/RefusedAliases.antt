@@ -29,12 +29,12 @@ use Rattle.resolve_recipes.specs.declared.item_places.ItemPlaces.{ItemPlaces}
 use Rattle.resolve_recipes.specs.declared.recipe_resolver.Named.{Named}
 use Rattle.resolve_recipes.specs.declared.recipe_resolver.Named.TheVariants.{Recipe, Module, Nothing}
 use Rattle.resolve_recipes.specs.declared.recipe_resolver.RecipeResolver.{RecipeResolver}
-use Rattle.meaning_worlds.specs.Given.{Overrides, World}
-use Rattle.meaning_worlds.proofs.Places.{contains_first, contains_later, place_of}
+use Rattle.meaning_rules.specs.Worlds.Given.{Overrides, World}
+use Rattle.meaning_rules.proofs.Worlds.Places.{contains_first, contains_later, place_of}
 use Rattle.meaning_rules.specs.Rules as rules
-use Rattle.meaning_names.specs.Targets.{KeepsAlias}
-use Rattle.meaning_names.specs.Meant.{IsMeant}
-use Rattle.meaning_depending.specs.Meant.{IsResolverFor, IsTold}
+use Rattle.laws_modules.specs.Names.Targets.{KeepsAlias}
+use Rattle.laws_modules.specs.Names.Meant.{IsMeant}
+use Rattle.laws_names.specs.Depending.Meant.{IsResolverFor, IsTold}
 use Rattle.just_resolve.specs.Faults.{naming_error}
 use Rattle.just_resolve.specs.Rules.{IsNamed}
 use Rattle.just_resolve.specs.Table.{aliases_of, all_aliases, module_aliases}

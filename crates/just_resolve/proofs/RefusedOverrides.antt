@@ -3,12 +3,12 @@ use Rattle.std.proofs.Common.{List, map, refl, subst, sym}
 use Rattle.std.specs.Prelude.{Contains}
 use Rattle.just_value.specs.declared.positional.Override.{Override}
 use Rattle.modules_compilation.specs.declared.compilation.Compilation.{Compilation}
-use Rattle.meaning_worlds.specs.Given.{World}
-use Rattle.meaning_worlds.proofs.Places.{contains_at, place_of}
-use Rattle.meaning_names.proofs.Found.{mapped}
+use Rattle.meaning_rules.specs.Worlds.Given.{World}
+use Rattle.meaning_rules.proofs.Worlds.Places.{contains_at, place_of}
+use Rattle.laws_modules.proofs.Names.Found.{mapped}
 use Rattle.meaning_rules.specs.Rules.{unknown_override}
-use Rattle.meaning_overriding.specs.Texts.{overrides_of}
-use Rattle.meaning_reading.specs.Meant.{IsNumberedWorld}
+use Rattle.meaning_rules.specs.Overrides.{overrides_of}
+use Rattle.laws_names.specs.Reading.Meant.{IsNumberedWorld}
 use Rattle.just_resolve.specs.Overrides.{IsGivenForNone}
 use Rattle.just_resolve.specs.Rules.{IsNamed}
 use Rattle.just_resolve.specs.declared.error.Error.{Error}

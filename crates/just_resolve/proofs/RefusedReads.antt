@@ -21,10 +21,10 @@ use Rattle.resolve_recipes.specs.Nodes.{Kept, all_kept, kept_at, kept_by, kept_f
 use Rattle.resolve_analysis.specs.Reads.{IsResolverOf}
 use Rattle.resolve_analysis.specs.declared.module_reads.ModuleReads.{ModuleReads}
 use Rattle.resolve_analysis.specs.declared.variables.ModuleVariables.{ModuleVariables}
-use Rattle.meaning_worlds.specs.Given.{Overrides, World}
-use Rattle.meaning_worlds.proofs.Places.{contains_at, contains_none}
-use Rattle.meaning_reading.specs.Meant.{IsNumberedWorld}
-use Rattle.meaning_reading.specs.Told.{KeepsItem}
+use Rattle.meaning_rules.specs.Worlds.Given.{Overrides, World}
+use Rattle.meaning_rules.proofs.Worlds.Places.{contains_at, contains_none}
+use Rattle.laws_names.specs.Reading.Meant.{IsNumberedWorld}
+use Rattle.laws_names.specs.Reading.Told.{KeepsItem}
 use Rattle.just_resolve.specs.Faults.{reading_error}
 use Rattle.just_resolve.specs.Recipes.{Resolved, resolved, resolved_at, resolved_in, resolved_with, with_reads}
 use Rattle.just_resolve.specs.Rules.{IsNamed}

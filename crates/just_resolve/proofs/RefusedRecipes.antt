@@ -20,13 +20,13 @@ use Rattle.resolve_recipes.specs.Resolving.{all_needs}
 use Rattle.resolve_recipes.specs.Standing.{last_place}
 use Rattle.resolve_recipes.specs.declared.recipe_node.RecipeNode.{RecipeNode}
 use Rattle.resolve_recipes.specs.declared.recipe_resolver.RecipeResolver.{RecipeResolver}
-use Rattle.meaning_worlds.specs.Given.{Overrides, World}
+use Rattle.meaning_rules.specs.Worlds.Given.{Overrides, World}
 use Rattle.meaning_rules.specs.Rules.{circular_recipe}
-use Rattle.meaning_reading.specs.Meant.{IsNumberedWorld}
-use Rattle.meaning_depending.specs.Cycles.{name_at, names_at}
-use Rattle.meaning_depending.specs.Dependencies.{AreOf, priors, subsequents}
-use Rattle.meaning_names.specs.Meant.{IsMeant}
-use Rattle.meaning_depending.specs.Meant.{IsResolverFor}
+use Rattle.laws_names.specs.Reading.Meant.{IsNumberedWorld}
+use Rattle.laws_names.specs.Depending.Cycles.{name_at, names_at}
+use Rattle.laws_names.specs.Depending.Dependencies.{AreOf, priors, subsequents}
+use Rattle.laws_modules.specs.Names.Meant.{IsMeant}
+use Rattle.laws_names.specs.Depending.Meant.{IsResolverFor}
 use Rattle.just_resolve.specs.Cycles.{IsCircularRecipe, recipe_name, recipe_names}
 use Rattle.just_resolve.specs.Faults.{naming_error}
 use Rattle.just_resolve.specs.Rules.{IsNamed, texts_of}

@@ -16,12 +16,12 @@ use Rattle.resolve_references.specs.declared.variable_resolver.VariableResolver.
 use Rattle.resolve_analysis.specs.Lists.{kept_by}
 use Rattle.resolve_analysis.specs.Reads.{IsResolverOf}
 use Rattle.resolve_analysis.specs.declared.variables.ModuleVariables.{ModuleVariables}
-use Rattle.meaning_worlds.specs.Given.{Overrides, World}
-use Rattle.meaning_worlds.proofs.Places.{contains_first, contains_later}
-use Rattle.meaning_names.specs.Names.{HasNode}
-use Rattle.meaning_overriding.specs.Texts.{overrides_of}
-use Rattle.meaning_reading.specs.Meant.{IsNumberedWorld}
-use Rattle.meaning_reading.specs.Told.{KeepsItem}
+use Rattle.meaning_rules.specs.Worlds.Given.{Overrides, World}
+use Rattle.meaning_rules.proofs.Worlds.Places.{contains_first, contains_later}
+use Rattle.laws_modules.specs.Names.Names.{HasNode}
+use Rattle.meaning_rules.specs.Overrides.{overrides_of}
+use Rattle.laws_names.specs.Reading.Meant.{IsNumberedWorld}
+use Rattle.laws_names.specs.Reading.Told.{KeepsItem}
 use Rattle.just_resolve.specs.Faults.{reading_error}
 use Rattle.just_resolve.specs.Overrides.{AreGiven}
 use Rattle.just_resolve.specs.Rules.{IsNamed, IsResolvable}

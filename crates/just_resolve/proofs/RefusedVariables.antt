@@ -20,13 +20,13 @@ use Rattle.resolve_analysis.specs.Lists.{Kept, kept_by, kept_in}
 use Rattle.resolve_analysis.specs.Reads.{IsRefusal, IsResolverOf, expressions_of, rows_of}
 use Rattle.resolve_analysis.specs.declared.module_lists.ModuleLists.{ModuleLists}
 use Rattle.resolve_analysis.specs.declared.module_reads.ModuleReads.{ModuleReads}
-use Rattle.meaning_worlds.specs.Given.{Overrides, World}
-use Rattle.meaning_worlds.proofs.Places.{contains_first, contains_later, place_of}
+use Rattle.meaning_rules.specs.Worlds.Given.{Overrides, World}
+use Rattle.meaning_rules.proofs.Worlds.Places.{contains_first, contains_later, place_of}
 use Rattle.meaning_rules.specs.Rules.{circular_variable}
-use Rattle.meaning_names.proofs.Found.{mapped, mapped_at, there_within}
-use Rattle.meaning_reading.specs.Cycles.{AreNamesAt, IsGraphOf}
-use Rattle.meaning_reading.specs.Meant.{IsNumberedWorld}
-use Rattle.meaning_reading.specs.Places as places
+use Rattle.laws_modules.proofs.Names.Found.{mapped, mapped_at, there_within}
+use Rattle.laws_names.specs.Reading.Cycles.{AreNamesAt, IsGraphOf}
+use Rattle.laws_names.specs.Reading.Meant.{IsNumberedWorld}
+use Rattle.laws_names.specs.Reading.Places as places
 use Rattle.just_resolve.specs.Cycles.{IsCircularVariable, variable_names}
 use Rattle.just_resolve.specs.Faults.{reading_error}
 use Rattle.just_resolve.specs.Rules.{IsNamed, texts_of}

@@ -4,7 +4,7 @@ use Rattle.std.specs.Prelude.{Contains}
 use Rattle.std.specs.List.{cons_option, filter_map}
 use Rattle.std.specs.Option.{option_or}
 use Rattle.std.proofs.lemmas.Option.{none-some}
-use Rattle.meaning_worlds.proofs.Places.{contains_cases, contains_first, contains_later, contains_none}
+use Rattle.meaning_rules.proofs.Worlds.Places.{contains_cases, contains_first, contains_later, contains_none}
 use Rattle.just_resolve.specs.Gathered.{all_before, gathered, one_before}
 use Rattle.just_resolve.specs.Table.{first_of}
 

@@ -9,8 +9,8 @@ use Rattle.resolve_recipes.specs.Resolving.{all_needs}
 use Rattle.resolve_recipes.specs.declared.recipe_node.RecipeNode.{RecipeNode}
 use Rattle.resolve_recipes.specs.declared.recipe_resolver.RecipeResolver.{RecipeResolver}
 use Rattle.resolve_analysis.specs.declared.variables.ModuleVariables.{ModuleVariables}
-use Rattle.meaning_worlds.specs.Given.{Overrides, World}
-use Rattle.meaning_overriding.specs.Texts.{overrides_of}
+use Rattle.meaning_rules.specs.Worlds.Given.{Overrides, World}
+use Rattle.meaning_rules.specs.Overrides.{overrides_of}
 use Rattle.just_resolve.specs.Analysis.{IsRefused, IsRefusedWith, others, override, recipe, setting, variable}
 use Rattle.just_resolve.specs.Overrides.{AreGiven}
 use Rattle.just_resolve.specs.Rules.{InEachWorld, IsNamed, IsResolvable}

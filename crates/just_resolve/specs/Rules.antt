@@ -6,11 +6,11 @@ use Rattle.tree_items.specs.Paths.{path_names}
 use Rattle.just_value.specs.declared.positional.Override.{Override}
 use Rattle.modules_compilation.specs.declared.compilation.Compilation.{Compilation}
 use Rattle.resolve_recipes.specs.Named.{AllByName}
-use Rattle.meaning_worlds.specs.Given.{Overrides, World}
+use Rattle.meaning_rules.specs.Worlds.Given.{Overrides, World}
 use Rattle.meaning_rules.specs.Rules.{Broken, Rule, circular_recipe, circular_variable, const_error, dependency_argument_count, function_argument_count, is_of_sources, module_as_recipe, undefined_variable, unknown_dependency, unknown_function, unknown_override}
 use Rattle.meaning_rules.specs.Told as told
-use Rattle.meaning_overriding.specs.Texts.{overrides_of}
-use Rattle.meaning_reading.specs.Meant.{IsNumberedWorld}
+use Rattle.meaning_rules.specs.Overrides.{overrides_of}
+use Rattle.laws_names.specs.Reading.Meant.{IsNumberedWorld}
 use Rattle.just_resolve.specs.declared.error.Error.{Error}
 use Rattle.just_resolve.specs.declared.error.Error.TheVariants.{OutOfMemory, CircularRecipe, CircularVariable, Compile, ConstEval, DependencyArgumentCount, FunctionArgumentCount, ModuleAsRecipe, UndefinedVariable, UnknownDependency, UnknownFunction, UnknownOverride}
 

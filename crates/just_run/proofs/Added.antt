@@ -14,10 +14,10 @@ use Rattle.analyze_calls.specs.declared.call.Call.{Call}
 use Rattle.run_tasks.specs.declared.task.Task.{Task}
 use Rattle.run_tasks.specs.declared.task.Task.TheVariants as tasks
 use Rattle.run_tasks.specs.Kinds as task_kinds
-use Rattle.run_requests.specs.declared.action.Action.{Action}
-use Rattle.run_requests.specs.declared.action.Action.TheVariants as actions
+use Rattle.run_tasks.specs.declared.action.Action.{Action}
+use Rattle.run_tasks.specs.declared.action.Action.TheVariants as actions
 use Rattle.just_run.specs.Kinds.{AsksFor, MayAdd}
-use Rattle.run_requests.specs.Requests.{IsTaskOf}
+use Rattle.run_tasks.specs.Requested.Requests.{IsTaskOf}
 
 module _ {H : Type 0} (goes : H → List Entry → H → Type 0) (old new : Record H) (dry : Bool) where
   -- what a task adds its action may add

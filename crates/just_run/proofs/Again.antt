@@ -5,14 +5,14 @@ use Rattle.std.specs.Option.{option_and_then}
 use Rattle.std.specs.Str.{bytes_eq}
 use Rattle.std.proofs.lemmas.Slice.Eq.{bytes_eq-Decides}
 use Rattle.just_text.specs.declared.os.Os.{Os}
-use Rattle.tree_attribute_sets.specs.Indentations as one_of
+use Rattle.tree_attributes.specs.Sets.Indentations as one_of
 use Rattle.tree_items.specs.Files.{item_shapes}
 use Rattle.tree_items.specs.FileIndentation.{file_indentation, first_given, item_indentation, known}
 use Rattle.tree_items.specs.Printable.{printable}
 use Rattle.tree_items.specs.declared.ast.Item.{Item}
 use Rattle.justfile_syntax.specs.Bodies.{is_indentation}
 use Rattle.modules_compilation.specs.declared.module_node.File.{File}
-use Rattle.meaning_formatted.specs.Formatted.{PrintsBack}
+use Rattle.laws_printing.specs.Formatted.Formatted.{PrintsBack}
 use Rattle.just_run.specs.Texts.{IsFormatted, IsReadAgain, answered_text, formatted_text}
 use Rattle.just_run.specs.declared.fault.Fault.{Fault}
 use Rattle.just_run.specs.declared.outcome.Outcome.{Outcome}

@@ -15,11 +15,11 @@ use Rattle.justfile_syntax.specs.Laws.{FaultsSayNothing, SaysAtMostOne}
 use Rattle.justfile_syntax.specs.Reads.{IsRefusal, IsSyntaxFault, Reads}
 use Rattle.modules_compilation.specs.Paths.{is_clean}
 use Rattle.modules_files.specs.Found.{source_of}
-use Rattle.meaning_worlds.specs.Given.{Given, Text}
-use Rattle.meaning_reformatted.specs.Reformatted.{FormatsSome, IsFormattedAt, IsReformatted}
-use Rattle.meaning_reformatted.proofs.Texts.{stand_alike}
-use Rattle.meaning_files.specs.Views.{given_of}
-use Rattle.run_requests.specs.declared.action.Action.{Action}
+use Rattle.meaning_rules.specs.Worlds.Given.{Given, Text}
+use Rattle.meaning_rules.specs.Worlds.Reformatted.{FormatsSome, IsFormattedAt, IsReformatted}
+use Rattle.laws_printing.proofs.Reformatted.Texts.{stand_alike}
+use Rattle.meaning_rules.specs.Worlds.Views.{given_of}
+use Rattle.run_tasks.specs.declared.action.Action.{Action}
 use Rattle.just_run.specs.Drives.{Drives, State}
 use Rattle.just_run.specs.Named.{Left}
 use Rattle.just_run.specs.Root.{Inputs, IsNoJustfile, IsUnread, Reader, inputs_of, reader_of, text_at}

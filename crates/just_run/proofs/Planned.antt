@@ -3,7 +3,7 @@ use Rattle.std.proofs.Common.{◌≡◌, ℕ, List, Bool, true, false, Result, O
 use Rattle.std.specs.Result.{result_and}
 use Rattle.just_run.specs.Plans.{IsEnd, IsKeptBy, IsSent, IsWrittenPlan}
 use Rattle.just_run.specs.declared.fault.Fault.{Fault}
-use Rattle.run_requests.specs.declared.action.Action.TheVariants.{Plan}
+use Rattle.run_tasks.specs.declared.action.Action.TheVariants.{Plan}
 use Rattle.just_run.specs.declared.outcome.Outcome.{Outcome}
 
 -- how what was planned ended, once its plan went out

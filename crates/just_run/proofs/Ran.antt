@@ -9,8 +9,8 @@ use Rattle.just_host.specs.declared.config.Config.{Config}
 use Rattle.just_host.specs.declared.entry.Entry.{Entry}
 use Rattle.modules_compilation.specs.declared.compilation.Compilation.{Compilation}
 use Rattle.resolve_analysis.specs.declared.analysis.Analysis.{Analysis}
-use Rattle.run_prepared.specs.Begun.{BeginsTask}
-use Rattle.run_prepared.specs.Performed.{PerformsTask}
+use Rattle.run_tasks.specs.Prepared.Begun.{BeginsTask}
+use Rattle.run_tasks.specs.Prepared.Performed.{PerformsTask}
 use Rattle.run_tasks.specs.Performed.{IfPerformed, TaskEnd}
 use Rattle.run_tasks.specs.declared.fault.TaskFault.{TaskFault}
 use Rattle.run_tasks.specs.declared.task.Performed.{Performed}

@@ -15,9 +15,9 @@ use Rattle.modules_files.specs.Found.{source_of}
 use Rattle.modules_sources.specs.Loaded.{IsRootRead}
 use Rattle.modules_sources.specs.declared.load.Parsed.{Parsed}
 use Rattle.just_run.specs.Root.{Inputs, IsFileRead, given, reader_of, text_at}
-use Rattle.meaning_worlds.specs.Given.{Text, World}
-use Rattle.meaning_worlds.specs.Standing.{StandsFor}
-use Rattle.meaning_files.specs.Views.{given_of}
+use Rattle.meaning_rules.specs.Worlds.Given.{Text, World}
+use Rattle.meaning_rules.specs.Worlds.Standing.{StandsFor}
+use Rattle.meaning_rules.specs.Worlds.Views.{given_of}
 use Rattle.just_run.specs.Named.{Left}
 use Rattle.just_run.specs.Sources.{AnswersSources, Asked, TellsSources, read}
 use Rattle.just_run.specs.declared.fault.Fault.{Fault}

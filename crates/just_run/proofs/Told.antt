@@ -22,27 +22,27 @@ use Rattle.run_tasks.specs.declared.task.Performed.{Performed}
 use Rattle.run_tasks.specs.declared.task.Performed.TheVariants.{Evaluated, Ran}
 use Rattle.run_tasks.specs.declared.task.Task.{Task}
 use Rattle.run_tasks.specs.declared.task.Task.TheVariants as of_task
-use Rattle.run_prepared.specs.Begun.{BeginsTask}
-use Rattle.run_prepared.specs.Performed.{PerformsTask}
-use Rattle.run_requests.specs.Asked.{IsAskedFor}
-use Rattle.run_requests.specs.Words.{InvokesAt, values_of}
-use Rattle.run_requests.specs.declared.action.Action.{Action}
-use Rattle.run_requests.specs.declared.action.Action.TheVariants as requested
-use Rattle.run_requests.specs.declared.request.Request.{Request}
-use Rattle.run_requests.specs.declared.request.Request.TheVariants as requests
-use Rattle.run_requests.specs.declared.request.RootText.{RootText}
-use Rattle.run_requests.specs.declared.request.RootText.TheVariants as texts
+use Rattle.run_tasks.specs.Prepared.Begun.{BeginsTask}
+use Rattle.run_tasks.specs.Prepared.Performed.{PerformsTask}
+use Rattle.run_tasks.specs.Requested.Asked.{IsAskedFor}
+use Rattle.run_tasks.specs.Requested.Words.{InvokesAt, values_of}
+use Rattle.run_tasks.specs.declared.action.Action.{Action}
+use Rattle.run_tasks.specs.declared.action.Action.TheVariants as requested
+use Rattle.run_tasks.specs.declared.request.Request.{Request}
+use Rattle.run_tasks.specs.declared.request.Request.TheVariants as requests
+use Rattle.run_tasks.specs.declared.request.RootText.{RootText}
+use Rattle.run_tasks.specs.declared.request.RootText.TheVariants as texts
 use Rattle.meaning_dialogues.specs.Faults.{memory}
-use Rattle.meaning_opening.specs.Requests.{dotenv, opening}
+use Rattle.meaning_evaluation.specs.Requests.{dotenv, opening}
 use Rattle.meaning_runs.specs.Failures.{Failure, Next, by_code, by_signal, evaluation, next_by, not_confirmed, not_started}
 use Rattle.meaning_runs.specs.Tallies.{Tally}
-use Rattle.meaning_menus.specs.Calls.{CallsAreThere}
-use Rattle.meaning_calls.specs.Calling.{without_next}
-use Rattle.meaning_calls.specs.Named.{Call as NamedCall, Definitions, RecipeName}
-use Rattle.meaning_calls.specs.Scopes.{Configuration}
-use Rattle.meaning_worlds.specs.Standing.{StandsFor}
-use Rattle.meaning_grounds.specs.Alike.{configuration_of}
-use Rattle.meaning_menus.specs.Named.{name_at}
+use Rattle.laws_runs.specs.Menus.Calls.{CallsAreThere}
+use Rattle.meaning_evaluation.specs.Calling.{without_next}
+use Rattle.meaning_evaluation.specs.Named.{Call as NamedCall, Definitions, RecipeName}
+use Rattle.meaning_evaluation.specs.Scopes.{Configuration}
+use Rattle.meaning_rules.specs.Worlds.Standing.{StandsFor}
+use Rattle.just_meaning.specs.Configured.{configuration_of}
+use Rattle.laws_runs.specs.Menus.Named.{name_at}
 use Rattle.just_resolve.specs.Analysis.{IsAnalysis}
 use Rattle.just_resolve.specs.Rules.{IsResolvable}
 use Rattle.just_meaning.specs.Actions.{ActionEnd, CommandGoes, EvaluateGoes}
@@ -57,33 +57,34 @@ use Rattle.just_modules.specs.Worlds as files
 use Rattle.just_resolve.specs.Rules as names
 use Rattle.meaning_rules.specs.Rules.{is_of_sources}
 use Rattle.meaning_runs.specs.Invokes.{Invoke}
-use Rattle.meaning_calls.specs.Groups.{parameters_of}
+use Rattle.meaning_evaluation.specs.Groups.{parameters_of}
 use Rattle.meaning_dialogues.specs.Faults.{Fault as EvaluationFault}
-use Rattle.meaning_overriding.specs.Texts.{overrides_of}
-use Rattle.meaning_soundness.specs.Endings.{is_internal}
-use Rattle.meaning_worlds.specs.Given.{Given, Overrides, Text, World}
-use Rattle.meaning_worlds.proofs.Places.{contains_cases, contains_none}
-use Rattle.meaning_certain.proofs.Actions.{commands_end_certainly, evaluations_end_certainly}
-use Rattle.meaning_certain.proofs.Runs.{runs_end_certainly}
-use Rattle.meaning_known.specs.Known.{BreaksNoRule, HasRecipe, HaveRows, IsRead}
-use Rattle.meaning_known.proofs.Invoked.{invoked_are_known}
-use Rattle.meaning_known.proofs.Known.{defined_are_known, kept_are_known}
-use Rattle.meaning_known.proofs.Ordered.{worlds_are_in_order}
-use Rattle.meaning_determined.specs.Determined.{nothing}
-use Rattle.meaning_repeated.proofs.Repeated.{runs_go_alike}
-use Rattle.meaning_unique.proofs.Unique.{definitions_are_one}
+use Rattle.meaning_rules.specs.Overrides.{overrides_of}
+use Rattle.meaning_dialogues.specs.Internal.{is_internal}
+use Rattle.meaning_rules.specs.Worlds.Given.{Given, Overrides, Text, World}
+use Rattle.meaning_rules.proofs.Worlds.Places.{contains_cases, contains_none}
+use Rattle.laws_agreement.proofs.Certain.Actions.{commands_end_certainly, evaluations_end_certainly}
+use Rattle.laws_agreement.proofs.Certain.Runs.{runs_end_certainly}
+use Rattle.laws_agreement.specs.Known.Known.{BreaksNoRule, HasRecipe}
+use Rattle.just_meaning.specs.Known.{HaveRows, IsRead}
+use Rattle.laws_agreement.proofs.Known.Invoked.{invoked_are_known}
+use Rattle.laws_agreement.proofs.Known.Known.{defined_are_known, kept_are_known}
+use Rattle.laws_agreement.proofs.Known.Ordered.{worlds_are_in_order}
+use Rattle.just_meaning.specs.Determined.{nothing}
+use Rattle.laws_agreement.proofs.Repeated.Repeated.{runs_go_alike}
+use Rattle.laws_agreement.proofs.Unique.Unique.{definitions_are_one}
 use Rattle.std.specs.List.{AllByRecursion}
-use Rattle.meaning_defined.specs.Defined.{IsDefinedBy, named_call}
-use Rattle.meaning_defined.proofs.Calls.{words_invoke_recipes}
-use Rattle.meaning_running.specs.Running.{IsToldEnd, action_end, outcome_of}
-use Rattle.meaning_running.proofs.Running.Commanding.{commands_are_named}
-use Rattle.meaning_running.proofs.Running.Begun.{calls_begin_named}
-use Rattle.meaning_running.proofs.Running.BegunActions.{commands_begin_named, evaluations_begin_named}
-use Rattle.meaning_running.proofs.Running.Calls.{calls_run_named}
-use Rattle.meaning_running.proofs.Running.Telling.{evaluations_are_named}
-use Rattle.meaning_running.proofs.Running.There.{root_there, target_there}
-use Rattle.meaning_running.specs.Told.{IsThere}
-use Rattle.meaning_names.specs.Names.{AreSingle, IsOfWorld}
+use Rattle.laws_runs.specs.Defined.Defined.{IsDefinedBy, named_call}
+use Rattle.laws_runs.proofs.Defined.Calls.{words_invoke_recipes}
+use Rattle.laws_runs.specs.Running.Running.{IsToldEnd, action_end, outcome_of}
+use Rattle.laws_runs.proofs.Running.Running.Commanding.{commands_are_named}
+use Rattle.laws_runs.proofs.Running.Running.Begun.{calls_begin_named}
+use Rattle.laws_runs.proofs.Running.Running.BegunActions.{commands_begin_named, evaluations_begin_named}
+use Rattle.laws_runs.proofs.Running.Running.Calls.{calls_run_named}
+use Rattle.laws_runs.proofs.Running.Running.Telling.{evaluations_are_named}
+use Rattle.laws_runs.proofs.Running.Running.There.{root_there, target_there}
+use Rattle.laws_runs.specs.Running.Told.{IsThere}
+use Rattle.laws_modules.specs.Names.Names.{AreSingle, IsOfWorld}
 use Rattle.resolve_analysis.specs.declared.module_lists.ModuleLists.{ModuleLists}
 use Rattle.std.proofs.lemmas.Option.{same_Some}
 use Rattle.just_run.specs.Named.{CommandTo, End, GoesAlike, GoesNamed, IsCertainEnd, IfCommanded, IfRan, IfTold, IsListed, Left, PlansNamed, RunsBetween, RunsNamed, ValuesTo, as_run}

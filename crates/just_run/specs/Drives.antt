@@ -7,16 +7,16 @@ use Rattle.just_host.specs.declared.entry.Entry.{Entry}
 use Rattle.just_run.specs.Root.{Inputs}
 use Rattle.just_host.specs.declared.config.Config.{Config}
 use Rattle.just_run.specs.Named.{left_of}
-use Rattle.meaning_worlds.specs.Given.{Given, Text}
+use Rattle.meaning_rules.specs.Worlds.Given.{Given, Text}
 use Rattle.just_run.specs.Early.{IsEarly}
 use Rattle.just_run.specs.Kinds.{MayAdd}
 use Rattle.just_run.specs.Plans.{IsKeptBy, Plans}
-use Rattle.run_requests.specs.Requests.{IsText}
+use Rattle.run_tasks.specs.Requested.Requests.{IsText}
 use Rattle.just_run.specs.Sources.{AnswersSources, asked_of}
 use Rattle.just_run.specs.Writes.{WriteFails}
 use Rattle.just_run.specs.declared.fault.Fault.{Fault}
-use Rattle.run_requests.specs.declared.action.Action.{Action}
-use Rattle.run_requests.specs.declared.action.Action.TheVariants as actions
+use Rattle.run_tasks.specs.declared.action.Action.{Action}
+use Rattle.run_tasks.specs.declared.action.Action.TheVariants as actions
 use Rattle.just_run.specs.declared.outcome.Outcome.{Outcome}
 
 -- what a call finds, and what it leaves: the record of the host, what was written, and how often a write failed

@@ -4,8 +4,8 @@ use Rattle.just_host.specs.Asking.{Asks}
 use Rattle.just_host.specs.Kinds.{HaveQuestions, HaveRequests, HaveUser, HaveWork, Only}
 use Rattle.just_host.specs.Record.{Record}
 use Rattle.just_host.specs.declared.entry.Entry.{Entry}
-use Rattle.run_requests.specs.declared.action.Action.{Action}
-use Rattle.run_requests.specs.declared.action.Action.TheVariants as actions
+use Rattle.run_tasks.specs.declared.action.Action.{Action}
+use Rattle.run_tasks.specs.declared.action.Action.TheVariants as actions
 
 -- What an action may add: opening asks questions and for files of variables, and so does a plan; a run shows, asks and hands over; a command is handed over; nothing is handed over in a dry run. A text of the root module adds nothing.
 abbrev pub MayAdd : Action → Bool → (Entry → Bool) → Type 0

@@ -7,15 +7,15 @@ use Rattle.just_host.specs.Record.{Record}
 use Rattle.just_host.specs.declared.entry.Entry.{Entry}
 use Rattle.evaluate_context.specs.Refusals.{fault_of}
 use Rattle.meaning_dialogues.specs.Faults.{memory}
-use Rattle.meaning_opening.specs.Requests.{dotenv, opening}
+use Rattle.meaning_evaluation.specs.Requests.{dotenv, opening}
 use Rattle.meaning_runs.specs.Failures.{by_code, by_signal, evaluation, next_by, not_confirmed, not_started}
 use Rattle.tree_items.specs.Lines.{no_sigils}
 use Rattle.meaning_runs.specs.Invokes.{Invoke}
 use Rattle.meaning_runs.specs.Tallies.{Tally}
 use Rattle.meaning_runs.specs.Told.{Answers}
-use Rattle.meaning_calls.specs.Named.{Call, Definitions, RecipeName}
-use Rattle.meaning_calls.specs.Scopes.{Configuration}
-use Rattle.meaning_calls.specs.Calling.{without_next}
+use Rattle.meaning_evaluation.specs.Named.{Call, Definitions, RecipeName}
+use Rattle.meaning_evaluation.specs.Scopes.{Configuration}
+use Rattle.meaning_evaluation.specs.Calling.{without_next}
 use Rattle.just_meaning.specs.Actions.{ActionEnd, CommandGoes, EvaluateGoes}
 use Rattle.just_meaning.specs.Actions as actions
 use Rattle.just_meaning.specs.Agreement.{AgreesRun}
@@ -23,11 +23,11 @@ use Rattle.just_meaning.specs.Begun.{BeginsCommand, BeginsEvaluate, BeginsRun}
 use Rattle.just_meaning.specs.Menus.{menu_of}
 use Rattle.just_meaning.specs.Runs.{Runs, call_in}
 use Rattle.just_meaning.specs.Runs as named
-use Rattle.meaning_certain.specs.Certain.{IsCertainActionEnd, IsCertainFailure, IsCertainOpeningFailure}
-use Rattle.meaning_determined.specs.Determined.{GoAlike, nothing}
+use Rattle.just_meaning.specs.Certain.{IsCertainActionEnd, IsCertainFailure, IsCertainOpeningFailure}
+use Rattle.just_meaning.specs.Determined.{GoAlike, nothing}
 use Rattle.run_plan.specs.Plans.{plan_text}
-use Rattle.run_requests.specs.declared.action.Action.{Action}
-use Rattle.run_requests.specs.declared.action.Action.TheVariants as asked
+use Rattle.run_tasks.specs.declared.action.Action.{Action}
+use Rattle.run_tasks.specs.declared.action.Action.TheVariants as asked
 use Rattle.just_run.specs.Plans.{IsWrittenPlan}
 use Rattle.just_run.specs.Writes.{Writes}
 use Rattle.just_run.specs.declared.fault.Fault.{Fault}

@@ -8,8 +8,8 @@ use Rattle.run_plan.specs.Plans.{plan_text}
 use Rattle.just_run.specs.Writes.{IsKept, GrewBy}
 use Rattle.just_run.specs.declared.fault.Fault.{Fault}
 use Rattle.just_run.specs.declared.fault.Fault.TheVariants as faults
-use Rattle.run_requests.specs.declared.action.Action.{Action}
-use Rattle.run_requests.specs.declared.action.Action.TheVariants as actions
+use Rattle.run_tasks.specs.declared.action.Action.{Action}
+use Rattle.run_tasks.specs.declared.action.Action.TheVariants as actions
 use Rattle.just_run.specs.declared.outcome.Outcome.{Outcome}
 use Rattle.just_run.specs.declared.outcome.Outcome.TheVariants as outcomes
 

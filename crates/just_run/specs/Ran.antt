@@ -15,13 +15,13 @@ use Rattle.run_tasks.specs.declared.task.Performed.{Performed}
 use Rattle.run_tasks.specs.declared.task.Performed.TheVariants.{Evaluated, Ran}
 use Rattle.run_tasks.specs.declared.task.Task.{Task}
 use Rattle.run_tasks.specs.declared.task.Task.TheVariants as tasks
-use Rattle.run_prepared.specs.Begun.{BeginsTask}
-use Rattle.run_prepared.specs.Performed.{PerformsTask}
-use Rattle.run_requests.specs.Asked.{IsAskedFor}
-use Rattle.run_requests.specs.declared.action.Action.{Action}
-use Rattle.run_requests.specs.declared.request.Request.TheVariants as requests
-use Rattle.run_requests.specs.declared.request.RootText.{RootText}
-use Rattle.run_requests.specs.declared.request.RootText.TheVariants as texts
+use Rattle.run_tasks.specs.Prepared.Begun.{BeginsTask}
+use Rattle.run_tasks.specs.Prepared.Performed.{PerformsTask}
+use Rattle.run_tasks.specs.Requested.Asked.{IsAskedFor}
+use Rattle.run_tasks.specs.declared.action.Action.{Action}
+use Rattle.run_tasks.specs.declared.request.Request.TheVariants as requests
+use Rattle.run_tasks.specs.declared.request.RootText.{RootText}
+use Rattle.run_tasks.specs.declared.request.RootText.TheVariants as texts
 use Rattle.just_run.specs.Named.{IsListed, Left}
 use Rattle.just_run.specs.Passed.{task_fault}
 use Rattle.just_run.specs.Plans.{IsWrittenPlan}

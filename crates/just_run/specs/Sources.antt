@@ -6,27 +6,27 @@ use Rattle.just_value.specs.declared.positional.Positional.{Positional}
 use Rattle.modules_compilation.specs.declared.compilation.Compilation.{Compilation}
 use Rattle.resolve_analysis.specs.declared.analysis.Analysis.{Analysis}
 use Rattle.analyze_words.specs.declared.fault.WordFault.{WordFault}
-use Rattle.meaning_calls.specs.Named.{Definitions}
+use Rattle.meaning_evaluation.specs.Named.{Definitions}
 use Rattle.just_meaning.specs.Defining.{AreDefined}
-use Rattle.run_requests.specs.Words.{BreaksNamed, BreaksPlaced, MeansNamed, MeansPlaced}
+use Rattle.run_tasks.specs.Requested.Words.{BreaksNamed, BreaksPlaced, MeansNamed, MeansPlaced}
 use Rattle.modules_compilation.specs.declared.error.Error.{Error}
 use Rattle.just_run.specs.Root.{Inputs, IsUnread}
 use Rattle.just_run.specs.declared.root.RootFault.{RootFault}
-use Rattle.meaning_worlds.specs.Given.{Given, Text, World}
-use Rattle.meaning_worlds.specs.Standing.{StandsFor}
+use Rattle.meaning_rules.specs.Worlds.Given.{Given, Text, World}
+use Rattle.meaning_rules.specs.Worlds.Standing.{StandsFor}
 use Rattle.just_modules.specs.Worlds.{BreaksNone, BreaksTold}
-use Rattle.meaning_overriding.specs.Texts.{overrides_of}
+use Rattle.meaning_rules.specs.Overrides.{overrides_of}
 use Rattle.just_resolve.specs.Rules as names
 use Rattle.just_resolve.specs.declared.error.Error.{Error as NameError}
 use Rattle.just_run.specs.Early.{IsOfNoRule}
 use Rattle.just_run.specs.Named.{GoesNamed, Left}
 use Rattle.just_run.specs.Ran.{GoesPlaced}
-use Rattle.meaning_grounds.specs.Alike.{configuration_of}
-use Rattle.meaning_known.specs.Known.{HaveRows, IsRead}
+use Rattle.just_meaning.specs.Configured.{configuration_of}
+use Rattle.just_meaning.specs.Known.{HaveRows, IsRead}
 use Rattle.just_run.specs.Passed.{file_fault, name_fault, root_fault, word_fault}
 use Rattle.just_run.specs.declared.fault.Fault.{Fault}
-use Rattle.run_requests.specs.declared.action.Action.{Action}
-use Rattle.run_requests.specs.declared.action.Action.TheVariants as actions
+use Rattle.run_tasks.specs.declared.action.Action.{Action}
+use Rattle.run_tasks.specs.declared.action.Action.TheVariants as actions
 use Rattle.just_run.specs.declared.outcome.Outcome.{Outcome}
 
 -- what is asked for, the words, and the configuration

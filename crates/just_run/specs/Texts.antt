@@ -10,7 +10,7 @@ use Rattle.tree_items.specs.FileIndentation.{file_indentation}
 use Rattle.parse_expressions.specs.Literals.{Expansion}
 use Rattle.justfile_syntax.specs.Reads.{Reads}
 use Rattle.semver.specs.declared.Version.{Version}
-use Rattle.meaning_printing.specs.Normal.{normal}
+use Rattle.laws_printing.specs.Printing.Normal.{normal}
 use Rattle.modules_compilation.specs.declared.compilation.Compilation.{Compilation}
 use Rattle.modules_compilation.specs.declared.module_node.File.{File}
 use Rattle.modules_compilation.specs.declared.module_node.ModuleNode.{ModuleNode}

@@ -8,7 +8,7 @@ ghost use Rattle.just_run.specs.Statuses.{command_status, status_of};
 ghost use Rattle.just_run.specs.declared.fault.Fault.TheVariants.{OutOfMemory, Write};
 
 use crate::root::RootFault;
-use analyze_runs::{OpeningFault, RunFault};
+use analyze_calls::{OpeningFault, RunFault};
 use analyze_words::WordFault;
 use just_host::{HostFault, Status, WriteFailed};
 use justfile_evaluator::Error as EvaluationError;

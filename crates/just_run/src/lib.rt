@@ -17,5 +17,4 @@ pub use just_host::{
 };
 pub use just_value::{Override, Positional};
 pub use outcome::Outcome;
-pub use run_requests::Action;
-pub use run_tasks::CommandFault;
+pub use run_tasks::{Action, CommandFault};

@@ -4,8 +4,8 @@ ghost use Rattle.std.specs.String.{string_bytes};
 ghost use Rattle.just_host.specs.Follows.{Follows, questions};
 ghost use Rattle.just_host.specs.declared.entry.Entry.{Entry};
 ghost use Rattle.run_plan.specs.Plans.{plan_text};
-ghost use Rattle.run_prepared.specs.Begun.{BeginsTask};
-ghost use Rattle.run_prepared.specs.Performed.{PerformsTask};
+ghost use Rattle.run_tasks.specs.Prepared.Begun.{BeginsTask};
+ghost use Rattle.run_tasks.specs.Prepared.Performed.{PerformsTask};
 ghost use Rattle.run_tasks.specs.declared.task.Task.TheVariants as tasks;
 ghost use Rattle.just_run.specs.Named.{left_of};
 ghost use Rattle.just_run.specs.Ran.{PlansTask, WasSent, plan_answer};
@@ -16,13 +16,12 @@ ghost use Rattle.just_run.specs.Writes.{WriteFails};
 use crate::fault::Fault;
 use crate::outcome::Outcome;
 use crate::texts::write_text;
-use analyze_runs::Call;
+use analyze_calls::Call;
 use just_host::{Config, Out, Recorded, RunHost};
 use just_modules::Compilation;
 use just_resolve::Analysis;
 use run_plan::{Planning, plan_text};
-use run_prepared::perform_task;
-use run_tasks::{Performed, Task, TaskFault};
+use run_tasks::{Performed, Task, TaskFault, perform_task};
 use std::alloc::Global;
 
 /// The text of what was planned; none where memory is or was wanting.

@@ -8,7 +8,7 @@ ghost use Rattle.just_run.specs.Early.{IsLate, IsOfNoRule};
 ghost use Rattle.just_run.specs.Texts.{IsFormatted, IsReadAgain, answered_text, dumped_text, file_place, formatted_text, performed_outcome, performed_text, printed_text, root_file};
 ghost use Rattle.just_run.specs.Writes.{IsKept, IsNoWrite, WriteFails, Writes};
 ghost use Rattle.just_run.specs.declared.outcome.Outcome.TheVariants as outcomes;
-ghost use Rattle.run_requests.specs.declared.request.RootText.TheVariants as texts;
+ghost use Rattle.run_tasks.specs.declared.request.RootText.TheVariants as texts;
 ghost use Rattle.run_tasks.specs.declared.task.Performed.TheVariants as tasks;
 
 use crate::fault::Fault;
@@ -17,9 +17,8 @@ use just_host::{Out, WriteFailed, write_all};
 use just_modules::{Compilation, ModuleNode};
 use justfile_analyzer::Justfile;
 use justfile_syntax::{Ast, Os, Text, print};
-use meaning_formatted::law::formatted_texts_say_the_same;
-use run_requests::RootText;
-use run_tasks::Performed;
+use laws_printing::law::formatted::formatted_texts_say_the_same;
+use run_tasks::{Performed, RootText};
 use std::alloc::{AllocError, Global};
 
 /// Bodies of files that set no indentation.

@@ -9,7 +9,7 @@ use Rattle.tree_expressions.specs.Cutting.{without_front}
 use Rattle.tree_attributes.specs.declared.attribute.Attribute.{Attribute}
 use Rattle.tree_attributes.specs.declared.attribute.Attribute.TheVariants.{Doc}
 use Rattle.tree_attributes.specs.declared.attribute.AttributeKind.TheVariants.{Doc as DocKind}
-use Rattle.tree_attribute_sets.specs.Sets.{is_of, items_of}
+use Rattle.tree_attributes.specs.Sets.Sets.{is_of, items_of}
 use Rattle.tree_items.specs.Recipes.{parameter_shapes, signature_text}
 use Rattle.tree_items.specs.declared.ast.Item.{Item}
 use Rattle.tree_items.specs.declared.ast.Item.TheVariants.{Comment}

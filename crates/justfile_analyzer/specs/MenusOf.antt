@@ -16,7 +16,7 @@ use Rattle.tree_items.specs.declared.recipe.Parameter.{Parameter}
 use Rattle.tree_items.specs.declared.recipe.Recipe.{Recipe as WrittenRecipe}
 use Rattle.tree_items.specs.declared.recipe.UnresolvedDependency.{UnresolvedDependency}
 use Rattle.evaluate_context.specs.declared.settings.Settings.{Settings}
-use Rattle.meaning_stages.specs.Parameters.{is_star}
+use Rattle.meaning_evaluation.specs.Stages.Parameters.{is_star}
 use Rattle.meaning_runs.specs.Words.{Slot}
 use Rattle.modules_compilation.specs.Modulepaths.{pieces}
 use Rattle.modules_compilation.specs.declared.compilation.Compilation.{Compilation}

@@ -1,8 +1,8 @@
 -- What modules offer: their recipes and submodules that are not private.
 use Rattle.std.specs.Prelude.{ℕ, Bool, true, not, ◌||◌, ◌==◌, List, [], Option, Some, None, filter, filter_map, option_map, slice_get, slice_index, if◌then◌else◌}
 use Rattle.just_text.specs.Tokens.{lexeme}
-use Rattle.tree_attribute_sets.specs.Sets.{items_of, is_private as private_by}
-use Rattle.tree_attribute_sets.specs.declared.attribute_item.AttributeItem.{AttributeItem}
+use Rattle.tree_attributes.specs.Sets.Sets.{items_of, is_private as private_by}
+use Rattle.tree_attributes.specs.declared.attribute_item.AttributeItem.{AttributeItem}
 use Rattle.tree_items.specs.declared.ast.Item.{Item}
 use Rattle.tree_items.specs.declared.ast.Item.TheVariants.{Module as ModuleItem, Recipe as RecipeItem}
 use Rattle.tree_items.specs.declared.recipe.Recipe.{Recipe}

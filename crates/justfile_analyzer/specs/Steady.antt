@@ -6,8 +6,8 @@ use Rattle.just_text.specs.declared.name.Name.{Name}
 use Rattle.tree_expressions.specs.declared.expression.Expression.{Expression}
 use Rattle.tree_attributes.specs.declared.attribute.Attribute.{Attribute}
 use Rattle.tree_attributes.specs.declared.attribute.Attribute.TheVariants.{Confirm, Env}
-use Rattle.tree_attribute_sets.specs.Sets.{items_of}
-use Rattle.tree_attribute_sets.specs.declared.attribute_item.AttributeItem.{AttributeItem}
+use Rattle.tree_attributes.specs.Sets.Sets.{items_of}
+use Rattle.tree_attributes.specs.declared.attribute_item.AttributeItem.{AttributeItem}
 use Rattle.tree_items.specs.declared.item.FunctionDefinition.{FunctionDefinition}
 use Rattle.tree_items.specs.declared.recipe.DependencyArgument.{DependencyArgument}
 use Rattle.tree_items.specs.declared.recipe.Parameter.{Parameter}

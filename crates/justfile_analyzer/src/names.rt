@@ -2,7 +2,7 @@
 ghost use Rattle.std.specs.Prelude.{◌≡◌, ℕ, ◌||◌, [], List, IfOk, OnOk, Some, None, bytes_eq, cond, if◌then◌else◌, map, option_map, slice_get};
 ghost use Rattle.std.specs.Option.{option_and_then};
 ghost use Rattle.just_text.specs.Tokens.{lexeme};
-ghost use Rattle.meaning_stages.specs.Parameters.{is_star};
+ghost use Rattle.meaning_evaluation.specs.Stages.Parameters.{is_star};
 ghost use Rattle.modules_compilation.specs.Modulepaths.{pieces};
 ghost use Rattle.resolve_recipes.specs.Named.{AllByName, IsByName, text_at};
 ghost use Rattle.analyze_words.specs.Worded.{slot_of};

@@ -1,12 +1,12 @@
 //! What modules offer: their recipes and submodules that are not private.
 ghost use Rattle.std.specs.Prelude.{◌≡◌, IfOk, OnOk, ◌++◌, filter, map, option_map};
-ghost use Rattle.tree_attribute_sets.specs.Sets.{items_of};
+ghost use Rattle.tree_attributes.specs.Sets.Sets.{items_of};
 ghost use Rattle.modules_compilation.specs.Places.{item_at, text_of};
 ghost use Rattle.justfile_analyzer.specs.Offers as spec;
 
 use modules_compilation::{Compilation, ModuleNode, Place};
 use std::alloc::{AllocError, Global};
-use tree_attribute_sets::AttributeSet;
+use tree_attributes::AttributeSet;
 use tree_items::{Item, Recipe, UnresolvedDependency};
 
 /// A recipe that is borrowed.

@@ -2,7 +2,7 @@
 use crate::offered::{RecipeRef, module_attributes, public_modules, recipe_places, recipes_at};
 use modules_compilation::{Compilation, Place};
 use std::alloc::{AllocError, Global};
-use tree_attribute_sets::AttributeSet;
+use tree_attributes::AttributeSet;
 
 /// Puts the places there, the last first.
 fn push_last_first(open: &mut Vec<usize>, places: &[usize]) -> Result<(), AllocError> {

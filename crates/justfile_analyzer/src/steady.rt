@@ -1,7 +1,7 @@
 //! Whether recipes are entered alike as dependencies and by words.
 ghost use Rattle.std.specs.Prelude.{◌≡◌, ◌++◌, ◌↔◌, ℕ, true, map, IfOk, OnOk};
 ghost use Rattle.std.specs.List.{flat_map, list_any};
-ghost use Rattle.tree_attribute_sets.specs.Sets.{items_of};
+ghost use Rattle.tree_attributes.specs.Sets.Sets.{items_of};
 ghost use Rattle.resolve_references.specs.References.{references_of};
 ghost use Rattle.justfile_analyzer.specs.Steady as spec;
 ghost use Rattle.justfile_analyzer.specs.Values.{has_value, value_at, value_in};
@@ -12,8 +12,7 @@ use modules_compilation::{Compilation, Place};
 use resolve_analysis::{ModuleLists, ResolvedRecipe};
 use resolve_references::References;
 use std::alloc::{AllocError, Global};
-use tree_attribute_sets::AttributeSet;
-use tree_attributes::Attribute;
+use tree_attributes::{Attribute, AttributeSet};
 use tree_items::{DependencyArgument, Parameter, Recipe, UnresolvedDependency};
 
 fn add_attribute<'src>(

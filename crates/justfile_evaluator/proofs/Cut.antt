@@ -1,8 +1,8 @@
 -- A text without its last backslash, and lines by their first and last parts.
 use Rattle.std.proofs.Common.{◌≡◌, ℕ, ◌+◌, ◌-◌, ◌<◌, List, [], ◌∷◌, ◌++◌, length, take, get_or, length-append, sym, ap, ◌∙◌, arith}
 use Rattle.std.proofs.Math.Seq.{get_or-append_seam}
-use Rattle.meaning_calls.specs.Bodies.{without_last}
-use Rattle.meaning_bodies.specs.Marked.{EndsSlashed}
+use Rattle.meaning_evaluation.specs.Bodies.{without_last}
+use Rattle.laws_evaluation.specs.Bodies.Marked.{EndsSlashed}
 
 -- a text that ends with a backslash has a last byte, which is ASCII
 pub slash_cut : (old new : List ℕ) (n : ℕ) → n ≡ length old → EndsSlashed old → (0 < n → get_or old (n - 1) 0 < 128 → new ≡ take (n - 1) old) → new ≡ without_last old

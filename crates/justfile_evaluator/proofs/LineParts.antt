@@ -8,7 +8,7 @@ use Rattle.meaning_dialogues.specs.Dialogue.{Dialogue, DialogueGoes, Evaluates, 
 use Rattle.meaning_dialogues.specs.Evaluation.{Stage}
 use Rattle.meaning_dialogues.proofs.Dialogues.{goes_on, stops, begins_first, whole_begins}
 use Rattle.meaning_dialogues.proofs.Rows.{Fills, fills_begins, fills_memory}
-use Rattle.meaning_stages.specs.Lines.{line_dialogue, piece_dialogue, piece_of}
+use Rattle.meaning_evaluation.specs.Stages.Lines.{line_dialogue, piece_dialogue, piece_of}
 
 at_place : (es : List Fragment) (i : ℕ) (x : Fragment) → i < length es → x ≡ get_or es i x → map piece_of (drop i es) ≡ piece_of x ∷ map piece_of (drop (i + 1) es)
 at_place es i x lt is =

@@ -20,15 +20,15 @@ use Rattle.meaning_dialogues.specs.Dialogue.{Evaluates}
 use Rattle.meaning_dialogues.specs.Faults.{Fault}
 use Rattle.meaning_runs.specs.Failures.{Failure, evaluation, Next, goes_on, next_by}
 use Rattle.meaning_runs.specs.Task.{Task}
-use Rattle.meaning_calls.specs.Bodies.{first_of, goes_on_below, line_text}
-use Rattle.meaning_calls.specs.Calling.{handing, running}
-use Rattle.meaning_bodies.specs.Left.{added, left, marks_with, text_with}
-use Rattle.meaning_bodies.specs.Marked.{BeginsMarked}
-use Rattle.meaning_bodies.specs.Performing.{LeadsOn, Performs, Stays}
-use Rattle.meaning_bodies.proofs.Jobs.{handed_dry, handed_line, runs_none, runs_shown, runs_hidden}
-use Rattle.meaning_bodies.proofs.Commands.{LeadsWhole, lines_first, lines_passed, lines_read, lines_stop, lines_open, lines_closed, lines_cut_off, lines_more, lines_ended, lines_failed, lines_end}
-use Rattle.meaning_bodies.proofs.Put.{put_marked}
-use Rattle.meaning_bodies.proofs.Slashes.{open_slashed}
+use Rattle.meaning_evaluation.specs.Bodies.{first_of, goes_on_below, line_text}
+use Rattle.meaning_evaluation.specs.Calling.{handing, running}
+use Rattle.laws_evaluation.specs.Bodies.Left.{added, left, marks_with, text_with}
+use Rattle.laws_evaluation.specs.Bodies.Marked.{BeginsMarked}
+use Rattle.laws_evaluation.specs.Bodies.Performing.{LeadsOn, Performs, Stays}
+use Rattle.laws_evaluation.proofs.Bodies.Jobs.{handed_dry, handed_line, runs_none, runs_shown, runs_hidden}
+use Rattle.laws_evaluation.proofs.Bodies.Commands.{LeadsWhole, lines_first, lines_passed, lines_read, lines_stop, lines_open, lines_closed, lines_cut_off, lines_more, lines_ended, lines_failed, lines_end}
+use Rattle.laws_evaluation.proofs.Bodies.Put.{put_marked}
+use Rattle.laws_evaluation.proofs.Bodies.Slashes.{open_slashed}
 use Rattle.justfile_evaluator.specs.Bodies.{NamedBody, IsSiteOf, lines_of}
 use Rattle.justfile_evaluator.specs.Ended.{ended, failure_of, next_of}
 use Rattle.justfile_evaluator.specs.Sites.{job_by, shows_in, template_in}

@@ -14,8 +14,8 @@ use Rattle.tree_attributes.specs.declared.attribute.Attribute.{Attribute}
 use Rattle.tree_attributes.specs.declared.attribute.Attribute.TheVariants.{Script}
 use Rattle.tree_attributes.specs.declared.attribute.AttributeKind.TheVariants.{Script as ScriptKind}
 use Rattle.tree_attributes.specs.declared.setting.Interpreter.{Interpreter}
-use Rattle.tree_attribute_sets.specs.Sets.{is_of, items_of}
-use Rattle.tree_attribute_sets.specs.declared.attribute_item.AttributeItem.{AttributeItem}
+use Rattle.tree_attributes.specs.Sets.Sets.{is_of, items_of}
+use Rattle.tree_attributes.specs.declared.attribute_item.AttributeItem.{AttributeItem}
 use Rattle.tree_items.specs.Lines.{Piece, pieces_of}
 use Rattle.tree_items.specs.declared.line.Line.{Line}
 use Rattle.just_host.specs.declared.entry.Entry.{Entry}
@@ -35,15 +35,15 @@ use Rattle.meaning_dialogues.specs.Dialogue.{Dialogue, Evaluates, Reading}
 use Rattle.meaning_dialogues.specs.Evaluation.{dialogues, interpreter_dialogue}
 use Rattle.meaning_dialogues.specs.Faults.{Fault, memory}
 use Rattle.meaning_dialogues.specs.Terms.{terms_of}
-use Rattle.meaning_stages.specs.Lines.{line_dialogue, piece_of}
+use Rattle.meaning_evaluation.specs.Stages.Lines.{line_dialogue, piece_of}
 use Rattle.meaning_runs.specs.Failures.{Failure, Next}
-use Rattle.meaning_calls.specs.Bodies.{first_words, has_shebang, in_lines, script_job, shebang_words, shows_script}
-use Rattle.meaning_calls.specs.Bodies as calls
-use Rattle.meaning_calls.specs.Calling.{without_next}
-use Rattle.meaning_bodies.specs.Marked.{BeginsAs, BeginsShebang}
-use Rattle.meaning_bodies.specs.Performing.{Performs, Stays}
-use Rattle.meaning_bodies.proofs.Performing.{stays_through}
-use Rattle.meaning_bodies.proofs.Scripts.{LeadsTexts, texts_first, texts_more, texts_stop, texts_memory, texts_end, words_written, words_stop, words_unnamed, words_plain, script_shown, script_hidden}
+use Rattle.meaning_evaluation.specs.Bodies.{first_words, has_shebang, in_lines, script_job, shebang_words, shows_script}
+use Rattle.meaning_evaluation.specs.Bodies as calls
+use Rattle.meaning_evaluation.specs.Calling.{without_next}
+use Rattle.laws_evaluation.specs.Bodies.Marked.{BeginsAs, BeginsShebang}
+use Rattle.laws_evaluation.specs.Bodies.Performing.{Performs, Stays}
+use Rattle.laws_evaluation.proofs.Bodies.Performing.{stays_through}
+use Rattle.laws_evaluation.proofs.Bodies.Scripts.{LeadsTexts, texts_first, texts_more, texts_stop, texts_memory, texts_end, words_written, words_stop, words_unnamed, words_plain, script_shown, script_hidden}
 use Rattle.justfile_evaluator.specs.Bodies.{IsBodyOf, IsSiteOf, MeansInterpreter, NamedBody, script_of}
 use Rattle.justfile_evaluator.specs.Ended.{failure_of, next_of}
 use Rattle.justfile_evaluator.specs.Scripts.{GivesWords, IsScriptOf, handed_of, plain_words, positional_in, script_job_in, script_name, set_interpreter, shows_script_in, texts_of, words_of}

@@ -5,8 +5,8 @@ use Rattle.std.specs.Str.{IsUtf8, NonePass, all_scalars, chars, encode_utf8_all,
 use Rattle.std.specs.Str.Pattern.{FindsBy, LacksTextAt}
 use Rattle.std.proofs.lemmas.List.{take-append-drop}
 use Rattle.std.proofs.lemmas.Str.{chars-encodes, chars_from_encodes, cons_from_encodes}
-use Rattle.meaning_calls.specs.Bodies.{front, rear, with_rest}
-use Rattle.meaning_bodies.specs.Marked.{BeginsShebang}
+use Rattle.meaning_evaluation.specs.Bodies.{front, rear, with_rest}
+use Rattle.laws_evaluation.specs.Bodies.Marked.{BeginsShebang}
 
 -- ---- the first word
 

@@ -6,7 +6,7 @@ use Rattle.just_host.specs.declared.job.CommandJob.{CommandJob}
 use Rattle.just_host.specs.declared.job.Pair.{Pair}
 use Rattle.tree_items.specs.declared.line.Sigils.{Sigils}
 use Rattle.evaluate_context.specs.Folders.{folder_below}
-use Rattle.meaning_calls.specs.Bodies.{differs, line_job, line_words, folder_of, shows_line}
+use Rattle.meaning_evaluation.specs.Bodies.{differs, line_job, line_words, folder_of, shows_line}
 use Rattle.justfile_evaluator.specs.Bodies.{NamedBody, IsSiteOf}
 use Rattle.justfile_evaluator.specs.Sites.{folder_in, job_by, shows_in, template_in, words_in}
 use Rattle.justfile_evaluator.specs.declared.site.Site.{Site}

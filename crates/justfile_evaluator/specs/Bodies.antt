@@ -7,9 +7,9 @@ use Rattle.tree_expressions.specs.declared.expression.Expression.{Expression}
 use Rattle.tree_attributes.specs.Settings.{InterpreterShape, interpreter_shape}
 use Rattle.tree_attributes.specs.declared.attribute.AttributeKind.TheVariants.{NoCd, Script as ScriptKind}
 use Rattle.tree_attributes.specs.declared.setting.Interpreter.{Interpreter}
-use Rattle.tree_attribute_sets.specs.Sets.{is_of, items_of}
-use Rattle.tree_attribute_sets.specs.declared.attribute_item.AttributeItem.{AttributeItem}
-use Rattle.tree_attribute_sets.specs.declared.attribute_set.AttributeSet.{AttributeSet}
+use Rattle.tree_attributes.specs.Sets.Sets.{is_of, items_of}
+use Rattle.tree_attributes.specs.declared.attribute_item.AttributeItem.{AttributeItem}
+use Rattle.tree_attributes.specs.declared.attribute_set.AttributeSet.{AttributeSet}
 use Rattle.tree_items.specs.Lines.{pieces_of}
 use Rattle.tree_items.specs.declared.line.Line.{Line}
 use Rattle.just_host.specs.declared.entry.Entry.{Entry}
@@ -20,14 +20,14 @@ use Rattle.meaning_dialogues.specs.Dialogue.{Dialogue, Evaluates, Reading}
 use Rattle.meaning_dialogues.specs.Evaluation.{dialogues, interpreter_dialogue}
 use Rattle.meaning_dialogues.specs.Faults.{Fault}
 use Rattle.meaning_dialogues.specs.Terms.{terms_of}
-use Rattle.meaning_stages.specs.Lines.{line_dialogue, piece_of}
-use Rattle.meaning_stages.specs.Parameters.{Bound}
-use Rattle.meaning_parameters.specs.Bindings.{words_for}
+use Rattle.meaning_evaluation.specs.Stages.Lines.{line_dialogue, piece_of}
+use Rattle.meaning_evaluation.specs.Stages.Parameters.{Bound}
+use Rattle.meaning_evaluation.specs.Parameters.Bindings.{words_for}
 use Rattle.meaning_runs.specs.Task.{Task}
-use Rattle.meaning_calls.specs.Named.{RecipeRow}
-use Rattle.meaning_calls.specs.Scopes.{Configuration, Scene, around, body_standing, formals, valued}
-use Rattle.meaning_calls.specs.Bodies.{commands, has_shebang, is_script, line_text}
-use Rattle.meaning_calls.specs.Calling.{body_task, lines_task, script_task}
+use Rattle.meaning_evaluation.specs.Named.{RecipeRow}
+use Rattle.meaning_evaluation.specs.Scopes.{Configuration, Scene, around, body_standing, formals, valued}
+use Rattle.meaning_evaluation.specs.Bodies.{commands, has_shebang, is_script, line_text}
+use Rattle.meaning_evaluation.specs.Calling.{body_task, lines_task, script_task}
 use Rattle.justfile_evaluator.specs.Sites.{extension_in, has_attribute, interpreter_in, own_folder, script_in, standing_at}
 use Rattle.justfile_evaluator.specs.declared.site.Site.{Site}
 

@@ -4,8 +4,8 @@ use Rattle.std.specs.Option.{option_map}
 use Rattle.std.specs.String.{string_bytes}
 use Rattle.just_text.specs.declared.name.Name.{Name}
 use Rattle.tree_attributes.specs.declared.attribute.AttributeKind.TheVariants.{Script as ScriptKind}
-use Rattle.tree_attribute_sets.specs.Sets.{is_of, items_of}
-use Rattle.tree_attribute_sets.specs.declared.attribute_set.AttributeSet.{AttributeSet}
+use Rattle.tree_attributes.specs.Sets.Sets.{is_of, items_of}
+use Rattle.tree_attributes.specs.declared.attribute_set.AttributeSet.{AttributeSet}
 use Rattle.just_host.specs.declared.entry.Entry.{Entry}
 use Rattle.just_host.specs.declared.job.ScriptJob.{ScriptJob}
 use Rattle.evaluate_context.specs.Refusals.{fault_of}
@@ -15,9 +15,9 @@ use Rattle.evaluate_context.specs.declared.error.Error.{Error}
 use Rattle.evaluate_expressions.specs.declared.evaluator.Evaluator.{Evaluator}
 use Rattle.meaning_dialogues.specs.Dialogue.{Dialogue, Evaluates, Reading}
 use Rattle.meaning_runs.specs.Task.{Task}
-use Rattle.meaning_calls.specs.Bodies.{has_shebang, interpreter, script_texts, shebang_words}
-use Rattle.meaning_calls.specs.Calling.{script_handed}
-use Rattle.meaning_bodies.specs.Marked.{BeginsAs}
+use Rattle.meaning_evaluation.specs.Bodies.{has_shebang, interpreter, script_texts, shebang_words}
+use Rattle.meaning_evaluation.specs.Calling.{script_handed}
+use Rattle.laws_evaluation.specs.Bodies.Marked.{BeginsAs}
 use Rattle.justfile_evaluator.specs.Bodies.{IsSiteOf, MeansInterpreter, NamedBody}
 use Rattle.justfile_evaluator.specs.Sites.{extension_in, folder_in, standing_at}
 use Rattle.justfile_evaluator.specs.declared.site.Site.{Site}

@@ -11,8 +11,8 @@ use Rattle.tree_attributes.specs.declared.attribute.AttributeKind.TheVariants.{E
 use Rattle.tree_expressions.specs.declared.expression.Expression.{Expression}
 use Rattle.tree_attributes.specs.Settings.{InterpreterShape, interpreter_shape}
 use Rattle.tree_attributes.specs.declared.setting.Interpreter.{Interpreter}
-use Rattle.tree_attribute_sets.specs.Sets.{is_of, items_of}
-use Rattle.tree_attribute_sets.specs.declared.attribute_set.AttributeSet.{AttributeSet}
+use Rattle.tree_attributes.specs.Sets.Sets.{is_of, items_of}
+use Rattle.tree_attributes.specs.declared.attribute_set.AttributeSet.{AttributeSet}
 use Rattle.tree_items.specs.Lines.{first_piece, is_shebang}
 use Rattle.tree_items.specs.declared.line.Line.{Line}
 use Rattle.just_host.specs.declared.config.Config.{Config}
@@ -22,7 +22,7 @@ use Rattle.evaluate_context.specs.Folders.{folder_below}
 use Rattle.evaluate_context.specs.Surroundings.{Standing, by_name, given, removed, standing_in, surroundings_of}
 use Rattle.evaluate_context.specs.declared.context.ExecutionContext.{ExecutionContext}
 use Rattle.evaluate_context.specs.declared.settings.Settings.{Settings}
-use Rattle.meaning_calls.specs.Bodies.{differs}
+use Rattle.meaning_evaluation.specs.Bodies.{differs}
 use Rattle.evaluate_variables.specs.Given.{passes_in}
 use Rattle.justfile_evaluator.specs.declared.site.Manner.{Manner}
 use Rattle.justfile_evaluator.specs.declared.site.Site.{Site}

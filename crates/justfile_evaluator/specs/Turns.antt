@@ -12,11 +12,11 @@ use Rattle.evaluate_context.specs.declared.error.Error.{Error}
 use Rattle.meaning_dialogues.specs.Dialogue.{Evaluates}
 use Rattle.meaning_runs.specs.Failures.{Next}
 use Rattle.meaning_runs.specs.Task.{Task}
-use Rattle.meaning_calls.specs.Bodies.{first_of, goes_on_below, last_of, line_text}
-use Rattle.meaning_calls.specs.Calling.{handing, running}
-use Rattle.meaning_bodies.specs.Left.{added, left, marks_with, text_with}
-use Rattle.meaning_bodies.specs.Marked.{BeginsMarked, EndsSlashed}
-use Rattle.meaning_bodies.specs.Performing.{LeadsOn, Performs}
+use Rattle.meaning_evaluation.specs.Bodies.{first_of, goes_on_below, last_of, line_text}
+use Rattle.meaning_evaluation.specs.Calling.{handing, running}
+use Rattle.laws_evaluation.specs.Bodies.Left.{added, left, marks_with, text_with}
+use Rattle.laws_evaluation.specs.Bodies.Marked.{BeginsMarked, EndsSlashed}
+use Rattle.laws_evaluation.specs.Bodies.Performing.{LeadsOn, Performs}
 use Rattle.justfile_evaluator.specs.Bodies.{NamedBody, lines_of}
 use Rattle.justfile_evaluator.specs.Ended.{failure_of}
 use Rattle.justfile_evaluator.specs.Sites.{template_in}

@@ -6,10 +6,10 @@ ghost use Rattle.tree_items.specs.Lines.{is_byte, pieces_of, sigils_of};
 ghost use Rattle.just_host.specs.Kinds.{AsksQuestions, AsksWork};
 ghost use Rattle.just_host.specs.Follows.{Follows};
 ghost use Rattle.just_host.specs.declared.entry.Entry.TheVariants.{Show};
-ghost use Rattle.meaning_bodies.specs.Left.{added};
-ghost use Rattle.meaning_bodies.specs.Marked.{EndsSlashed};
-ghost use Rattle.meaning_bodies.specs.Performing.{Performs};
-ghost use Rattle.meaning_calls.specs.Bodies.{first_of, goes_on_below};
+ghost use Rattle.laws_evaluation.specs.Bodies.Left.{added};
+ghost use Rattle.laws_evaluation.specs.Bodies.Marked.{EndsSlashed};
+ghost use Rattle.laws_evaluation.specs.Bodies.Performing.{Performs};
+ghost use Rattle.meaning_evaluation.specs.Bodies.{first_of, goes_on_below};
 ghost use Rattle.justfile_evaluator.specs.Bodies.{IsBodyOf, IsSiteOf, MeansLine, NamedBody, lines_of, task_of};
 ghost use Rattle.justfile_evaluator.specs.Ended.{SaysSo, ended, next_of};
 ghost use Rattle.justfile_evaluator.specs.Sites.{folder_in, job_by, shows_in, template_in, words_in};
@@ -313,7 +313,7 @@ fn read_line<'src, H: RunHost + Drop>(
 }
 
 /// Whether the line is a comment that is left out: no command is open, and comments are left out.
-#[tactic(auto, using(meaning_bodies::proofs::Read::first_read))]
+#[tactic(auto, using(laws_evaluation::proofs::Bodies::Read::first_read))]
 fn is_left_out(site: &Site, command: &Command, line: &Line) -> bool
     ensures { result ≡ spec.is_left_out site.now command.now (pieces_of line.now) }
 {

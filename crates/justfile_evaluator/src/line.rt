@@ -5,7 +5,7 @@ ghost use Rattle.evaluate_context.specs.Refusals.{seen_as};
 ghost use Rattle.evaluate_expressions.specs.Situations.{stage_at, reading_at};
 ghost use Rattle.just_host.specs.Kinds.{AsksQuestions};
 ghost use Rattle.meaning_dialogues.specs.Dialogue.{Evaluates};
-ghost use Rattle.meaning_stages.specs.Lines.{line_dialogue, piece_dialogue, piece_of, piece_text};
+ghost use Rattle.meaning_evaluation.specs.Stages.Lines.{line_dialogue, piece_dialogue, piece_of, piece_text};
 
 use evaluate_context::Error;
 use evaluate_expressions::Evaluator;

@@ -7,7 +7,7 @@ ghost use Rattle.meaning_runs.specs.Failures.{next_by};
 ghost use Rattle.justfile_evaluator.specs.Ended.{SaysSo, failure_of, next_of};
 ghost use Rattle.justfile_evaluator.specs.Sites as spec;
 ghost use Rattle.justfile_evaluator.specs.Sites.{extension_in, folder_in, manner_of, shows_in};
-ghost use Rattle.meaning_bodies.specs.Left.{failed_with};
+ghost use Rattle.laws_evaluation.specs.Bodies.Left.{failed_with};
 
 use crate::fault::RunFault;
 use evaluate_context::{ExecutionContext, Settings};
@@ -16,8 +16,7 @@ use just_host::{Config, Pair, Status};
 use just_text::{Name, Text};
 use just_value::{Scope, path};
 use std::alloc::{AllocError, Global};
-use tree_attribute_sets::AttributeSet;
-use tree_attributes::{Attribute, AttributeKind};
+use tree_attributes::{Attribute, AttributeKind, AttributeSet};
 use tree_items::{Line, Sigils};
 
 /// How a body runs, by its recipe's attributes and its module's settings.

@@ -11,7 +11,7 @@ use Rattle.parse_expressions.specs.Words.{is_kind, Lacks}
 use Rattle.parse_expressions.specs.Literals.{Expansion}
 use Rattle.parse_expressions.proofs.Starts.{shorter}
 use Rattle.parse_attributes.specs.Rows.{Follow}
-use Rattle.tree_attribute_sets.specs.Order.{in_order}
+use Rattle.tree_attributes.specs.Sets.Order.{in_order}
 use Rattle.parse_attributes.specs.Lines.{IsAttribute, IsBetween, IsLast, AreAttributes}
 use Rattle.parse_attributes.proofs.Rest.{closes_takes, between_takes, attribute_takes, line_end_takes}
 use Rattle.parse_expressions.proofs.TokensTaken.{front_shorter, mark_shorter, lacks}

@@ -5,7 +5,7 @@ use Rattle.tree_items.specs.declared.ast.UnstableFeature.{UnstableFeature}
 use Rattle.tree_items.specs.declared.ast.UnstableFeature.TheVariants.{CachedRecipes, DefinedFunctions, Lists}
 use Rattle.tree_attributes.specs.declared.attribute.AttributeKind.TheVariants.{Cache}
 use Rattle.tree_items.specs.Files.{ItemShape, function_item, recipe_item, set_item}
-use Rattle.tree_attribute_sets.specs.Sets.{has_kind}
+use Rattle.tree_attributes.specs.Sets.Sets.{has_kind}
 
 -- a recipe with `[cache]`
 abbrev pub is_cached : ItemShape → Bool

@@ -19,13 +19,10 @@ pub use just_text::{
 };
 pub use parser::Parser;
 pub use printer::print;
-pub use tree_attribute_sets::{
-    AttributeItem, AttributeSet, Indentation, InvalidIndentation, ItemKind, PrintedArguments,
-    is_private, may_carry,
-};
 pub use tree_attributes::{
-    ArgumentOptions, Attribute, AttributeArguments, AttributeKind, Interpreter, LongName, Setting,
-    kind_from_name,
+    ArgumentOptions, Attribute, AttributeArguments, AttributeItem, AttributeKind, AttributeSet,
+    Indentation, Interpreter, InvalidIndentation, ItemKind, LongName, PrintedArguments, Setting,
+    is_private, kind_from_name, may_carry,
 };
 pub use tree_expressions::{
     ConditionalOperator, Expression, ListOperator, StringDelimiter, StringKind, StringLiteral,

@@ -7,3 +7,4 @@ pub mod Calls
 pub mod Answers
 pub mod Constants
 pub mod Meaning
+pub mod Internal

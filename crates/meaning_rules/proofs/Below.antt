@@ -1,7 +1,7 @@
 -- Modules below a path.
 use Rattle.std.proofs.Common.{sym, subst, [], ◌∷◌, ◌++◌, append_assoc}
 use Rattle.std.proofs.lemmas.List.{append-nil}
-use Rattle.meaning_worlds.specs.Modules.{IsModule, inside}
+use Rattle.meaning_rules.specs.Worlds.Modules.{IsModule, inside}
 use Rattle.meaning_rules.specs.Depending.{here, into}
 use Rattle.meaning_rules.specs.Laws.{DependenciesStandBelow, ModulesStandBelow}
 

@@ -3,3 +3,4 @@ pub mod Reached
 pub mod Unreached
 pub mod Meaning
 pub mod Below
+pub mod Worlds

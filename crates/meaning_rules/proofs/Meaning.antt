@@ -16,17 +16,17 @@ use Rattle.meaning_dialogues.specs.Written.{term_in, terms_in, holes_in, unnumbe
 use Rattle.meaning_dialogues.specs.Constants.{settled, settled_read, constant}
 use Rattle.meaning_dialogues.specs.Evaluation.{Value, row, sides, comparing, holding, failing, dialogue, dialogues, filled, is_truthy}
 use Rattle.meaning_dialogues.specs.Calls.{const_stage}
-use Rattle.meaning_worlds.specs.Given.{Text, World, Overrides}
+use Rattle.meaning_rules.specs.Worlds.Given.{Text, World, Overrides}
 use Rattle.meaning_rules.specs.Naming.{Occurrence, a_variable, occurrences, occurrences_in, occurrences_between}
 use Rattle.std.proofs.lemmas.Option.{same_Some}
 use Rattle.tree_items.specs.Files.{ItemShape, assignment_item}
-use Rattle.meaning_worlds.specs.Keeping.{IsDefined, Keeps}
-use Rattle.meaning_worlds.specs.Keeping as keeping
+use Rattle.meaning_rules.specs.Worlds.Keeping.{IsDefined, Keeps}
+use Rattle.meaning_rules.specs.Worlds.Keeping as keeping
 use Rattle.meaning_rules.specs.Laws.{MeansAtMostOne}
-use Rattle.meaning_worlds.proofs.Kept.{keeps_at_most_one}
+use Rattle.meaning_rules.proofs.Worlds.Kept.{keeps_at_most_one}
 use Rattle.meaning_rules.proofs.Kept.{overrides_are_unique}
 use Rattle.meaning_rules.specs.Constants.{Means, by_override, by_side, by_constant, as_read, reading_of, meant, said_by}
-use Rattle.meaning_worlds.proofs.Places.{contains_first}
+use Rattle.meaning_rules.proofs.Worlds.Places.{contains_first}
 
 module _ (f g : Text → Meaning Value) where
   -- they say the same of the variables among these

@@ -2,10 +2,10 @@
 use Rattle.std.proofs.Common.{◌≡◌, ◌⊎◌, inl, inr, sym, ◌∙◌, ap, subst, List, ◌∷◌, ℕ, zero, suc, ◌-◌, ◌<◌, Some, refl, arith, length, []}
 use Rattle.std.specs.Prelude.{slice_get}
 use Rattle.std.proofs.lemmas.Option.{none-some, same_Some, slice_get_within}
-use Rattle.meaning_worlds.specs.Given.{Text, World}
-use Rattle.meaning_worlds.specs.Sources.{Reached}
-use Rattle.meaning_worlds.specs.Modules.{IsModule}
-use Rattle.meaning_worlds.proofs.Reached.{own_reached}
+use Rattle.meaning_rules.specs.Worlds.Given.{Text, World}
+use Rattle.meaning_rules.specs.Worlds.Sources.{Reached}
+use Rattle.meaning_rules.specs.Worlds.Modules.{IsModule}
+use Rattle.meaning_rules.proofs.Worlds.Reached.{own_reached}
 use Rattle.meaning_rules.specs.Depending.{DependsOn, RecipeWalk}
 use Rattle.meaning_rules.specs.Laws.{CyclesAreReached, UnsaidBreaksNone}
 

@@ -4,11 +4,11 @@ use Rattle.std.specs.Prelude.{slice_get}
 use Rattle.std.proofs.lemmas.Slice.Eq.{bytes_eq-Decides}
 use Rattle.std.proofs.lemmas.Option.{none-some, same_Some}
 use Rattle.tree_items.specs.Files.{ItemShape, import_item, module_item, recipe_item}
-use Rattle.meaning_worlds.specs.Given.{Text}
-use Rattle.meaning_worlds.specs.Sources.{Has, Imports, IsSubmodule, Leads, itself, further}
-use Rattle.meaning_worlds.specs.Modules.{IsModule}
-use Rattle.meaning_worlds.specs.Modules as modules
-use Rattle.meaning_worlds.specs.Keeping.{a_recipe, defined_by, Keeps}
+use Rattle.meaning_rules.specs.Worlds.Given.{Text}
+use Rattle.meaning_rules.specs.Worlds.Sources.{Has, Imports, IsSubmodule, Leads, itself, further}
+use Rattle.meaning_rules.specs.Worlds.Modules.{IsModule}
+use Rattle.meaning_rules.specs.Worlds.Modules as modules
+use Rattle.meaning_rules.specs.Worlds.Keeping.{a_recipe, defined_by, Keeps}
 use Rattle.meaning_rules.specs.Depending.{RecipeWalk}
 use Rattle.meaning_rules.specs.Examples.{recipe_of, root_items, root_key, unreached, UnreachedIsUnbroken}
 

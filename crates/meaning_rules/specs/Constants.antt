@@ -17,9 +17,9 @@ use Rattle.meaning_dialogues.specs.Calls.{const_stage}
 use Rattle.meaning_dialogues.specs.Constants.{settled, constant}
 use Rattle.meaning_dialogues.specs.Meaning.{Meaning}
 use Rattle.meaning_dialogues.specs.Written.{term_in, unnumbered}
-use Rattle.meaning_worlds.specs.Given.{Text, World, Overrides}
+use Rattle.meaning_rules.specs.Worlds.Given.{Text, World, Overrides}
 use Rattle.meaning_rules.specs.Fixed.{value_of}
-use Rattle.meaning_worlds.specs.Keeping.{a_setting, a_variable, Defines, IsDefined, IsOn, Keeps}
+use Rattle.meaning_rules.specs.Worlds.Keeping.{a_setting, a_variable, Defines, IsDefined, IsOn, Keeps}
 use Rattle.meaning_rules.specs.Naming.{Part, occurrences}
 use Rattle.meaning_rules.specs.Naming as naming
 use Rattle.meaning_rules.specs.Overriding.{IsOverriddenBy}

@@ -6,11 +6,11 @@ use Rattle.tree_items.specs.Files.{recipe_item}
 use Rattle.tree_items.specs.declared.recipe.ParameterKind.{ParameterKind}
 use Rattle.tree_items.specs.declared.recipe.ParameterKind.TheVariants.{Star}
 use Rattle.tree_items.specs.Recipes.{RecipeShape, ParameterShape, DependencyShape, is_variadic}
-use Rattle.meaning_worlds.specs.Given.{Text, World}
+use Rattle.meaning_rules.specs.Worlds.Given.{Text, World}
 use Rattle.meaning_rules.specs.Fixed.{is_flag}
-use Rattle.meaning_worlds.specs.Sources.{IsFileOf, IsSubmodule}
-use Rattle.meaning_worlds.specs.Modules.{IsModule}
-use Rattle.meaning_worlds.specs.Keeping.{a_recipe, IsDefined, Keeps, IsDisabled}
+use Rattle.meaning_rules.specs.Worlds.Sources.{IsFileOf, IsSubmodule}
+use Rattle.meaning_rules.specs.Worlds.Modules.{IsModule}
+use Rattle.meaning_rules.specs.Worlds.Keeping.{a_recipe, IsDefined, Keeps, IsDisabled}
 
 module _ (w : World) where
   -- from a module, names of submodules lead to another

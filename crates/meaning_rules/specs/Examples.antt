@@ -3,7 +3,7 @@ use Rattle.std.specs.Prelude.{◌||◌, false, if◌then◌else◌, List, ◌∷
 use Rattle.just_text.specs.declared.os.Os.TheVariants.{Linux}
 use Rattle.tree_items.specs.Files.{ItemShape, recipe_item}
 use Rattle.tree_items.specs.Recipes.{DependencyShape}
-use Rattle.meaning_worlds.specs.Given.{Text, World, Overrides}
+use Rattle.meaning_rules.specs.Worlds.Given.{Text, World, Overrides}
 use Rattle.meaning_rules.specs.Rules.{Broken, circular_recipe}
 
 abbrev pub recipe_of : Text → List DependencyShape → ItemShape

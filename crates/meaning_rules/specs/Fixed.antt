@@ -10,7 +10,7 @@ use Rattle.evaluate_functions.specs.Names.{function_of}
 use Rattle.evaluate_functions.specs.Arguments.{expected}
 use Rattle.evaluate_functions.specs.declared.count.ArgumentCount.{ArgumentCount}
 use Rattle.just_value.specs.Constants.{constant_rows}
-use Rattle.meaning_worlds.specs.Given.{Text}
+use Rattle.meaning_rules.specs.Worlds.Given.{Text}
 
 abbrev pub is_in : ArgumentCount → ℕ → Bool
 is_in range count = nat_le range.least count && nat_le count range.most

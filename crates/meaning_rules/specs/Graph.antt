@@ -1,7 +1,7 @@
 -- The rows of a module's graph of reads: first its variables, and after them its functions.
 use Rattle.std.specs.Prelude.{◌≡◌, ℕ, ◌+◌, List, ◌∷◌, Some, length, slice_get, Contains, []}
 use Rattle.tree_items.specs.Files.{ItemShape}
-use Rattle.meaning_worlds.specs.Given.{Text, World}
+use Rattle.meaning_rules.specs.Worlds.Given.{Text, World}
 use Rattle.meaning_rules.specs.Fixed.{value_of}
 use Rattle.meaning_rules.specs.Naming.{Occurrence, Part, occurrences, parts_of}
 use Rattle.meaning_rules.specs.Naming as naming

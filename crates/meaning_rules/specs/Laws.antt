@@ -6,9 +6,9 @@ use Rattle.meaning_dialogues.specs.Evaluation.{Value}
 use Rattle.meaning_dialogues.specs.Meaning.{Meaning}
 use Rattle.meaning_rules.specs.Constants.{Means, meant, said_by}
 use Rattle.std.specs.Prelude.{◌++◌, Bool, Contains, ◌≡◌, ℕ, false, List, Some, None, slice_get}
-use Rattle.meaning_worlds.specs.Given.{Text, World, Overrides}
-use Rattle.meaning_worlds.specs.Sources.{Reached}
-use Rattle.meaning_worlds.specs.Modules.{IsModule}
+use Rattle.meaning_rules.specs.Worlds.Given.{Text, World, Overrides}
+use Rattle.meaning_rules.specs.Worlds.Sources.{Reached}
+use Rattle.meaning_rules.specs.Worlds.Modules.{IsModule}
 use Rattle.meaning_rules.specs.Depending.{DependsOn, IsRecipeCycle, LeadsTo}
 use Rattle.meaning_rules.specs.Overriding.{IsOverriddenBy}
 use Rattle.meaning_rules.specs.Rules.{Rule, Broken, is_of_files}

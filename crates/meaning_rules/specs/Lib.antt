@@ -9,3 +9,5 @@ pub mod Rules
 pub mod Told
 pub mod Laws
 pub mod Examples
+pub mod Worlds
+pub mod Overrides

@@ -8,7 +8,7 @@ use Rattle.tree_items.specs.Files.{ItemShape, assignment_item, function_item, re
 use Rattle.tree_items.specs.Lines.{Piece, text}
 use Rattle.tree_items.specs.Lines as lines
 use Rattle.tree_items.specs.Recipes.{ParameterShape, DependencyShape, RecipeShape}
-use Rattle.meaning_worlds.specs.Given.{Text}
+use Rattle.meaning_rules.specs.Worlds.Given.{Text}
 
 -- an occurrence in an expression: a variable, or a call with so many arguments
 pub data Occurrence : Type 0 where

@@ -1,9 +1,9 @@
 -- Which variables overrides name, and which of them counts.
 use Rattle.std.specs.Prelude.{◌≡◌, ℕ, ◌≤◌, List, [], ◌∷◌, ◌++◌, Some, slice_get}
 use Rattle.modules_compilation.specs.Modulepaths.{pieces}
-use Rattle.meaning_worlds.specs.Given.{Text, World, Overrides}
-use Rattle.meaning_worlds.specs.Keeping.{a_variable, IsDefined}
-use Rattle.meaning_worlds.specs.Modules.{IsModule}
+use Rattle.meaning_rules.specs.Worlds.Given.{Text, World, Overrides}
+use Rattle.meaning_rules.specs.Worlds.Keeping.{a_variable, IsDefined}
+use Rattle.meaning_rules.specs.Worlds.Modules.{IsModule}
 
 module _ (w : World) where
   -- An override names a variable of the module at a path, by its name after the module's. (Two modules of one file have variables of their own.)

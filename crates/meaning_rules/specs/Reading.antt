@@ -2,9 +2,9 @@
 use Rattle.std.specs.Prelude.{◌≡◌, ◌<◌, ◌-◌, ℕ, List, ◌∷◌, length, slice_get, Contains, []}
 use Rattle.tree_items.specs.Files.{ItemShape, function_item}
 use Rattle.tree_items.specs.Items.{FunctionShape}
-use Rattle.meaning_worlds.specs.Given.{Text, World}
+use Rattle.meaning_rules.specs.Worlds.Given.{Text, World}
 use Rattle.meaning_rules.specs.Fixed.{value_of}
-use Rattle.meaning_worlds.specs.Keeping.{a_function, a_variable, Keeps}
+use Rattle.meaning_rules.specs.Worlds.Keeping.{a_function, a_variable, Keeps}
 use Rattle.meaning_rules.specs.Naming.{Part, Occurrence, occurrences, parts_of}
 use Rattle.meaning_rules.specs.Naming as naming
 

@@ -9,7 +9,7 @@ use Rattle.tree_expressions.specs.Shape.{Shape, Shapes, Interpolations, literal,
 use Rattle.tree_attributes.specs.declared.attribute.AttributeKind.{AttributeKind}
 use Rattle.tree_attributes.specs.declared.attribute.AttributeKind.TheVariants.{Cache, ExitMessage, NoCd, NoExitMessage, Script, WorkingDirectory}
 use Rattle.tree_attributes.specs.Attributes.{AttributeShape}
-use Rattle.tree_attribute_sets.specs.Sets.{has_kind}
+use Rattle.tree_attributes.specs.Sets.Sets.{has_kind}
 use Rattle.tree_items.specs.declared.ast.UnstableFeature.{UnstableFeature}
 use Rattle.tree_items.specs.declared.ast.UnstableFeature.TheVariants.{CachedRecipes, DefinedFunctions, Lists}
 use Rattle.tree_items.specs.declared.ast.ListFeature.{ListFeature}
@@ -21,11 +21,11 @@ use Rattle.tree_items.specs.Lines.{Piece, begins_with_space, is_continuation, is
 use Rattle.tree_items.specs.Recipes.{RecipeShape, DependencyShape}
 use Rattle.modules_compilation.specs.Paths.{is_clean, key_from}
 use Rattle.modules_compilation.specs.Tables.{text_cmp}
-use Rattle.meaning_worlds.specs.Given.{Text, World, Overrides}
+use Rattle.meaning_rules.specs.Worlds.Given.{Text, World, Overrides}
 use Rattle.meaning_rules.specs.Fixed.{constants, counts_of, value_of}
-use Rattle.meaning_worlds.specs.Sources.{AreSaid, Has, HasModule, enabled, Imports, ImportsAt, IsFileOf, IsMissing, IsSubmodule, Leads, MayMean, Reached, is_enabled}
-use Rattle.meaning_worlds.specs.Modules.{IsModule, IsReadingOrder}
-use Rattle.meaning_worlds.specs.Keeping.{Kind, an_alias, a_function, a_recipe, a_setting, a_submodule, a_variable, an_unexport, IsDefined, IsOn, IsTwice, Keeps}
+use Rattle.meaning_rules.specs.Worlds.Sources.{AreSaid, Has, HasModule, enabled, Imports, ImportsAt, IsFileOf, IsMissing, IsSubmodule, Leads, MayMean, Reached, is_enabled}
+use Rattle.meaning_rules.specs.Worlds.Modules.{IsModule, IsReadingOrder}
+use Rattle.meaning_rules.specs.Worlds.Keeping.{Kind, an_alias, a_function, a_recipe, a_setting, a_submodule, a_variable, an_unexport, IsDefined, IsOn, IsTwice, Keeps}
 use Rattle.meaning_rules.specs.Naming.{Part, parts_of}
 use Rattle.meaning_rules.specs.Naming as naming
 use Rattle.meaning_rules.specs.Reading as reading

@@ -1,4 +1,6 @@
 //! Laws of the rules.
+pub mod worlds;
+
 ghost use Rattle.meaning_rules.specs.Examples.{UnreachedIsUnbroken};
 ghost use Rattle.meaning_rules.specs.Graph.{AreReads};
 ghost use Rattle.meaning_rules.specs.Laws.{CyclesAreReached, DependenciesStandBelow, MeaningsRestOnNames, MeansAtMostOne, ModulesStandBelow, OverridesAreUnique, UnsaidBreaksNone};

@@ -1,4 +1,4 @@
-//! The rules of files, names and constants, each with what breaks it. Definitions, and laws on them.
+//! Files and modules, and the rules that files, names and constants may break. Definitions, and laws on them.
 #![tactic(auto)]
 
 pub mod law;

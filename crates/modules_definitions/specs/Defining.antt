@@ -4,13 +4,13 @@ use Rattle.std.specs.Option.{option_and_then}
 use Rattle.just_text.specs.Tokens.{lexeme}
 use Rattle.just_text.specs.declared.name.Name.{Name}
 use Rattle.just_text.specs.declared.os.Os.{Os}
-use Rattle.tree_attribute_sets.specs.declared.attribute_set.AttributeSet.{AttributeSet}
+use Rattle.tree_attributes.specs.declared.attribute_set.AttributeSet.{AttributeSet}
 use Rattle.tree_items.specs.declared.ast.Item.{Item}
 use Rattle.tree_items.specs.declared.ast.Item.TheVariants.{Alias, Assignment, Comment, Function, Import, Module, Newline, Recipe, Set, Unexport}
 use Rattle.modules_compilation.specs.declared.module_node.File.{File}
 use Rattle.modules_compilation.specs.declared.module_node.ModuleNode.{ModuleNode}
 use Rattle.modules_compilation.specs.declared.place.Place.{Place}
-use Rattle.tree_attribute_sets.specs.Sets.{is_enabled, items_of}
+use Rattle.tree_attributes.specs.Sets.Sets.{is_enabled, items_of}
 use Rattle.modules_compilation.specs.Places.{items_in}
 use Rattle.modules_compilation.specs.Fronts.{AreBytes, front_of}
 use Rattle.modules_definitions.specs.declared.definition.Definition.{Definition}

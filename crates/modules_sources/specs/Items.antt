@@ -3,7 +3,7 @@ use Rattle.std.specs.Prelude.{ℕ, Bool, if◌then◌else◌, List, [], Option, 
 use Rattle.std.specs.Option.{option_map}
 use Rattle.just_text.specs.declared.name.Name.{Name}
 use Rattle.just_text.specs.declared.os.Os.{Os}
-use Rattle.tree_attribute_sets.specs.Sets.{is_enabled, items_of}
+use Rattle.tree_attributes.specs.Sets.Sets.{is_enabled, items_of}
 use Rattle.tree_items.specs.declared.ast.Item.{Item}
 use Rattle.tree_items.specs.declared.ast.Item.TheVariants.{Import as import_item, Module as module_item}
 use Rattle.tree_items.specs.declared.item.Import.{Import}

@@ -2,9 +2,9 @@
 use Rattle.std.proofs.Common.{◌≡◌, ℕ, true, List, map, Result, Ok, Err, Option, Some, None, refl, sym, ap, subst, ◌∙◌, inl, inr}
 use Rattle.just_text.specs.Tokens.{Word}
 use Rattle.just_text.specs.declared.compile_error.CompileErrorKind.{CompileErrorKind}
-use Rattle.tree_attribute_sets.specs.declared.item_kind.ItemKind.{ItemKind}
+use Rattle.tree_attributes.specs.declared.item_kind.ItemKind.{ItemKind}
 use Rattle.tree_attributes.specs.Attributes.{AttributeShape}
-use Rattle.tree_attribute_sets.specs.Order.{in_order}
+use Rattle.tree_attributes.specs.Sets.Order.{in_order}
 use Rattle.tree_items.specs.Files.{ItemShape}
 use Rattle.parse_expressions.specs.Literals.{Expansion}
 use Rattle.parse_expressions.specs.Reading.{Stop}

@@ -2,7 +2,7 @@
 use Rattle.std.proofs.Common.{◌≡◌, true, List, [], ◌∷◌, map, Option, Some, None, refl, ap, inl, inr}
 use Rattle.std.specs.List.{list_all}
 use Rattle.std.specs.Option.{option_map}
-use Rattle.tree_attribute_sets.specs.declared.item_kind.ItemKind.{ItemKind}
+use Rattle.tree_attributes.specs.declared.item_kind.ItemKind.{ItemKind}
 use Rattle.tree_attributes.specs.Attributes.{AttributeShape}
 use Rattle.tree_items.specs.Files.{ItemShape, kind_of as item_kind_of}
 use Rattle.tree_items.specs.FileIndentation.{or_next}

@@ -7,7 +7,7 @@ use Rattle.just_text.specs.Tokens.{word_of}
 use Rattle.just_text.specs.declared.compile_error.CompileErrorKind.{CompileErrorKind}
 use Rattle.just_text.specs.declared.compile_error.CompileErrorKind.TheVariants as kinds
 use Rattle.just_text.specs.declared.token.Token.{Token}
-use Rattle.tree_attribute_sets.specs.declared.item_kind.ItemKind.{ItemKind}
+use Rattle.tree_attributes.specs.declared.item_kind.ItemKind.{ItemKind}
 use Rattle.tree_attributes.specs.Attributes.{AttributeShape}
 use Rattle.tree_items.specs.Files.{ItemShape, item_shape, kind_of}
 use Rattle.tree_items.specs.FileIndentation.{or_next}

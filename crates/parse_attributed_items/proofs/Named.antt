@@ -6,12 +6,12 @@ use Rattle.std.specs.List.{list_all, list_any}
 use Rattle.std.specs.Option.{option_map}
 use Rattle.std.proofs.lemmas.Slice.Eq.{bytes_eq-Decides}
 use Rattle.just_text.specs.declared.compile_error.CompileErrorKind.TheVariants as kinds
-use Rattle.tree_attribute_sets.specs.declared.item_kind.ItemKind.{ItemKind}
+use Rattle.tree_attributes.specs.declared.item_kind.ItemKind.{ItemKind}
 use Rattle.parse_attributed_items.specs.Rules.{arg_keyword}
 use Rattle.tree_attributes.specs.Attributes.{AttributeShape, kind_name, kind_of}
 use Rattle.tree_attributes.specs.declared.attribute.AttributeKind.{AttributeKind}
 use Rattle.tree_attributes.specs.contracts.attribute.AttributeKind.{the_type}
-use Rattle.tree_attribute_sets.proofs.SameKind.{same_names}
+use Rattle.tree_attributes.proofs.Sets.SameKind.{same_names}
 use denote.Enum.Bare.{sameb}
 use Rattle.parse_attributes.specs.declared.attribute.AttributeRead.{AttributeRead}
 use Rattle.parse_attributes.specs.Seen.{read_shape, read_shapes}

@@ -4,7 +4,7 @@ use Rattle.std.specs.List.{All}
 use Rattle.std.proofs.lemmas.List.Elements.{All-weaker}
 use Rattle.just_text.specs.declared.compile_error.CompileErrorKind.{CompileErrorKind}
 use Rattle.tree_attributes.specs.Attributes.{AttributeShape}
-use Rattle.tree_attribute_sets.specs.Order.{in_order, sorted}
+use Rattle.tree_attributes.specs.Sets.Order.{in_order, sorted}
 use Rattle.tree_items.specs.declared.ast.Item.{Item}
 use Rattle.tree_items.specs.declared.ast.Item.TheVariants as items
 use Rattle.tree_items.specs.declared.recipe.Parameter.{Parameter}

@@ -2,9 +2,9 @@
 use Rattle.std.proofs.Common.{◌≡◌, ℕ, zero, suc, Bool, List, [], ◌∷◌, map, Option, Some, None, refl, arith, inl, inr}
 use Rattle.std.specs.List.{All, cons_option}
 use Rattle.std.specs.Option.{option_map}
-use Rattle.tree_attribute_sets.specs.declared.attribute_item.AttributeItem.{AttributeItem}
-use Rattle.tree_attribute_sets.specs.Order.{in_order, is_before, item_shape, items_in_order, put, sorted}
-use Rattle.tree_attribute_sets.proofs.Sorted.{map_sorted}
+use Rattle.tree_attributes.specs.declared.attribute_item.AttributeItem.{AttributeItem}
+use Rattle.tree_attributes.specs.Sets.Order.{in_order, is_before, item_shape, items_in_order, put, sorted}
+use Rattle.tree_attributes.proofs.Sets.Sorted.{map_sorted}
 use Rattle.parse_attributes.proofs.Adding.{all_first, all_others}
 use Rattle.parse_attributes.proofs.Follow.{all_none, all_one}
 use Rattle.parse_expressions.proofs.Taken.{test}

@@ -4,8 +4,8 @@ use Rattle.just_text.specs.Numbers.{Numbers}
 use Rattle.just_text.specs.Tokens.{Word}
 use Rattle.tree_items.specs.declared.ast.Item.{Item}
 use Rattle.tree_items.specs.declared.ast.Item.TheVariants as items
-use Rattle.tree_attribute_sets.specs.declared.item_kind.ItemKind.{ItemKind}
-use Rattle.tree_attribute_sets.specs.declared.item_kind.ItemKind.TheVariants.{Alias, Assignment, Comment, Function, Import, Module, Newline, Recipe, Set, Unexport}
+use Rattle.tree_attributes.specs.declared.item_kind.ItemKind.{ItemKind}
+use Rattle.tree_attributes.specs.declared.item_kind.ItemKind.TheVariants.{Alias, Assignment, Comment, Function, Import, Module, Newline, Recipe, Set, Unexport}
 use Rattle.tree_items.specs.Files.{ItemShape, alias_item, assignment_item, function_item, import_item, module_item, recipe_item, set_item, unexport_item, item_shape}
 use Rattle.parse_expressions.specs.Literals.{Expansion, Origin}
 use Rattle.parse_expressions.specs.Reading.{◌>>=◌, Read}

@@ -3,7 +3,7 @@ use Rattle.std.proofs.Common.{◌≡◌, ℕ, Bool, true, false, List, [], ◌�
 use Rattle.std.specs.Prelude.{find, filter_map, not, ◌&&◌, bytes_eq}
 use Rattle.std.specs.List.{All, cons_option, list_any}
 use Rattle.tree_attributes.specs.Attributes.{AttributeShape, OptionsShape}
-use Rattle.tree_attribute_sets.specs.Order.{in_order, is_before, put, sorted}
+use Rattle.tree_attributes.specs.Sets.Order.{in_order, is_before, put, sorted}
 use Rattle.parse_attributes.specs.Seen.{options_in}
 use Rattle.parse_expressions.specs.Literals.{Expansion}
 use Rattle.parse_expressions.proofs.Taken.{test, text_same}

@@ -9,8 +9,8 @@ use Rattle.just_text.specs.declared.name.Name.{Name}
 use Rattle.just_text.specs.Tokens.{lexeme}
 use Rattle.tree_attributes.specs.declared.attribute.Attribute.{Attribute}
 use Rattle.tree_attributes.specs.Attributes.{AttributeShape, attribute_shape, options_shape}
-use Rattle.tree_attribute_sets.specs.declared.attribute_item.AttributeItem.{AttributeItem}
-use Rattle.tree_attribute_sets.specs.Order.{item_shape, name_text}
+use Rattle.tree_attributes.specs.declared.attribute_item.AttributeItem.{AttributeItem}
+use Rattle.tree_attributes.specs.Sets.Order.{item_shape, name_text}
 use Rattle.parse_expressions.specs.Literals.{Origin}
 use Rattle.parse_attributes.specs.declared.attribute.AttributeRead.{AttributeRead}
 use Rattle.parse_attributes.specs.Cooked.{AreCookedOptions, IsCookedAttribute}

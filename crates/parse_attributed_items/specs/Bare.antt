@@ -1,8 +1,8 @@
 -- Items of all kinds without their attributes: their grammar, and how they are read.
 use Rattle.std.specs.Prelude.{ℕ, ◌≡◌, List, [], Ok}
 use Rattle.just_text.specs.Tokens.{Word}
-use Rattle.tree_attribute_sets.specs.declared.item_kind.ItemKind.{ItemKind}
-use Rattle.tree_attribute_sets.specs.declared.item_kind.ItemKind.TheVariants.{Recipe, Set}
+use Rattle.tree_attributes.specs.declared.item_kind.ItemKind.{ItemKind}
+use Rattle.tree_attributes.specs.declared.item_kind.ItemKind.TheVariants.{Recipe, Set}
 use Rattle.tree_items.specs.Files.{ItemShape, recipe_item, set_item}
 use Rattle.parse_expressions.specs.Literals.{Expansion}
 use Rattle.parse_expressions.specs.Reading.{◌>>=◌, Read}

@@ -4,12 +4,12 @@ use Rattle.std.specs.List.{list_all, list_any}
 use Rattle.std.specs.Option.{option_map}
 use Rattle.just_text.specs.declared.compile_error.CompileErrorKind.{CompileErrorKind}
 use Rattle.just_text.specs.declared.compile_error.CompileErrorKind.TheVariants as kinds
-use Rattle.tree_attribute_sets.specs.declared.item_kind.ItemKind.{ItemKind}
-use Rattle.tree_attribute_sets.specs.declared.item_kind.ItemKind.TheVariants as items
+use Rattle.tree_attributes.specs.declared.item_kind.ItemKind.{ItemKind}
+use Rattle.tree_attributes.specs.declared.item_kind.ItemKind.TheVariants as items
 use Rattle.tree_attributes.specs.Attributes.{AttributeShape, OptionsShape, kind_of, kind_name, is_repeatable}
 use Rattle.tree_items.specs.Files.{ItemShape, alias_item, assignment_item, module_item, recipe_item, set_item, kind_of as item_kind_of}
 use Rattle.tree_items.specs.FileIndentation.{or_next}
-use Rattle.tree_attribute_sets.specs.Sets.{may_carry}
+use Rattle.tree_attributes.specs.Sets.Sets.{may_carry}
 use Rattle.parse_attributes.specs.Seen.{options_in}
 use Rattle.parse_expressions.specs.Literals.{Expansion}
 use Rattle.parse_attributed_items.specs.Rules.{arg_keyword, fault_of}

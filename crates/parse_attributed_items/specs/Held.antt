@@ -5,14 +5,14 @@ use Rattle.just_text.specs.Numbers.{Numbers}
 use Rattle.just_text.specs.Tokens.{lexeme}
 use Rattle.tree_items.specs.declared.ast.Item.{Item}
 use Rattle.tree_items.specs.declared.ast.Item.TheVariants.{Alias, Assignment, Module, Recipe, Set}
-use Rattle.tree_attribute_sets.specs.declared.attribute_item.AttributeItem.{AttributeItem}
+use Rattle.tree_attributes.specs.declared.attribute_item.AttributeItem.{AttributeItem}
 use Rattle.tree_expressions.specs.declared.expression.Expression.{Expression}
 use Rattle.tree_items.specs.declared.item.Binding.{Binding}
 use Rattle.tree_items.specs.declared.recipe.Parameter.{Parameter}
 use Rattle.tree_items.specs.declared.recipe.Recipe.{Recipe as RecipeTree}
 use Rattle.tree_items.specs.declared.recipe.UnresolvedDependency.{UnresolvedDependency}
-use Rattle.tree_attribute_sets.specs.Order.{item_shape, name_text}
-use Rattle.tree_attribute_sets.specs.Sets.{items_of, shapes_in, is_private as are_private}
+use Rattle.tree_attributes.specs.Sets.Order.{item_shape, name_text}
+use Rattle.tree_attributes.specs.Sets.Sets.{items_of, shapes_in, is_private as are_private}
 use Rattle.parse_attributes.specs.Cooked.{IsCookedAttribute}
 use Rattle.parse_expressions.specs.Literals.{Expansion, Origin}
 use Rattle.parse_recipes.specs.Cooked.{IsRecipeCooked}

@@ -2,7 +2,7 @@
 use Rattle.std.specs.Prelude.{ℕ, ◌≡◌, List}
 use Rattle.just_text.specs.Tokens.{Word}
 use Rattle.tree_attributes.specs.Attributes.{AttributeShape}
-use Rattle.tree_attribute_sets.specs.Order.{in_order}
+use Rattle.tree_attributes.specs.Sets.Order.{in_order}
 use Rattle.tree_items.specs.Files.{ItemShape}
 use Rattle.parse_expressions.specs.Literals.{Expansion}
 use Rattle.parse_attributes.specs.Lines.{AreAttributes}

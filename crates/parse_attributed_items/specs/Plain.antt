@@ -1,7 +1,7 @@
 -- What items are before their attributes are read.
 use Rattle.std.specs.Prelude.{◌≡◌, true, []}
 use Rattle.just_text.specs.Tokens.{lexeme}
-use Rattle.tree_attribute_sets.specs.Sets.{items_of}
+use Rattle.tree_attributes.specs.Sets.Sets.{items_of}
 use Rattle.tree_items.specs.declared.ast.Item.{Item}
 use Rattle.tree_items.specs.declared.ast.Item.TheVariants.{Recipe, Set}
 use Rattle.tree_items.specs.declared.recipe.Recipe.{Recipe as RecipeTree}

@@ -2,8 +2,8 @@
 use Rattle.std.specs.Prelude.{ℕ, List, Option, Result, Ok, Err, if◌then◌else◌}
 use Rattle.just_text.specs.Tokens.{Word}
 use Rattle.tree_attributes.specs.Attributes.{AttributeShape}
-use Rattle.tree_attribute_sets.specs.declared.item_kind.ItemKind.{ItemKind}
-use Rattle.tree_attribute_sets.specs.Order.{in_order}
+use Rattle.tree_attributes.specs.declared.item_kind.ItemKind.{ItemKind}
+use Rattle.tree_attributes.specs.Sets.Order.{in_order}
 use Rattle.tree_items.specs.Files.{ItemShape}
 use Rattle.parse_expressions.specs.Literals.{Expansion}
 use Rattle.parse_expressions.specs.Reading.{◌>>=◌, Read, unexpected, first}

@@ -4,7 +4,7 @@ use Rattle.std.specs.List.{list_all, list_any}
 use Rattle.std.specs.Option.{option_map}
 use Rattle.just_text.specs.declared.compile_error.CompileErrorKind.{CompileErrorKind}
 use Rattle.just_text.specs.declared.compile_error.CompileErrorKind.TheVariants as kinds
-use Rattle.tree_attribute_sets.specs.declared.item_kind.ItemKind.{ItemKind}
+use Rattle.tree_attributes.specs.declared.item_kind.ItemKind.{ItemKind}
 use Rattle.tree_attributes.specs.Attributes.{AttributeShape, kind_of, kind_name, is_repeatable}
 use Rattle.tree_items.specs.FileIndentation.{or_next}
 use Rattle.parse_attributed_items.specs.Rules.{arg_keyword}

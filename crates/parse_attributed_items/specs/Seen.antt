@@ -5,9 +5,9 @@ use Rattle.std.specs.Option.{option_map}
 use Rattle.just_text.specs.declared.name.Name.{Name}
 use Rattle.tree_attributes.specs.Attributes.{AttributeShape, options_shape}
 use Rattle.tree_attributes.specs.declared.attribute.Attribute.{Attribute}
-use Rattle.tree_attribute_sets.specs.declared.attribute_item.AttributeItem.{AttributeItem}
-use Rattle.tree_attribute_sets.specs.Order.{in_order, item_shape as attribute_item_shape}
-use Rattle.tree_attribute_sets.specs.Sets.{items_of, shapes_in}
+use Rattle.tree_attributes.specs.declared.attribute_item.AttributeItem.{AttributeItem}
+use Rattle.tree_attributes.specs.Sets.Order.{in_order, item_shape as attribute_item_shape}
+use Rattle.tree_attributes.specs.Sets.Sets.{items_of, shapes_in}
 use Rattle.tree_items.specs.Files.{ItemShape, item_shape}
 use Rattle.parse_expressions.specs.Literals.{Expansion, Origin}
 use Rattle.parse_attributes.specs.Cooked.{AreCookedOptions}

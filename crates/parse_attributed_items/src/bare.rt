@@ -2,7 +2,7 @@
 ghost use Rattle.std.specs.Prelude.{◌≢◌, IfOk};
 ghost use Rattle.just_text.specs.Numbers.{Numbers};
 ghost use Rattle.just_text.specs.Tokens.{word_of};
-ghost use Rattle.tree_attribute_sets.specs.declared.item_kind.ItemKind.TheVariants as kinds;
+ghost use Rattle.tree_attributes.specs.declared.item_kind.ItemKind.TheVariants as kinds;
 ghost use Rattle.parse_expressions.specs.Origins.{origin_of};
 ghost use Rattle.parse_expressions.specs.Reading.{Gives, ahead};
 ghost use Rattle.parse_recipes.specs.Numbering.{AreUsed, GivesUnless, IsFrugal};
@@ -20,7 +20,7 @@ use parse_recipes::recipe::recipe;
 use parse_recipes::recipe_law::recipe_law;
 use semver::Version;
 use std::alloc::Global;
-use tree_attribute_sets::ItemKind;
+use tree_attributes::ItemKind;
 use tree_items::Item;
 
 /// An item, and how many blank lines after its body belong to the file.

@@ -4,7 +4,7 @@ ghost use Rattle.parse_attributes.specs.Seen.{read_shapes};
 ghost use Rattle.parse_attributed_items.specs.Fitting as spec;
 
 use parse_attributes::AttributeRead;
-use tree_attribute_sets::ItemKind;
+use tree_attributes::ItemKind;
 
 /// Whether items of that kind may have attributes.
 fn takes_attributes(kind: ItemKind) -> bool

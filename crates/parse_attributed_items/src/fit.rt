@@ -12,8 +12,7 @@ use just_text::{CompileErrorKind, Text};
 use parse_attributes::AttributeRead;
 use parse_expressions::Fault;
 use std::alloc::{AllocError, Global};
-use tree_attribute_sets::{ItemKind, may_carry};
-use tree_attributes::AttributeKind;
+use tree_attributes::{AttributeKind, ItemKind, may_carry};
 use tree_items::Item;
 
 /// The name of an item that may have attributes; empty for others.

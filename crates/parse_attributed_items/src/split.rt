@@ -2,8 +2,8 @@
 ghost use Rattle.std.specs.Prelude.{◌≡◌, ◌++◌, [], IfOk, OnOk, Some, map};
 ghost use Rattle.std.specs.List.{cons_option};
 ghost use Rattle.std.specs.Option.{option_map};
-ghost use Rattle.tree_attribute_sets.specs.Order.{in_order, item_shape};
-ghost use Rattle.tree_attribute_sets.specs.Sets.{shapes_in};
+ghost use Rattle.tree_attributes.specs.Sets.Order.{in_order, item_shape};
+ghost use Rattle.tree_attributes.specs.Sets.Sets.{shapes_in};
 ghost use Rattle.parse_expressions.specs.Literals.{Origin};
 ghost use Rattle.parse_attributes.specs.Seen.{AreWholeReads, read_shapes};
 ghost use Rattle.parse_attributed_items.specs.Fitting.{known};
@@ -12,8 +12,7 @@ ghost use Rattle.parse_attributed_items.specs.Seen.{AreWholeKnown, AreWholeOrder
 use just_text::{Name, both};
 use parse_attributes::AttributeRead;
 use std::alloc::{AllocError, Global};
-use tree_attribute_sets::{AttributeItem, AttributeSet};
-use tree_attributes::{ArgumentOptions, Attribute};
+use tree_attributes::{ArgumentOptions, Attribute, AttributeItem, AttributeSet};
 
 /// The attributes before an item as they are written, and the options of those that are `arg`s.
 #[derive(Drop)]

@@ -5,7 +5,7 @@ ghost use Rattle.tree_items.specs.declared.ast.Item.TheVariants as items;
 ghost use Rattle.tree_attributes.specs.Attributes.{AttributeShape};
 ghost use Rattle.tree_items.specs.Files.{item_shape};
 ghost use Rattle.tree_items.specs.Recipes.{recipe_shape};
-ghost use Rattle.tree_attribute_sets.specs.Sets.{items_of, shapes_in, is_private as are_private};
+ghost use Rattle.tree_attributes.specs.Sets.Sets.{items_of, shapes_in, is_private as are_private};
 ghost use Rattle.parse_expressions.specs.Literals.{Origin};
 ghost use Rattle.parse_recipes.specs.Cooked.{IsRecipeCooked};
 ghost use Rattle.parse_recipes.specs.Numbering.{IsRecipeNumbered};
@@ -20,7 +20,7 @@ use crate::split::OrderedAttributes;
 use just_text::Namepath;
 use parse_expressions::Fault;
 use std::alloc::Global;
-use tree_attribute_sets::AttributeSet;
+use tree_attributes::AttributeSet;
 use tree_items::{Alias, Assignment, Binding, Item, Module, Recipe, Set, UnresolvedDependency};
 
 /// The alias after these attributes.

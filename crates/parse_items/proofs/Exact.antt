@@ -2,7 +2,7 @@
 use Rattle.std.proofs.Common.{◌≡◌, ℕ, List, map, Ok, Option, Some, None, refl, inl, inr, ◌⊎◌}
 use Rattle.just_text.specs.Tokens.{Word}
 use Rattle.just_text.specs.declared.token_kind.TokenKind.TheVariants.{ColonEquals, Identifier}
-use Rattle.tree_attribute_sets.specs.declared.item_kind.ItemKind.TheVariants.{Set}
+use Rattle.tree_attributes.specs.declared.item_kind.ItemKind.TheVariants.{Set}
 use Rattle.tree_attributes.specs.Settings.{ValueShape, SetShape}
 use Rattle.parse_expressions.specs.Words.{Begins, Mark, Lacks}
 use Rattle.parse_expressions.specs.Literals.{Expansion}

@@ -3,7 +3,7 @@ use Rattle.std.proofs.Common.{◌≡◌, ℕ, Bool, true, false, List, map, refl
 use Rattle.just_text.specs.Tokens.{Word}
 use Rattle.just_text.specs.declared.token_kind.TokenKind.{TokenKind}
 use Rattle.just_text.specs.declared.token_kind.TokenKind.TheVariants.{ColonEquals, Comment, Eof, Eol, Identifier, ParenL, QuestionMark, StringToken}
-use Rattle.tree_attribute_sets.specs.declared.item_kind.ItemKind.TheVariants.{Alias, Assignment, Function, Import, Module, Unexport}
+use Rattle.tree_attributes.specs.declared.item_kind.ItemKind.TheVariants.{Alias, Assignment, Function, Import, Module, Unexport}
 use Rattle.parse_expressions.specs.Words.{is_kind, Begins, Mark}
 use Rattle.parse_expressions.specs.Reading.{is_next}
 use Rattle.parse_expressions.proofs.Taken.{Taken, taken}

@@ -4,8 +4,8 @@ use Rattle.just_text.specs.Tokens.{Word}
 use Rattle.just_text.specs.declared.compile_error.CompileErrorKind.{CompileErrorKind}
 use Rattle.just_text.specs.declared.token_kind.TokenKind.TheVariants.{ColonEquals, Identifier, ParenL, QuestionMark, StringToken}
 use Rattle.tree_expressions.specs.Cooking.{cooked}
-use Rattle.tree_attribute_sets.specs.declared.item_kind.ItemKind.{ItemKind}
-use Rattle.tree_attribute_sets.specs.declared.item_kind.ItemKind.TheVariants.{Alias, Assignment, Comment, Function, Import, Module, Newline, Recipe, Set, Unexport}
+use Rattle.tree_attributes.specs.declared.item_kind.ItemKind.{ItemKind}
+use Rattle.tree_attributes.specs.declared.item_kind.ItemKind.TheVariants.{Alias, Assignment, Comment, Function, Import, Module, Newline, Recipe, Set, Unexport}
 use Rattle.tree_items.specs.Files.{ItemShape, alias_item, assignment_item, function_item, import_item, module_item, unexport_item}
 use Rattle.tree_items.specs.Items.{AliasShape, AssignmentShape, FunctionShape, ImportShape, ModuleShape}
 use Rattle.tree_expressions.specs.Shape.{Shape}

@@ -3,7 +3,7 @@ use Rattle.std.proofs.Common.{◌≡◌, ℕ, Bool, true, false, ◌&&◌, List,
 use Rattle.just_text.specs.Tokens.{Word}
 use Rattle.just_text.specs.declared.token_kind.TokenKind.{TokenKind}
 use Rattle.just_text.specs.declared.token_kind.TokenKind.TheVariants.{Asterisk, At, Colon, ColonEquals, Comment, Dollar, Eof, Eol, Equals, Identifier, ParenL, Plus as PlusMark, QuestionMark, StringToken}
-use Rattle.tree_attribute_sets.specs.declared.item_kind.ItemKind.TheVariants.{Recipe}
+use Rattle.tree_attributes.specs.declared.item_kind.ItemKind.TheVariants.{Recipe}
 use Rattle.tree_items.specs.declared.recipe.ParameterKind.{ParameterKind}
 use Rattle.tree_items.specs.declared.recipe.ParameterKind.TheVariants.{Plus, Singular, Star}
 use Rattle.tree_items.specs.Recipes.{ParameterShape, RecipeShape}

@@ -8,7 +8,7 @@ use Rattle.parse_expressions.specs.Words.{Mark}
 use Rattle.parse_expressions.specs.Literals.{Expansion}
 use Rattle.parse_expressions.proofs.Taken.{bind_ok, test, ok_is, expect_is, expect_mark, taken, marked}
 use Rattle.parse_expressions.proofs.TokensTaken.{Reads}
-use Rattle.tree_attribute_sets.specs.Indentations.{is_indentation}
+use Rattle.tree_attributes.specs.Sets.Indentations.{is_indentation}
 use Rattle.semver.specs.declared.Version.{Version}
 use Rattle.semver.specs.declared.error.Error.{Error}
 use Rattle.semver.specs.Parse.{Parts, version_parts}

@@ -9,7 +9,7 @@ use Rattle.parse_expressions.specs.Literals.{Expansion}
 use Rattle.parse_expressions.specs.Laws.{Exactly}
 use Rattle.parse_expressions.proofs.Taken.{bind_ok, turned, expect_mark, marked}
 use Rattle.parse_expressions.proofs.TokensTaken.{Reads}
-use Rattle.tree_attribute_sets.specs.Indentations.{is_indentation}
+use Rattle.tree_attributes.specs.Sets.Indentations.{is_indentation}
 use Rattle.semver.specs.declared.Version.{Version as SemanticVersion}
 use Rattle.parse_items.specs.declared.form.Form.{Form}
 use Rattle.parse_items.specs.declared.form.Form.TheVariants.{Indentation, Interpreter, Truth, Value, Version}

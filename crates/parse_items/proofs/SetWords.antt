@@ -4,8 +4,8 @@ use Rattle.std.specs.Str.{bytes_eq}
 use Rattle.just_text.specs.Tokens.{Word}
 use Rattle.just_text.specs.declared.token_kind.TokenKind.{TokenKind}
 use Rattle.just_text.specs.declared.token_kind.TokenKind.TheVariants.{ColonEquals, Identifier, ParenL, QuestionMark, StringToken}
-use Rattle.tree_attribute_sets.specs.declared.item_kind.ItemKind.{ItemKind}
-use Rattle.tree_attribute_sets.specs.declared.item_kind.ItemKind.TheVariants.{Alias, Assignment, Function, Import, Module, Recipe, Set, Unexport}
+use Rattle.tree_attributes.specs.declared.item_kind.ItemKind.{ItemKind}
+use Rattle.tree_attributes.specs.declared.item_kind.ItemKind.TheVariants.{Alias, Assignment, Function, Import, Module, Recipe, Set, Unexport}
 use Rattle.parse_expressions.specs.Words.{is_kind, Begins, Mark, Lacks}
 use Rattle.parse_expressions.specs.Reading.{accept, is_next}
 use Rattle.parse_expressions.proofs.Taken.{inspect, test, text_same, taken, marked, lacks_accept, other_accept}

@@ -3,8 +3,8 @@ use Rattle.std.proofs.Common.{◌≡◌, ℕ, true, false, ◌&&◌, List, map, 
 use Rattle.std.specs.Str.{bytes_eq}
 use Rattle.just_text.specs.Tokens.{Word}
 use Rattle.just_text.specs.declared.token_kind.TokenKind.TheVariants.{ColonEquals, Identifier, ParenL, QuestionMark, StringToken}
-use Rattle.tree_attribute_sets.specs.declared.item_kind.ItemKind.{ItemKind}
-use Rattle.tree_attribute_sets.specs.declared.item_kind.ItemKind.TheVariants.{Alias, Assignment, Import, Module, Unexport}
+use Rattle.tree_attributes.specs.declared.item_kind.ItemKind.{ItemKind}
+use Rattle.tree_attributes.specs.declared.item_kind.ItemKind.TheVariants.{Alias, Assignment, Import, Module, Unexport}
 use Rattle.parse_expressions.specs.Words.{Begins}
 use Rattle.parse_expressions.specs.Reading.{accept, is_next}
 use Rattle.parse_expressions.proofs.Taken.{inspect, test, text_same, accept_is}

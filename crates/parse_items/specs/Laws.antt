@@ -1,7 +1,7 @@
 -- What reading items and deriving them have to do with each other.
 use Rattle.std.specs.Prelude.{ℕ, ◌≡◌, List, map, Ok}
 use Rattle.just_text.specs.Tokens.{Word, word_of}
-use Rattle.tree_attribute_sets.specs.declared.item_kind.ItemKind.TheVariants.{Recipe}
+use Rattle.tree_attributes.specs.declared.item_kind.ItemKind.TheVariants.{Recipe}
 use Rattle.tree_items.specs.Files.{ItemShape}
 use Rattle.tree_items.specs.Recipes.{RecipeShape}
 use Rattle.parse_expressions.specs.Literals.{Expansion}

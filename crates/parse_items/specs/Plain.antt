@@ -2,7 +2,7 @@
 use Rattle.std.specs.Prelude.{ℕ, ◌≡◌, Bool, false, List, [], codes}
 use Rattle.just_text.specs.Tokens.{lexeme}
 use Rattle.tree_expressions.specs.Cutting.{begins}
-use Rattle.tree_attribute_sets.specs.Sets.{items_of}
+use Rattle.tree_attributes.specs.Sets.Sets.{items_of}
 use Rattle.tree_items.specs.declared.ast.Item.{Item}
 use Rattle.tree_items.specs.declared.ast.Item.TheVariants.{Alias, Assignment, Module}
 use Rattle.tree_expressions.specs.declared.expression.Expression.{Expression}

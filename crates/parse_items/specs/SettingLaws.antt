@@ -1,7 +1,7 @@
 -- What reading settings and deriving them have to do with each other.
 use Rattle.std.specs.Prelude.{◌≡◌, List, map, Ok}
 use Rattle.just_text.specs.Tokens.{Word, word_of}
-use Rattle.tree_attribute_sets.specs.declared.item_kind.ItemKind.TheVariants.{Set}
+use Rattle.tree_attributes.specs.declared.item_kind.ItemKind.TheVariants.{Set}
 use Rattle.tree_attributes.specs.Settings.{SetShape}
 use Rattle.parse_expressions.specs.Literals.{Expansion}
 use Rattle.parse_items.specs.Reading.{kind_at}

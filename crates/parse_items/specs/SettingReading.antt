@@ -10,7 +10,7 @@ use Rattle.tree_expressions.specs.Shape.{Shape, Shapes, end, more}
 use Rattle.parse_expressions.specs.Literals.{Expansion}
 use Rattle.parse_expressions.specs.Reading.{◌>>=◌, on, Read, unexpected, refused, first, accept, expect, is_keyword, elements_at, expression_at}
 use Rattle.parse_expressions.specs.LineEnds.{eol_at}
-use Rattle.tree_attribute_sets.specs.Indentations.{is_indentation}
+use Rattle.tree_attributes.specs.Sets.Indentations.{is_indentation}
 use Rattle.semver.specs.declared.Version.{Version as SemanticVersion}
 use Rattle.semver.specs.Identifiers.{version_text}
 use Rattle.semver.specs.Parse.{Parts, version_parts}

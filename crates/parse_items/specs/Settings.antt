@@ -9,7 +9,7 @@ use Rattle.parse_expressions.specs.Words.{Begins, Mark, Lacks}
 use Rattle.parse_expressions.specs.Literals.{Expansion}
 use Rattle.parse_expressions.specs.LineEnds.{IsEol}
 use Rattle.parse_items.specs.Keywords.{set_keyword}
-use Rattle.tree_attribute_sets.specs.Indentations.{is_indentation}
+use Rattle.tree_attributes.specs.Sets.Indentations.{is_indentation}
 use Rattle.semver.specs.declared.Version.{Version as SemanticVersion}
 use Rattle.semver.specs.Parse.{Parts, version_parts}
 use Rattle.parse_items.specs.declared.form.Form.{Form}

@@ -3,7 +3,7 @@ ghost use Rattle.std.specs.Prelude.{◌≡◌, ◌||◌, ℕ, suc, false, IfOk, 
 ghost use Rattle.std.specs.Str.{bytes_eq};
 ghost use Rattle.just_text.specs.Tokens.{lexeme, word_of};
 ghost use Rattle.just_text.specs.declared.token_kind.TokenKind.TheVariants.{Identifier};
-ghost use Rattle.tree_attribute_sets.specs.Sets.{items_of};
+ghost use Rattle.tree_attributes.specs.Sets.Sets.{items_of};
 ghost use Rattle.tree_items.specs.Files.{item_shape};
 ghost use Rattle.tree_items.specs.Items.{alias_shape, assignment_shape, function_shape, import_shape, module_shape, names_of, unexport_shape};
 ghost use Rattle.tree_expressions.specs.Shape.{shape_of, written};
@@ -25,7 +25,7 @@ use parse_expressions::{Context, Cursor, Fault, end_of_line, ended};
 use parse_recipes::{namepath, next_binding};
 use std::alloc::Global;
 use std::collections::BTreeSet;
-use tree_attribute_sets::{AttributeSet, ItemKind};
+use tree_attributes::{AttributeSet, ItemKind};
 use tree_expressions::{Expression, StringLiteral};
 use tree_items::{
     Alias, Assignment, Binding, FunctionDefinition, FunctionParameter, Import, Item, Module,

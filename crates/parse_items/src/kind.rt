@@ -6,7 +6,7 @@ ghost use Rattle.parse_items.specs.Reading.{ends_here, is_named_value, kind_at, 
 
 use just_text::TokenKind;
 use parse_expressions::Cursor;
-use tree_attribute_sets::ItemKind;
+use tree_attributes::ItemKind;
 
 /// Whether a line ends here.
 #[tactic(auto, unfolding(parse_expressions::specs::LineEnds::eol_at, parse_expressions::specs::Reading::is_next))]

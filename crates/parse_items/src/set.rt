@@ -3,7 +3,7 @@ ghost use Rattle.std.specs.Prelude.{[], ◌≡◌, ◌≢◌, IfOk, Some, map};
 ghost use Rattle.just_text.specs.Tokens.{lexeme, word_of};
 ghost use Rattle.just_text.specs.declared.compile_error.CompileErrorKind.TheVariants as kinds;
 ghost use Rattle.tree_attributes.specs.Settings.{interpreter_shape, value_shape};
-ghost use Rattle.tree_attribute_sets.specs.Sets.{items_of};
+ghost use Rattle.tree_attributes.specs.Sets.Sets.{items_of};
 ghost use Rattle.tree_items.specs.Items.{set_shape};
 ghost use Rattle.tree_expressions.specs.Shape.{shape_of, written};
 ghost use Rattle.parse_expressions.specs.declared.fault.Fault.TheVariants.{OutOfMemory, Refused};
@@ -26,8 +26,7 @@ use parse_expressions::{Context, Cursor, Fault, ended};
 use semver::Version;
 use std::alloc::{AllocError, Global};
 use std::cmp::Ordering;
-use tree_attribute_sets::{AttributeSet, Indentation};
-use tree_attributes::{Interpreter, Setting};
+use tree_attributes::{AttributeSet, Indentation, Interpreter, Setting};
 use tree_expressions::{Expression, StringLiteral};
 use tree_items::Set;
 

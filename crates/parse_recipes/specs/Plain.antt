@@ -1,7 +1,7 @@
 -- What a recipe has before its attributes are read.
 use Rattle.std.specs.Prelude.{◌≡◌, false, List, [], None}
 use Rattle.std.specs.List.{All}
-use Rattle.tree_attribute_sets.specs.Sets.{items_of}
+use Rattle.tree_attributes.specs.Sets.Sets.{items_of}
 use Rattle.tree_items.specs.declared.recipe.Parameter.{Parameter}
 use Rattle.tree_items.specs.declared.recipe.Recipe.{Recipe}
 use Rattle.tree_items.specs.declared.recipe.UnresolvedDependency.{UnresolvedDependency}

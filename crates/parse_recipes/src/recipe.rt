@@ -18,7 +18,7 @@ use crate::shrinking::shrunk;
 use just_text::{Expander, Name, Numerator, TokenKind};
 use parse_expressions::{Context, Cursor, Fault, end_of_line};
 use std::alloc::Global;
-use tree_attribute_sets::AttributeSet;
+use tree_attributes::AttributeSet;
 use tree_items::{Parameter, Recipe, UnresolvedDependency};
 
 /// A recipe's first line from its parameters on.

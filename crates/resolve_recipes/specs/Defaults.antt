@@ -3,7 +3,7 @@ use Rattle.std.specs.Prelude.{ℕ, ◌<◌, ◌&&◌, ◌||◌, Bool, true, fals
 use Rattle.std.specs.List.{list_any}
 use Rattle.std.specs.Option.{option_and_then, option_or}
 use Rattle.tree_attributes.specs.declared.attribute.AttributeKind.TheVariants.{Default}
-use Rattle.tree_attribute_sets.specs.Sets.{is_of, items_of}
+use Rattle.tree_attributes.specs.Sets.Sets.{is_of, items_of}
 use Rattle.tree_items.specs.declared.recipe.Recipe.{Recipe}
 use Rattle.tree_items.specs.declared.recipe.UnresolvedDependency.{UnresolvedDependency}
 use Rattle.modules_compilation.specs.declared.compilation.Compilation.{Compilation}

@@ -14,9 +14,9 @@ use Rattle.tree_items.specs.declared.recipe.UnresolvedDependency.{UnresolvedDepe
 use Rattle.tree_attributes.specs.Attributes.{AttributeShape, attribute_shape, plain, with_interpreter, with_options, with_pair, with_prompt, with_string, with_strings}
 use Rattle.tree_attributes.specs.declared.attribute.Attribute.{Attribute}
 use Rattle.tree_attributes.specs.declared.attribute.Attribute.TheVariants.{Android, Arg, Cache, Confirm, Default, Doc, Dragonfly, Env, ExitMessage, Extension, Freebsd, Group, Linux, Macos, Metadata, Netbsd, NoCd, NoExitMessage, NoQuiet, Openbsd, Parallel, PositionalArguments, Private, Script, Unix, Windows, WorkingDirectory}
-use Rattle.tree_attribute_sets.specs.Numbering.{AreNumberedItems, IsNumberedAttribute, expressions_of, key_of, value_of}
-use Rattle.tree_attribute_sets.specs.Sets.{items_of}
-use Rattle.tree_attribute_sets.specs.declared.attribute_item.AttributeItem.{AttributeItem}
+use Rattle.tree_attributes.specs.Sets.Numbering.{AreNumberedItems, IsNumberedAttribute, expressions_of, key_of, value_of}
+use Rattle.tree_attributes.specs.Sets.Sets.{items_of}
+use Rattle.tree_attributes.specs.declared.attribute_item.AttributeItem.{AttributeItem}
 use Rattle.resolve_references.specs.Numbered.{bare_parameter, bare_parameters}
 use Rattle.resolve_references.specs.Said.{Said, SayTheSame, said_by, said_of}
 use Rattle.resolve_references.specs.Seen.{Seen, seeing, seeing_if_there, seen_in_attribute, seen_in_attributes, seen_in_body, seen_in_dependencies, seen_in_parameters, seen_in_recipe}

@@ -10,10 +10,10 @@ use Rattle.std.proofs.lemmas.Bool.Decides.{eqb_tells}
 use Rattle.tree_expressions.specs.declared.expression.Expression.{Expression}
 use Rattle.tree_expressions.specs.Numbering.{IsNumbered, numbers_of, variables_of}
 use Rattle.tree_expressions.specs.Shape.{shape_of}
-use Rattle.tree_attribute_sets.specs.declared.attribute_item.AttributeItem.{AttributeItem}
+use Rattle.tree_attributes.specs.declared.attribute_item.AttributeItem.{AttributeItem}
 use Rattle.tree_attributes.specs.declared.attribute.Attribute.{Attribute}
 use Rattle.tree_attributes.specs.declared.attribute.Attribute.TheVariants.{Android, Arg, Cache, Confirm, Default, Doc, Dragonfly, Env, ExitMessage, Extension, Freebsd, Group, Linux, Macos, Metadata, Netbsd, NoCd, NoExitMessage, NoQuiet, Openbsd, Parallel, PositionalArguments, Private, Script, Unix, Windows, WorkingDirectory}
-use Rattle.tree_attribute_sets.specs.Numbering.{AreNumberedItems, IsNumberedAttribute, expressions_of, key_of, value_of}
+use Rattle.tree_attributes.specs.Sets.Numbering.{AreNumberedItems, IsNumberedAttribute, expressions_of, key_of, value_of}
 use Rattle.tree_items.specs.Contexts.{last_named, number_in}
 use Rattle.tree_items.specs.declared.ast.Item.{Item}
 use Rattle.tree_items.specs.Resolving.{number_for}

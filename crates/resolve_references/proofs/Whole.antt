@@ -6,10 +6,10 @@ use Rattle.std.proofs.lemmas.List.Elements.{All-append}
 use Rattle.std.proofs.lemmas.Simd.{map-map}
 use Rattle.just_text.specs.declared.name.Name.{Name}
 use Rattle.tree_attributes.specs.Attributes.{AttributeShape}
-use Rattle.tree_attribute_sets.specs.declared.attribute_item.AttributeItem.{AttributeItem}
-use Rattle.tree_attribute_sets.specs.Numbering.{AreNumberedItems}
-use Rattle.tree_attribute_sets.specs.Order.{item_shape}
-use Rattle.tree_attribute_sets.specs.Sets.{items_of, written_item}
+use Rattle.tree_attributes.specs.declared.attribute_item.AttributeItem.{AttributeItem}
+use Rattle.tree_attributes.specs.Sets.Numbering.{AreNumberedItems}
+use Rattle.tree_attributes.specs.Sets.Order.{item_shape}
+use Rattle.tree_attributes.specs.Sets.Sets.{items_of, written_item}
 use Rattle.tree_items.specs.Contexts.{number_in, parameter_number}
 use Rattle.tree_items.specs.declared.recipe.Parameter.{Parameter}
 use Rattle.tree_items.specs.declared.recipe.Recipe.{Recipe}

@@ -8,10 +8,10 @@ use Rattle.tree_attributes.specs.Attributes.{AttributeShape}
 use Rattle.tree_attributes.specs.declared.setting.Interpreter.{Interpreter}
 use Rattle.tree_attributes.specs.declared.setting.Setting.{Setting}
 use Rattle.tree_attributes.specs.declared.setting.Setting.TheVariants.{DotenvCommand, DotenvFilename, DotenvPath, ScriptInterpreter, Shell, Tempdir, WindowsShell, WorkingDirectory}
-use Rattle.tree_attribute_sets.specs.Numbering.{texts_of}
-use Rattle.tree_attribute_sets.specs.Order.{item_shape}
-use Rattle.tree_attribute_sets.specs.Sets.{items_of}
-use Rattle.tree_attribute_sets.specs.declared.attribute_item.AttributeItem.{AttributeItem}
+use Rattle.tree_attributes.specs.Sets.Numbering.{texts_of}
+use Rattle.tree_attributes.specs.Sets.Order.{item_shape}
+use Rattle.tree_attributes.specs.Sets.Sets.{items_of}
+use Rattle.tree_attributes.specs.declared.attribute_item.AttributeItem.{AttributeItem}
 use Rattle.tree_items.specs.declared.ast.Item.{Item}
 use Rattle.tree_items.specs.declared.ast.Item.TheVariants.{Assignment, Function, Recipe as recipe_item, Set as set_item}
 use Rattle.tree_items.specs.declared.set.Set.{Set}

@@ -1,14 +1,13 @@
 //! What recipes and settings call and read.
 ghost use Rattle.std.specs.Prelude.{◌≡◌, ◌++◌, IfOk, OnOk};
 ghost use Rattle.std.specs.List.{flat_map};
-ghost use Rattle.tree_attribute_sets.specs.Sets.{items_of};
+ghost use Rattle.tree_attributes.specs.Sets.Sets.{items_of};
 ghost use Rattle.resolve_references.specs.References.{references_of};
 ghost use Rattle.resolve_references.specs.ItemReferences.{references_of_argument, references_of_attribute, references_of_attribute_item, references_of_dependency, references_of_fragment, references_of_interpreter, references_of_line, references_of_optional, references_of_parameter, references_of_recipe, references_of_set};
 
 use crate::references::References;
 use std::alloc::{AllocError, Global};
-use tree_attribute_sets::AttributeSet;
-use tree_attributes::{Attribute, Interpreter, Setting};
+use tree_attributes::{Attribute, AttributeSet, Interpreter, Setting};
 use tree_expressions::Expression;
 use tree_items::{Fragment, Line, Parameter, Recipe, Set, UnresolvedDependency};
 

@@ -6,7 +6,7 @@ ghost use Rattle.std.specs.Str.{bytes_eq};
 ghost use Rattle.just_text.specs.Tokens.{lexeme};
 ghost use Rattle.tree_expressions.specs.Shape.{shape_of};
 ghost use Rattle.tree_attributes.specs.Settings.{interpreter_shape, value_shape};
-ghost use Rattle.tree_attribute_sets.specs.Sets.{items_of, shapes_in};
+ghost use Rattle.tree_attributes.specs.Sets.Sets.{items_of, shapes_in};
 ghost use Rattle.tree_items.specs.Contexts.{named_number, number_in, parameter_number};
 ghost use Rattle.tree_items.specs.Files.{item_shape};
 ghost use Rattle.tree_items.specs.Lines.{piece_of, pieces_of};
@@ -16,8 +16,7 @@ ghost use Rattle.resolve_references.specs.Said.{SayTheSame, said_by, said_of};
 ghost use Rattle.resolve_references.specs.Seen.{AreNumberedBy, HasNumbers, HaveNumbers, StandsFor, seeing, seeing_if_there, seen_in, seen_in_attributes, seen_in_body, seen_in_dependencies, seen_in_dependency, seen_in_fragment, seen_in_interpreter, seen_in_line, seen_in_parameters, seen_in_recipe, seen_in_setting};
 
 use std::alloc::{AllocError, Global};
-use tree_attribute_sets::AttributeSet;
-use tree_attributes::{Interpreter, Setting};
+use tree_attributes::{AttributeSet, Interpreter, Setting};
 use tree_expressions::Expression;
 use tree_items::{
     Assignment, DependencyArgument, ExpressionContext, Fragment, FunctionDefinition,

@@ -1,7 +1,7 @@
 -- How a run ends, by how its parts end.
 use Rattle.std.proofs.Common.{◌≡◌, ◌≢◌, refl, Bool, false, List, Result, Ok, Err, ap, subst, sym}
 use Rattle.std.specs.Result.{IsErr, IsErrAnd}
-use Rattle.meaning_opening.specs.Requests.{OpeningFailure}
+use Rattle.meaning_evaluation.specs.Requests.{OpeningFailure}
 use Rattle.analyze_calls.specs.Opening.{IfOpened}
 use Rattle.analyze_calls.specs.declared.fault.OpeningFault.{OpeningFault}
 use Rattle.analyze_calls.specs.declared.fault.OpeningFault.TheVariants as openings

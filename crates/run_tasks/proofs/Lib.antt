@@ -4,3 +4,5 @@ pub mod Standing
 pub mod Ending
 pub mod Doing
 pub mod Beginnings
+pub mod Prepared
+pub mod Requested

@@ -9,7 +9,7 @@ use Rattle.analyze_calls.specs.Opening.{AllBegin, OpenedRow, OpensAll}
 use Rattle.analyze_calls.specs.declared.opening.Opening.{Opening as Opens}
 use Rattle.analyze_calls.specs.declared.plan.Planned.{Planned}
 use Rattle.analyze_calls.specs.declared.plan.Runner.{Runner}
-use Rattle.analyze_runs.specs.Cut.{BeginsRun}
+use Rattle.analyze_calls.specs.Runs.Cut.{BeginsRun}
 use Rattle.run_tasks.specs.Opened.{AreContexts, IsOpeningOf}
 use Rattle.run_tasks.specs.Performed.{HandsInRoot, TaskEnd}
 use Rattle.run_tasks.specs.declared.task.Task.{Task}

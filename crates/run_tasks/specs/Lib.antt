@@ -5,3 +5,5 @@ pub mod Tasks
 pub mod Opened
 pub mod Performed
 pub mod Begun
+pub mod Prepared
+pub mod Requested

@@ -11,7 +11,7 @@ use Rattle.evaluate_context.specs.declared.context.ModuleView.{ModuleView}
 use Rattle.justfile_evaluator.specs.Ended.{failure_of}
 use Rattle.justfile_evaluator.specs.declared.fault.RunFault.TheVariants.{OutOfMemory}
 use Rattle.meaning_dialogues.specs.Faults.{memory}
-use Rattle.meaning_opening.specs.Requests.{OpeningFailure, dotenv, opening}
+use Rattle.meaning_evaluation.specs.Requests.{OpeningFailure, dotenv, opening}
 use Rattle.meaning_runs.specs.Failures.{Failure, Next, evaluation, next_by}
 use Rattle.meaning_runs.specs.Tallies.{Tally}
 use Rattle.analyze_calls.specs.Calls.{CallRow, rows}
@@ -20,8 +20,8 @@ use Rattle.analyze_calls.specs.declared.fault.OpeningFault.TheVariants as openin
 use Rattle.analyze_calls.specs.declared.opening.Opening.{Opening as Opens}
 use Rattle.analyze_calls.specs.declared.plan.Planned.{Planned}
 use Rattle.analyze_calls.specs.declared.plan.Runner.{Runner}
-use Rattle.analyze_runs.specs.Rest.{HasRun}
-use Rattle.analyze_runs.specs.Steps.{parts}
+use Rattle.analyze_calls.specs.Runs.Rest.{HasRun}
+use Rattle.analyze_calls.specs.Runs.Steps.{parts}
 use Rattle.run_tasks.specs.Commands.{words_job}
 use Rattle.run_tasks.specs.Opened.{AreContexts, IsOpeningOf}
 use Rattle.run_tasks.specs.Tasks.{values_text}

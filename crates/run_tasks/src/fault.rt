@@ -4,7 +4,7 @@ ghost use Rattle.std.specs.Fmt.{WritesOnOk};
 ghost use Rattle.just_host.specs.Failures.{status_text};
 ghost use Rattle.justfile_evaluator.specs.declared.fault.RunFault.TheVariants.{OutOfMemory};
 
-use analyze_runs::{OpeningFault, RunFault};
+use analyze_calls::{OpeningFault, RunFault};
 use just_host::Status;
 use just_text::Text;
 use std::alloc::{AllocError, AllocFailed};

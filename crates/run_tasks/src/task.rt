@@ -1,5 +1,5 @@
 //! What is to be done, what it rests on, and what came of it.
-use analyze_runs::Call;
+use analyze_calls::Call;
 use just_host::Config;
 use just_text::{Number, Text};
 use justfile_analyzer::EvaluationTarget;

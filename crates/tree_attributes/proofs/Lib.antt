@@ -1,2 +1,3 @@
 pub mod TextsInRow
 pub mod KindFound
+pub mod Sets

@@ -3,3 +3,4 @@ pub mod Attributes
 pub mod Forms
 pub mod Kinds
 pub mod Given
+pub mod Sets

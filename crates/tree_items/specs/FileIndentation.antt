@@ -6,8 +6,8 @@ use Rattle.tree_items.specs.declared.ast.Item.{Item}
 use Rattle.tree_items.specs.declared.ast.Item.TheVariants.{Set as SetItem}
 use Rattle.tree_attributes.specs.declared.setting.Setting.{Setting}
 use Rattle.tree_attributes.specs.declared.setting.Setting.TheVariants.{Indentation}
-use Rattle.tree_attribute_sets.specs.Indentations.{is_indentation}
-use Rattle.tree_attribute_sets.specs.Sets.{is_enabled, items_of}
+use Rattle.tree_attributes.specs.Sets.Indentations.{is_indentation}
+use Rattle.tree_attributes.specs.Sets.Sets.{is_enabled, items_of}
 
 -- the text of a setting of the indentation
 abbrev pub indentation_text : Setting → Option (List ℕ)

@@ -2,8 +2,8 @@
 use Rattle.std.specs.Prelude.{ℕ, ◌+◌, ◌==◌, Bool, true, false, if◌then◌else◌, List, [], ◌∷◌, ◌++◌, map, codes}
 use Rattle.tree_items.specs.declared.ast.Item.{Item}
 use Rattle.tree_items.specs.declared.ast.Item.TheVariants.{Alias, Assignment, Comment, Function, Import, Module, Newline, Recipe, Set, Unexport}
-use Rattle.tree_attribute_sets.specs.declared.item_kind.ItemKind.{ItemKind}
-use Rattle.tree_attribute_sets.specs.declared.item_kind.ItemKind.TheVariants.{Alias as AliasKind, Assignment as AssignmentKind, Comment as CommentKind, Function as FunctionKind, Import as ImportKind, Module as ModuleKind, Newline as NewlineKind, Recipe as RecipeKind, Set as SetKind, Unexport as UnexportKind}
+use Rattle.tree_attributes.specs.declared.item_kind.ItemKind.{ItemKind}
+use Rattle.tree_attributes.specs.declared.item_kind.ItemKind.TheVariants.{Alias as AliasKind, Assignment as AssignmentKind, Comment as CommentKind, Function as FunctionKind, Import as ImportKind, Module as ModuleKind, Newline as NewlineKind, Recipe as RecipeKind, Set as SetKind, Unexport as UnexportKind}
 use Rattle.tree_items.specs.declared.ast.UnstableFeature.{UnstableFeature}
 use Rattle.tree_items.specs.declared.ast.UnstableFeature.TheVariants.{CachedRecipes, DefinedFunctions, Lists}
 use Rattle.tree_items.specs.declared.ast.ListFeature.{ListFeature}
@@ -12,7 +12,7 @@ use Rattle.tree_attributes.specs.Attributes.{AttributeShape, attributes_text}
 use Rattle.tree_items.specs.Items.{AliasShape, alias_shape, alias_text, AssignmentShape, assignment_shape, assignment_text, FunctionShape, function_shape, function_text, ImportShape, import_shape, import_text, ModuleShape, module_shape, module_text, set_shape, unexport_shape, unexport_text}
 use Rattle.tree_items.specs.Recipes.{RecipeShape, recipe_shape, recipe_text}
 use Rattle.tree_attributes.specs.Settings.{SetShape, set_text}
-use Rattle.tree_attribute_sets.specs.Sets.{shapes_in}
+use Rattle.tree_attributes.specs.Sets.Sets.{shapes_in}
 
 -- an item with its attributes, without places
 pub data ItemShape : Type 0 where

@@ -2,7 +2,7 @@
 ghost use Rattle.std.specs.Prelude.{◌≡◌, ◌++◌, Some, codes};
 ghost use Rattle.std.specs.Fmt.{WritesOnOk};
 ghost use Rattle.tree_attributes.specs.Attributes.{attributes_text};
-ghost use Rattle.tree_attribute_sets.specs.Sets.{shapes_in};
+ghost use Rattle.tree_attributes.specs.Sets.Sets.{shapes_in};
 ghost use Rattle.tree_items.specs.Files as spec;
 ghost use Rattle.tree_items.specs.Printable.{printable};
 
@@ -12,7 +12,7 @@ use crate::recipe::{Recipe, UnresolvedDependency};
 use crate::set::Set;
 use just_text::Namepath;
 use std::fmt;
-use tree_attribute_sets::{AttributeSet, ItemKind};
+use tree_attributes::{AttributeSet, ItemKind};
 
 /// Writes attributes, one a line.
 fn print_attributes<W: fmt::Write>(

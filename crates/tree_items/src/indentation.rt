@@ -4,8 +4,7 @@ ghost use Rattle.tree_items.specs.FileIndentation as spec;
 
 use crate::ast::{Ast, Item};
 use just_text::Os;
-use tree_attribute_sets::Indentation;
-use tree_attributes::Setting;
+use tree_attributes::{Indentation, Setting};
 
 impl Ast<'_> {
     /// The indentation by the file's first enabled item that sets one; which items are enabled, the

@@ -6,7 +6,7 @@ use crate::rows::{Names, Path};
 use just_text::{Name, Namepath, Number};
 use std::fmt;
 use std::marker::Model;
-use tree_attribute_sets::AttributeSet;
+use tree_attributes::AttributeSet;
 use tree_expressions::{Expression, StringLiteral};
 
 /// Another name of a recipe; `T` is the type of what it names.

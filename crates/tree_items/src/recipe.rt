@@ -7,7 +7,7 @@ use crate::line::Line;
 use crate::rows::{Arguments, Body, Dependencies, Parameters, Path, Subsequents};
 use just_text::{Name, Namepath, Number, Text};
 use std::fmt;
-use tree_attribute_sets::AttributeSet;
+use tree_attributes::AttributeSet;
 use tree_expressions::Expression;
 
 /// How many values a parameter takes.

@@ -5,8 +5,7 @@ ghost use Rattle.tree_items.specs.Items.{set_shape};
 
 use just_text::Name;
 use std::fmt;
-use tree_attribute_sets::AttributeSet;
-use tree_attributes::Setting;
+use tree_attributes::{AttributeSet, Setting};
 
 /// An item that gives a setting its value.
 #[derive(Drop)]

@@ -2,8 +2,7 @@
 
 use crate::tokens::name;
 use std::test::Fail;
-use tree_attribute_sets::Indentation;
-use tree_attributes::kind_from_name;
+use tree_attributes::{Indentation, kind_from_name};
 use tree_items::Keyed;
 
 #[test]

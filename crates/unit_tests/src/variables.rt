@@ -5,8 +5,7 @@ use just_text::{Number, Numerator};
 use std::alloc::{AllocError, Global};
 use std::cmp::Ordering;
 use std::test::Fail;
-use tree_attribute_sets::{AttributeItem, AttributeSet};
-use tree_attributes::{Attribute, AttributeKind};
+use tree_attributes::{Attribute, AttributeItem, AttributeKind, AttributeSet};
 use tree_expressions::Expression;
 use tree_items::{ExpressionContext, resolve_attributes};
 

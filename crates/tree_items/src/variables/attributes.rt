@@ -1,12 +1,12 @@
 //! Numbers for the variables of attributes.
 ghost use Rattle.std.specs.Prelude.{◌≡◌, map};
-ghost use Rattle.tree_attribute_sets.specs.Numbering.{AreNumberedItems};
-ghost use Rattle.tree_attribute_sets.specs.Sets.{items_of, written_item};
+ghost use Rattle.tree_attributes.specs.Sets.Numbering.{AreNumberedItems};
+ghost use Rattle.tree_attributes.specs.Sets.Sets.{items_of, written_item};
 ghost use Rattle.tree_items.specs.Resolving.{number_for};
 
 use crate::variables::context::ExpressionContext;
 use crate::variables::resolving::Scope;
-use tree_attribute_sets::AttributeSet;
+use tree_attributes::AttributeSet;
 
 /// Gives each variable in the expressions of these attributes the context's number for its name, or
 /// the environment's in an `env`, else the bindings' number, else none. Nothing else changes. Takes no

@@ -2,7 +2,7 @@ use Rattle.std.proofs.Common.{rules, ◌≡◌, ◌∙◌, None, Some}
 use Rattle.std.specs.String.{string_bytes}
 use Rattle.std.proofs.lemmas.Result.{err_from_is_err_and}
 use Rattle.just_text.specs.Tokens.{lexeme}
-use Rattle.meaning_bodies.proofs.Performing.{performs_memory}
+use Rattle.laws_evaluation.proofs.Bodies.Performing.{performs_memory}
 use Rattle.analyze_calls.specs.Confirming.{confirming, usual_prompt}
 use Rattle.analyze_calls.proofs.confirm.ask_usual.Goals as goal
 

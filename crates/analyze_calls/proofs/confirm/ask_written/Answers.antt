@@ -3,7 +3,7 @@ use Rattle.std.specs.String.{string_bytes}
 use Rattle.std.proofs.lemmas.Result.{err_from_is_err_and}
 use Rattle.just_text.specs.Tokens.{lexeme}
 use Rattle.evaluate_expressions.specs.Situations.{reading_at, stage_at}
-use Rattle.meaning_bodies.proofs.Performing.{stays_worked}
+use Rattle.laws_evaluation.proofs.Bodies.Performing.{stays_worked}
 use Rattle.analyze_calls.proofs.Asking.{asked_then, asked_none}
 use Rattle.analyze_calls.proofs.confirm.ask_written.Goals as goal
 

@@ -2,7 +2,7 @@ use Rattle.std.proofs.Common.{rules, ◌≡◌, None, Ok, Some}
 use Rattle.tree_attributes.specs.declared.attribute.AttributeKind.TheVariants.{Confirm}
 use Rattle.evaluate_expressions.specs.Situations.{reading_at, stage_at}
 use Rattle.justfile_evaluator.specs.Sites.{attribute_in}
-use Rattle.meaning_bodies.proofs.Performing.{performs_ends}
+use Rattle.laws_evaluation.proofs.Bodies.Performing.{performs_ends}
 use Rattle.analyze_calls.specs.Confirming.{prompt_in}
 use Rattle.analyze_calls.proofs.confirm.confirm.Goals as goal
 

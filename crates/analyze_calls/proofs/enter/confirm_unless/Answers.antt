@@ -1,6 +1,6 @@
 use Rattle.std.proofs.Common.{rules, ◌≡◌, Ok, true}
 use Rattle.evaluate_expressions.specs.Situations.{reading_at}
-use Rattle.meaning_bodies.proofs.Performing.{performs_ends}
+use Rattle.laws_evaluation.proofs.Bodies.Performing.{performs_ends}
 use Rattle.analyze_calls.proofs.enter.confirm_unless.Goals as goal
 
 pub returns-then-config-clause-performs : goal.returns-then-config-clause-performs

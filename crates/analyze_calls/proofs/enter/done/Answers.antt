@@ -1,8 +1,8 @@
 use Rattle.std.proofs.Common.{rules, ◌≡◌, ◌∙◌, ap}
 use Rattle.std.proofs.lemmas.Result.{err_from_is_err_and}
 use Rattle.evaluate_variables.specs.Given.{stage_with}
-use Rattle.meaning_bodies.proofs.Performing.{stays_asked}
-use Rattle.meaning_parameters.specs.Bindings.{run_reading}
+use Rattle.laws_evaluation.proofs.Bodies.Performing.{stays_asked}
+use Rattle.meaning_evaluation.specs.Parameters.Bindings.{run_reading}
 use Rattle.justfile_evaluator.proofs.Silence.{evaluation_told}
 use Rattle.analyze_calls.specs.Entered.{entered_of}
 use Rattle.analyze_calls.proofs.Around.{body_begins, body_brings, body_refuses, body_stops, tail_begins}

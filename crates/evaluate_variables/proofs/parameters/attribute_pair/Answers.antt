@@ -1,6 +1,6 @@
 use Rattle.std.proofs.Common.{◌≡◌, rules}
 use Rattle.evaluate_expressions.specs.Situations.{reading_at, stage_at}
-use Rattle.meaning_parameters.proofs.Pairs.{attribute_env, attribute_other}
+use Rattle.meaning_evaluation.proofs.Parameters.Pairs.{attribute_env, attribute_other}
 use Rattle.evaluate_variables.specs.Given.{reading_for, stage_for}
 use Rattle.evaluate_variables.proofs.parameters.attribute_pair.Goals as goal
 

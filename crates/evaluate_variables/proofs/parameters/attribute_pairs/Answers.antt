@@ -1,8 +1,8 @@
 use Rattle.std.proofs.Common.{rules, ◌≡◌, ◌∷◌, [], List, length, refl}
 use Rattle.std.proofs.lemmas.Result.{err_from_is_err_and}
 use Rattle.std.specs.Slice.Iter.{iter_rest}
-use Rattle.tree_attribute_sets.specs.Sets.{items_of}
-use Rattle.meaning_parameters.proofs.Pairs.{pairs_end, pairs_memory, pairs_stop, pairs_more, pairs_passed}
+use Rattle.tree_attributes.specs.Sets.Sets.{items_of}
+use Rattle.meaning_evaluation.proofs.Parameters.Pairs.{pairs_end, pairs_memory, pairs_stop, pairs_more, pairs_passed}
 use Rattle.evaluate_variables.specs.Given.{reading_for, stage_for}
 use Rattle.evaluate_variables.proofs.parameters.attribute_pairs.Goals as goal
 

@@ -1,8 +1,8 @@
 -- What was asked so far, and what the attributes that are left give after these pairs.
 use Rattle.std.specs.Slice.Iter.{iter_rest}
-use Rattle.tree_attribute_sets.specs.Sets.{items_of}
+use Rattle.tree_attributes.specs.Sets.Sets.{items_of}
 use Rattle.just_host.specs.Kinds.{AsksQuestions}
-use Rattle.meaning_parameters.proofs.Pairs.{LeadsPairs}
+use Rattle.meaning_evaluation.proofs.Parameters.Pairs.{LeadsPairs}
 use Rattle.evaluate_variables.specs.Given.{reading_for, stage_for}
 use Rattle.evaluate_variables.proofs.parameters.attribute_pairs.Given as goal
 

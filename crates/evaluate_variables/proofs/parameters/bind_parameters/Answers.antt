@@ -6,8 +6,8 @@ use Rattle.std.specs.List.{All, Contains}
 use Rattle.std.specs.Slice.Iter.{iter_rest}
 use Rattle.just_text.specs.Tokens.{lexeme}
 use Rattle.just_value.specs.Frames.{value_binding}
-use Rattle.meaning_stages.specs.Parameters.{bound_value, formal_of}
-use Rattle.meaning_parameters.proofs.Parameters.{binds_first, binds_memory, binds_more, binds_stop, binds_refused, binds_end, none_left}
+use Rattle.meaning_evaluation.specs.Stages.Parameters.{bound_value, formal_of}
+use Rattle.meaning_evaluation.proofs.Parameters.Parameters.{binds_first, binds_memory, binds_more, binds_stop, binds_refused, binds_end, none_left}
 use Rattle.evaluate_variables.specs.Given.{AreCounted, lists_of, stage_for}
 use Rattle.evaluate_variables.proofs.Rows.{more_rows, no_rows}
 use Rattle.evaluate_variables.proofs.SameStage.{same_stage}

@@ -8,8 +8,8 @@ use Rattle.just_text.specs.Tokens.{lexeme}
 use Rattle.tree_items.specs.declared.recipe.Parameter.{Parameter}
 use Rattle.just_host.specs.Kinds.{AsksQuestions}
 use Rattle.meaning_dialogues.specs.Calls.{HasValues, empty}
-use Rattle.meaning_stages.specs.Parameters.{Formal, formal_of}
-use Rattle.meaning_parameters.proofs.Parameters.{BindsParameters}
+use Rattle.meaning_evaluation.specs.Stages.Parameters.{Formal, formal_of}
+use Rattle.meaning_evaluation.proofs.Parameters.Parameters.{BindsParameters}
 use Rattle.evaluate_variables.specs.Given.{AreCounted, HasRowsOf, lists_of, stage_for}
 use Rattle.evaluate_variables.proofs.parameters.bind_parameters.Given as goal
 

@@ -3,12 +3,12 @@ use Rattle.std.proofs.lemmas.List.{length-map}
 use Rattle.std.proofs.lemmas.Result.{err_from_is_err_and}
 use Rattle.just_text.specs.Tokens.{lexeme}
 use Rattle.just_host.specs.declared.job.Pair.{Pair}
-use Rattle.tree_attribute_sets.specs.Sets.{items_of}
+use Rattle.tree_attributes.specs.Sets.Sets.{items_of}
 use Rattle.evaluate_context.specs.Refusals.{fault_of}
 use Rattle.meaning_dialogues.specs.Calls.{reading_in_frames}
-use Rattle.meaning_stages.specs.Parameters.{formal_of}
-use Rattle.meaning_parameters.specs.Bindings.{env_terms}
-use Rattle.meaning_parameters.proofs.Whole.{bound_pairs_stop, bound_uncounted, bound_values_stop, bound_gives}
+use Rattle.meaning_evaluation.specs.Stages.Parameters.{formal_of}
+use Rattle.meaning_evaluation.specs.Parameters.Bindings.{env_terms}
+use Rattle.meaning_evaluation.proofs.Parameters.Whole.{bound_pairs_stop, bound_uncounted, bound_values_stop, bound_gives}
 use Rattle.evaluate_variables.specs.Given.{AreCounted, passes_in, stage_with}
 use Rattle.evaluate_variables.proofs.parameters.bind_recipe.Goals as goal
 

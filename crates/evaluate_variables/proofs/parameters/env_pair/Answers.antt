@@ -2,7 +2,7 @@ use Rattle.std.proofs.Common.{rules, ◌≡◌, ◌≢◌, []}
 use Rattle.std.proofs.lemmas.Result.{err_from_is_err_and}
 use Rattle.evaluate_expressions.specs.Situations.{reading_at, stage_at}
 use Rattle.meaning_dialogues.specs.Terms.{term_of}
-use Rattle.meaning_parameters.proofs.Pairs.{pair_key_stops, pair_value_stops, pair_memory, pair_none, pair_some}
+use Rattle.meaning_evaluation.proofs.Parameters.Pairs.{pair_key_stops, pair_value_stops, pair_memory, pair_none, pair_some}
 use Rattle.evaluate_variables.proofs.parameters.env_pair.Goals as goal
 
 pub returns-in_err-value-clause-evaluates : goal.returns-in_err-value-clause-evaluates

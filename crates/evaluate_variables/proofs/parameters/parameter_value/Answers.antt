@@ -1,6 +1,6 @@
 use Rattle.std.proofs.Common.{rules, ◌≡◌, ◌≢◌, []}
 use Rattle.just_text.specs.Tokens.{lexeme}
-use Rattle.meaning_stages.specs.Parameters.{formal_of}
+use Rattle.meaning_evaluation.specs.Stages.Parameters.{formal_of}
 use Rattle.evaluate_context.specs.Refusals.{seen}
 use Rattle.evaluate_variables.proofs.Given.{parameter_none, parameter_some}
 use Rattle.evaluate_variables.proofs.parameters.parameter_value.Goals as goal

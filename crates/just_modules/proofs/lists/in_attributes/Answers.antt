@@ -1,7 +1,7 @@
 -- The first use is that of this one, or stands further on.
 use Rattle.std.proofs.Common.{rules}
 use Rattle.std.specs.Slice.Iter.{iter_rest}
-use Rattle.tree_attribute_sets.specs.Sets.{items_of}
+use Rattle.tree_attributes.specs.Sets.Sets.{items_of}
 use Rattle.just_modules.specs.Lists.{in_attribute_item}
 use Rattle.just_modules.proofs.Features.{rest_goes_on}
 use Rattle.just_modules.proofs.lists.in_attributes.Goals as goal

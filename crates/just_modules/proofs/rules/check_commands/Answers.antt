@@ -1,6 +1,6 @@
 -- The lines of the body are those of the recipe.
 use Rattle.std.proofs.Common.{sym, ap, ◌∙◌}
-use Rattle.tree_attribute_sets.specs.Sets.{shapes_in}
+use Rattle.tree_attributes.specs.Sets.Sets.{shapes_in}
 use Rattle.tree_items.specs.Recipes.{body_shape, recipe_shape}
 use Rattle.meaning_rules.specs.Rules.{syntax}
 use Rattle.just_modules.proofs.Outcomes.{ok_gives, err_gives}

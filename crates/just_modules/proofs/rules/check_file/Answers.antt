@@ -1,7 +1,7 @@
 -- The items are those of the file.
 use Rattle.std.proofs.Common.{◌≡◌, subst}
 use Rattle.std.specs.Prelude.{OnOk, IfErr}
-use Rattle.meaning_worlds.specs.Given.{World}
+use Rattle.meaning_rules.specs.Worlds.Given.{World}
 use Rattle.meaning_rules.specs.Rules.{Rule}
 use Rattle.just_modules.specs.ItemRules.{BreaksItems}
 use Rattle.meaning_rules.specs.Told.{IsNamedBy}

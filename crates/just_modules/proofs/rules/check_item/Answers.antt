@@ -1,7 +1,7 @@
 -- An item that is there breaks what is named.
 use Rattle.std.proofs.Common.{sym, ap, ◌∙◌}
 use Rattle.tree_items.specs.Files.{item_shape}
-use Rattle.meaning_worlds.specs.Sources.{is_enabled}
+use Rattle.meaning_rules.specs.Worlds.Sources.{is_enabled}
 use Rattle.just_modules.specs.ItemRules.{there}
 use Rattle.just_modules.proofs.Outcomes.{err_gives}
 use Rattle.just_modules.proofs.rules.check_item.Goals as goal

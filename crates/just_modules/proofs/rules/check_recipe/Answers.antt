@@ -1,5 +1,5 @@
 -- No line, no attribute and no two things break a rule.
-use Rattle.tree_attribute_sets.specs.Sets.{shapes_in}
+use Rattle.tree_attributes.specs.Sets.Sets.{shapes_in}
 use Rattle.tree_items.specs.Recipes.{recipe_shape}
 use Rattle.just_modules.proofs.Outcomes.{both_give}
 use Rattle.just_modules.proofs.Recipes.{recipe_is_clear}

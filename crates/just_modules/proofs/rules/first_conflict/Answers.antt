@@ -1,6 +1,6 @@
 -- The first two, or that there are none.
 use Rattle.std.proofs.Common.{sym, ◌∙◌}
-use Rattle.tree_attribute_sets.specs.Sets.{shapes_in}
+use Rattle.tree_attributes.specs.Sets.Sets.{shapes_in}
 use Rattle.tree_items.specs.Recipes.{recipe_shape}
 use Rattle.just_modules.proofs.Recipes.{none_exclude, folders_exclude, scripts_exclude, messages_exclude}
 use Rattle.just_modules.proofs.rules.first_conflict.Goals as goal

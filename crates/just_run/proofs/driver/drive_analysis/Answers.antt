@@ -1,12 +1,12 @@
 use Rattle.std.proofs.Common.{◌∙◌, Err, ap, refl, subst}
 use Rattle.std.proofs.lemmas.Result.{err_from_is_err_and}
 use Rattle.just_run.specs.Sources.{broken, clear}
-use Rattle.run_requests.specs.Requests.{IsFor}
-use Rattle.run_requests.specs.Asked.{IsAskedFor}
-use Rattle.run_requests.specs.Words.{BreaksPlaced}
-use Rattle.run_requests.proofs.Asked.{asked_means}
+use Rattle.run_tasks.specs.Requested.Requests.{IsFor}
+use Rattle.run_tasks.specs.Requested.Asked.{IsAskedFor}
+use Rattle.run_tasks.specs.Requested.Words.{BreaksPlaced}
+use Rattle.run_tasks.proofs.Requested.Asked.{asked_means}
 use Rattle.just_run.proofs.Early.{late_are_unruled, planned_is_unruled}
-use Rattle.run_requests.specs.declared.request.Request.TheVariants as requests
+use Rattle.run_tasks.specs.declared.request.Request.TheVariants as requests
 use Rattle.just_run.proofs.Added.{for_task, questions_asked}
 use Rattle.just_run.specs.Ran.{does, plans, tells}
 use Rattle.just_run.proofs.driver.drive_analysis.Goals as goal

@@ -1,6 +1,6 @@
 -- The variables have their numbers, or memory ran out.
 use Rattle.std.proofs.Common.{Err, ap}
-use Rattle.meaning_reading.proofs.Carried.{numbered_world}
+use Rattle.laws_names.proofs.Reading.Carried.{numbered_world}
 use Rattle.just_resolve.specs.declared.error.Error.TheVariants.{OutOfMemory}
 use Rattle.just_run.specs.Sources.{broken}
 use Rattle.just_run.proofs.driver.drive_compilation.Goals as goal

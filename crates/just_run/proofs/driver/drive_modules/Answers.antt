@@ -1,9 +1,9 @@
 use Rattle.std.proofs.Common.{Err, ap, subst}
 use Rattle.std.specs.String.{string_bytes}
-use Rattle.meaning_overriding.specs.Texts.{overrides_of}
+use Rattle.meaning_rules.specs.Overrides.{overrides_of}
 use Rattle.just_resolve.specs.Analysis.{IsAnalysis}
 use Rattle.just_resolve.specs.Rules.{BreaksNone, IsNamed}
-use Rattle.meaning_defined.proofs.Defined.{analyses_are_defined}
+use Rattle.laws_runs.proofs.Defined.Defined.{analyses_are_defined}
 use Rattle.just_run.specs.Named.{left_of}
 use Rattle.just_run.specs.Passed.{name_fault}
 use Rattle.just_run.specs.Sources.{asked_of, broken, clear}

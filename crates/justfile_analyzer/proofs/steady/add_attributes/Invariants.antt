@@ -2,7 +2,7 @@
 use Rattle.std.proofs.Common.{◌≡◌, ◌++◌}
 use Rattle.std.specs.List.{flat_map}
 use Rattle.std.specs.Slice.Iter.{iter_rest}
-use Rattle.tree_attribute_sets.specs.Sets.{items_of}
+use Rattle.tree_attributes.specs.Sets.Sets.{items_of}
 use Rattle.resolve_references.specs.References.{references_of}
 use Rattle.justfile_analyzer.specs.Steady.{first_of_item}
 use Rattle.justfile_analyzer.proofs.steady.add_attributes.Given as goal

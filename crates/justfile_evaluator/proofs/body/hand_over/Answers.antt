@@ -2,7 +2,7 @@ use Rattle.std.proofs.Common.{ap, refl}
 use Rattle.std.proofs.lemmas.Result.{err_from_is_err_and}
 use Rattle.just_host.specs.KindsLaws.{line_asked}
 use Rattle.justfile_evaluator.specs.declared.body.Command.{Command}
-use Rattle.meaning_bodies.proofs.Performing.{performs_memory}
+use Rattle.laws_evaluation.proofs.Bodies.Performing.{performs_memory}
 use Rattle.justfile_evaluator.specs.Turns.{handed}
 use Rattle.justfile_evaluator.proofs.Lines.{hands_over}
 use Rattle.justfile_evaluator.proofs.body.hand_over.Goals as goal

@@ -1,5 +1,5 @@
 use Rattle.std.proofs.Common.{sym}
-use Rattle.meaning_bodies.proofs.Body.{body_script, body_lines}
+use Rattle.laws_evaluation.proofs.Bodies.Body.{body_script, body_lines}
 use Rattle.justfile_evaluator.proofs.body.run_body.Goals as goal
 
 pub returns-then-site-clause-performs : goal.returns-then-site-clause-performs

@@ -1,5 +1,5 @@
 use Rattle.std.proofs.Common.{rules, ◌≡◌, ◌==◌, false, true, length, sym, ◌∙◌}
-use Rattle.meaning_bodies.proofs.Performing.{stays_worked}
+use Rattle.laws_evaluation.proofs.Bodies.Performing.{stays_worked}
 use Rattle.justfile_evaluator.proofs.Lines.{runs_nothing, runs_handed, runs_dry}
 use Rattle.justfile_evaluator.proofs.body.run_line.Goals as goal
 

@@ -1,7 +1,7 @@
 use Rattle.std.proofs.Common.{Ok, Err, rules, ◌≡◌, ◌+◌, ◌∷◌, ◌<◌, ◌≤◌, drop, false, get_or, length, map, refl, true, arith, subst, List}
 use Rattle.std.proofs.lemmas.Result.{err_from_is_err_and}
 use Rattle.tree_items.specs.Lines.{pieces_of, Piece}
-use Rattle.meaning_bodies.proofs.Performing.{stays_worked}
+use Rattle.laws_evaluation.proofs.Bodies.Performing.{stays_worked}
 use Rattle.justfile_evaluator.specs.Bodies.{MeansLine, NamedBody}
 use Rattle.justfile_evaluator.specs.Turns.{GoesOn}
 use Rattle.justfile_evaluator.proofs.Lines.{at_line, no_line, line_means, begins, ends_closed, ends_open, turned_false, turned_true}

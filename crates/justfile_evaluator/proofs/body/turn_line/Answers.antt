@@ -1,7 +1,7 @@
 use Rattle.std.proofs.Common.{rules, ◌≡◌, false, true}
 use Rattle.std.proofs.lemmas.Result.{err_from_is_err_and}
 use Rattle.tree_items.specs.Lines.{pieces_of}
-use Rattle.meaning_bodies.proofs.Performing.{stays_asked, stays_worked}
+use Rattle.laws_evaluation.proofs.Bodies.Performing.{stays_asked, stays_worked}
 use Rattle.justfile_evaluator.specs.Turns.{is_left_out}
 use Rattle.justfile_evaluator.proofs.Lines.{passes, stops_at, opens, runs_to}
 use Rattle.justfile_evaluator.proofs.Silence.{evaluation_told}

@@ -1,7 +1,7 @@
 use Rattle.std.proofs.Common.{rules, ◌≡◌, ◌<◌, [], get_or, length, map, arith}
 use Rattle.std.proofs.lemmas.Result.{err_from_is_err_and}
 use Rattle.std.specs.String.{string_bytes}
-use Rattle.meaning_stages.specs.Lines.{line_dialogue, piece_of}
+use Rattle.meaning_evaluation.specs.Stages.Lines.{line_dialogue, piece_of}
 use Rattle.evaluate_expressions.specs.Situations.{stage_at, reading_at}
 use Rattle.justfile_evaluator.proofs.LineParts.{parts_more, parts_stop, parts_memory, parts_end}
 use Rattle.justfile_evaluator.proofs.line.line_text.Goals as goal

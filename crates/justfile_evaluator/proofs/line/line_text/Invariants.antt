@@ -3,7 +3,7 @@ use Rattle.std.proofs.Common.{drop, map, []}
 use Rattle.std.specs.String.{string_bytes}
 use Rattle.just_host.specs.Kinds.{AsksQuestions}
 use Rattle.meaning_dialogues.proofs.Rows.{Fills}
-use Rattle.meaning_stages.specs.Lines.{line_dialogue, piece_of}
+use Rattle.meaning_evaluation.specs.Stages.Lines.{line_dialogue, piece_of}
 use Rattle.evaluate_expressions.specs.Situations.{stage_at, reading_at}
 use Rattle.justfile_evaluator.proofs.line.line_text.Given as goal
 

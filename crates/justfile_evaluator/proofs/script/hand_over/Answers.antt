@@ -3,7 +3,7 @@ use Rattle.std.proofs.lemmas.Result.{err_from_is_err_and}
 use Rattle.just_host.specs.KindsLaws.{script_asked}
 use Rattle.meaning_dialogues.specs.Faults.{memory}
 use Rattle.evaluate_expressions.proofs.WantOfMemory.{unless_memory}
-use Rattle.meaning_bodies.proofs.Scripts.{script_unnamed, script_given}
+use Rattle.laws_evaluation.proofs.Bodies.Scripts.{script_unnamed, script_given}
 use Rattle.justfile_evaluator.proofs.Scripts.{job_by_name}
 use Rattle.justfile_evaluator.proofs.Silence.{evaluation_told}
 use Rattle.justfile_evaluator.proofs.script.hand_over.Goals as goal

@@ -2,10 +2,10 @@ use Rattle.std.proofs.Common.{rules, ◌≡◌, true, false, refl, sym, ◌∙�
 use Rattle.std.proofs.lemmas.Result.{err_from_is_err_and}
 use Rattle.meaning_dialogues.specs.Faults.{memory}
 use Rattle.evaluate_expressions.proofs.WantOfMemory.{unless_memory}
-use Rattle.meaning_bodies.proofs.Performing.{stays_worked}
-use Rattle.meaning_bodies.proofs.Scripts.{script_stop, script_dry}
-use Rattle.meaning_bodies.proofs.Shebangs.{texts_shebang}
-use Rattle.meaning_bodies.specs.Performing.{Performs}
+use Rattle.laws_evaluation.proofs.Bodies.Performing.{stays_worked}
+use Rattle.laws_evaluation.proofs.Bodies.Scripts.{script_stop, script_dry}
+use Rattle.laws_evaluation.proofs.Bodies.Shebangs.{texts_shebang}
+use Rattle.laws_evaluation.specs.Bodies.Performing.{Performs}
 use Rattle.justfile_evaluator.specs.Ended.{ended}
 use Rattle.justfile_evaluator.specs.Scripts.{handed_of}
 use Rattle.justfile_evaluator.proofs.Scripts.{script_then}

@@ -2,8 +2,8 @@
 use Rattle.std.proofs.Common.{◌≡◌, refl, subst}
 use Rattle.std.specs.Prelude.{IfOk}
 use Rattle.std.proofs.lemmas.Result.{err_from_is_err_and}
-use Rattle.tree_attribute_sets.specs.Order.{in_order}
-use Rattle.tree_attribute_sets.specs.Sets.{shapes_in}
+use Rattle.tree_attributes.specs.Sets.Order.{in_order}
+use Rattle.tree_attributes.specs.Sets.Sets.{shapes_in}
 use Rattle.parse_expressions.proofs.Together.{both_given}
 use Rattle.parse_attributes.specs.Seen.{read_shapes}
 use Rattle.parse_attributed_items.specs.Fitting.{known}

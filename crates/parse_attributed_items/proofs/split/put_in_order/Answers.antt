@@ -2,8 +2,8 @@
 use Rattle.std.proofs.Common.{◌≡◌, map, ap, ◌∙◌, subst}
 use Rattle.std.specs.Prelude.{IfOk}
 use Rattle.std.specs.Ordering.{on}
-use Rattle.tree_attribute_sets.specs.Order.{in_order, is_before, item_shape, items_in_order}
-use Rattle.tree_attribute_sets.specs.Sets.{items_of, shapes_in}
+use Rattle.tree_attributes.specs.Sets.Order.{in_order, is_before, item_shape, items_in_order}
+use Rattle.tree_attributes.specs.Sets.Sets.{items_of, shapes_in}
 use Rattle.parse_expressions.proofs.Together.{both_given}
 use Rattle.parse_attributed_items.specs.Held.{IsWholeAttribute}
 use Rattle.parse_attributed_items.proofs.Ordered.{all_sorted, shapes_in_order}

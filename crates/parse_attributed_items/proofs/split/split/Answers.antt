@@ -1,7 +1,7 @@
 -- Each turn takes an attribute.
 use Rattle.std.proofs.Common.{◌≡◌, ◌+◌, suc, List, ◌∷◌, ◌++◌, length, map, ap, subst, arith}
 use Rattle.std.specs.Vec.Iter.{into_iter_items, into_iter_len}
-use Rattle.tree_attribute_sets.specs.Order.{item_shape}
+use Rattle.tree_attributes.specs.Sets.Order.{item_shape}
 use Rattle.parse_expressions.specs.Literals.{Origin}
 use Rattle.parse_attributes.specs.declared.attribute.AttributeRead.{AttributeRead}
 use Rattle.parse_attributes.specs.Seen.{AreWholeReads, IsWholeRead, read_shapes}

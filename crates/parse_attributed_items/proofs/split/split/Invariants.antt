@@ -1,7 +1,7 @@
 -- The attributes that were taken, and those that are still to be taken.
 use Rattle.std.proofs.Common.{◌≡◌, ◌++◌, length, map}
 use Rattle.std.specs.Vec.Iter.{into_iter_items, into_iter_len}
-use Rattle.tree_attribute_sets.specs.Order.{item_shape}
+use Rattle.tree_attributes.specs.Sets.Order.{item_shape}
 use Rattle.parse_expressions.specs.Literals.{Origin}
 use Rattle.parse_attributes.specs.Seen.{AreWholeReads, read_shapes}
 use Rattle.parse_attributed_items.specs.Fitting.{known}

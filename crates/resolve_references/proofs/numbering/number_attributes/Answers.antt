@@ -1,5 +1,5 @@
 -- Attributes that are numbered are written as before, and have the numbers of what they see.
-use Rattle.tree_attribute_sets.specs.Sets.{items_of}
+use Rattle.tree_attributes.specs.Sets.Sets.{items_of}
 use Rattle.resolve_references.proofs.Saying.{attributes_say}
 use Rattle.resolve_references.proofs.Seeing.{attributes_numbered}
 use Rattle.resolve_references.proofs.Whole.{attributes_seen, shapes_from_written}

@@ -12,7 +12,7 @@ use Rattle.evaluate_expressions.specs.Situations.{stage_at, reading_at}
 use Rattle.std.specs.String.{string_bytes}
 use Rattle.meaning_dialogues.specs.Dialogue.{Evaluates}
 use Rattle.evaluate_expressions.specs.Failures.{seen_above}
-use Rattle.meaning_stages.specs.Stages.{defined_of}
+use Rattle.meaning_evaluation.specs.Stages.Stages.{defined_of}
 use Rattle.evaluate_expressions.proofs.Calling.{call_in_run, call_refused, call_too_many, call_unmade}
 use Rattle.just_text.specs.Tokens.{lexeme}
 use Rattle.evaluate_functions.specs.Names.{function_of}

@@ -1,5 +1,5 @@
 use Rattle.std.proofs.Common.{◌≡◌, sym, subst}
-use Rattle.meaning_soundness.specs.Endings.{NotInternal}
+use Rattle.laws_evaluation.specs.Soundness.Endings.{NotInternal}
 use Rattle.meaning_dialogues.specs.Terms.{term_of}
 use Rattle.evaluate_expressions.proofs.Known.{value_known}
 use Rattle.evaluate_expressions.proofs.evaluator.Evaluator.evaluate_value.Goals as goal

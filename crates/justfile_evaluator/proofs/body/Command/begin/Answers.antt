@@ -1,4 +1,4 @@
-use Rattle.meaning_bodies.proofs.Read.{first_read}
+use Rattle.laws_evaluation.proofs.Bodies.Read.{first_read}
 use Rattle.justfile_evaluator.proofs.body.Command.begin.Goals as goal
 
 pub returns-clause-marks : goal.returns-clause-marks

@@ -2,7 +2,7 @@ use Rattle.std.proofs.Common.{length, subst, ap, arith}
 use Rattle.std.specs.Str.{IsUtf8}
 use Rattle.std.specs.String.{string_bytes}
 use Rattle.tree_items.specs.Lines.{sigil_count}
-use Rattle.meaning_bodies.proofs.Cutting.{marked_cut}
+use Rattle.laws_evaluation.proofs.Bodies.Cutting.{marked_cut}
 use Rattle.justfile_evaluator.proofs.body.Command.behind_sigils.Goals.{else-count-text-via-then-count-text+else-is_char_boundary, else-count-text-via-else-count-text}
 use Rattle.justfile_evaluator.proofs.body.Command.behind_sigils.Goals as goal
 

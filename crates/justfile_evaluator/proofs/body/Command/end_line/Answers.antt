@@ -1,7 +1,7 @@
 use Rattle.std.proofs.Common.{rules, ◌≡◌, ℕ, false, true, length, refl, arith}
 use Rattle.std.specs.String.{string_bytes, string_len}
 use Rattle.tree_items.specs.Lines.{pieces_of}
-use Rattle.meaning_calls.specs.Bodies.{goes_on_below}
+use Rattle.meaning_evaluation.specs.Bodies.{goes_on_below}
 use Rattle.justfile_evaluator.proofs.Cut.{slash_cut}
 use Rattle.justfile_evaluator.proofs.body.Command.end_line.Goals as goal
 

@@ -1,0 +1,5 @@
+use Rattle.laws_agreement.proofs.Known.Known as laws
+use Rattle.laws_agreement.proofs.law.known.defined_are_known.Goals as goal
+
+pub returns : goal.returns
+returns c = laws.defined_are_known

@@ -1,0 +1,4 @@
+pub mod Bodies
+pub mod Opening
+pub mod Soundness
+pub mod Terms

@@ -1,0 +1,5 @@
+//! Laws, by what they are about.
+pub mod bodies;
+pub mod opening;
+pub mod soundness;
+pub mod terms;

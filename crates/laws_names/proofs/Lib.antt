@@ -1,0 +1,4 @@
+pub mod Constants
+pub mod Depending
+pub mod Overriding
+pub mod Reading

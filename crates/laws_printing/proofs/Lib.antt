@@ -1,0 +1,5 @@
+pub mod Distinct
+pub mod Formatted
+pub mod Formatting
+pub mod Printing
+pub mod Reformatted

@@ -1,0 +1,4 @@
+pub mod Distinct
+pub mod Formatted
+pub mod Formatting
+pub mod Printing

@@ -1,0 +1,3 @@
+pub mod Worded
+pub mod Calls
+pub mod Defined

@@ -1,0 +1,12 @@
+pub mod Alike
+pub mod ByName
+pub mod Defined
+pub mod Menus
+pub mod Paths
+pub mod Resolved
+pub mod Running
+pub mod Settings
+pub mod Steady
+pub mod Tables
+pub mod Views
+pub mod Words

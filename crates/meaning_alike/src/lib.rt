@@ -1,4 +1,0 @@
-//! Runs of calls under other names.
-#![tactic(auto)]
-
-pub mod law;

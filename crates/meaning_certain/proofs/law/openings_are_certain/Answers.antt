@@ -1,5 +1,0 @@
-use Rattle.meaning_certain.proofs.Runs as laws
-use Rattle.meaning_certain.proofs.law.openings_are_certain.Goals as goal
-
-pub returns : goal.returns
-returns c = laws.openings_are_certain

@@ -1,3 +1,0 @@
-mod Worded
-pub mod Calls
-pub mod Defined

@@ -1,5 +1,0 @@
-use Rattle.meaning_definitions.proofs.KeptDefinitions.{meant_are_kept}
-use Rattle.meaning_definitions.proofs.law.meant_are_kept.Goals as goal
-
-pub returns : goal.returns
-returns c w os files modules nodes k node ds kept found order keeps single kind name key at item h = meant_are_kept w os files modules nodes k node ds kept found order keeps single kind name key at item h

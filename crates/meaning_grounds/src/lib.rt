@@ -1,2 +1,0 @@
-//! Modules that are open by numbers and by names.
-#![tactic(auto)]

@@ -1,5 +1,0 @@
-use Rattle.meaning_names.proofs.Paths.{targets_are_meant}
-use Rattle.meaning_names.proofs.law.targets_are_meant.Goals as goal
-
-pub returns : goal.returns
-returns c = targets_are_meant

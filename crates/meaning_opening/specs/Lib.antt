@@ -1,6 +1,0 @@
-pub mod Opened
-pub mod Meant
-pub mod Requests
-pub mod Lazy
-pub mod Settled
-pub mod Alike

@@ -1,8 +1,0 @@
-use Rattle.meaning_printing.proofs.LinesLexed.{alias_lexed, interpolation_fits}
-use Rattle.meaning_printing.proofs.law.lines_lex_back.Goals as goal
-
-pub returns-clause-aliases : goal.returns-clause-aliases
-returns-clause-aliases c may to a after rest name target l = alias_lexed may to a after rest name target l
-
-pub returns-clause-interpolations : goal.returns-clause-interpolations
-returns-clause-interpolations c i e w = interpolation_fits i e w

@@ -1,7 +1,0 @@
-//! What is looked at of files is the same where some stand in their formatted text.
-ghost use Rattle.meaning_reformatted.specs.Reformatted.{ReformattedStandAlike};
-
-/// Where some files stand in their formatted text, a call stands for the same worlds.
-pub fn reformatted_files_stand_alike()
-    ensures { ReformattedStandAlike }
-{}

@@ -1,0 +1,11 @@
+pub mod Given
+pub mod Sources
+pub mod Standing
+pub mod Order
+pub mod Modules
+pub mod Keeping
+pub mod Docs
+pub mod Compiled
+pub mod Laws
+pub mod Views
+pub mod Reformatted

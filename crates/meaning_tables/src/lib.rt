@@ -1,4 +1,0 @@
-//! Recipes in their order: a law on what is known of a justfile.
-#![tactic(auto)]
-
-pub mod law;

@@ -1,4 +1,0 @@
-//! What is defined by name is one.
-#![tactic(auto)]
-
-pub mod law;

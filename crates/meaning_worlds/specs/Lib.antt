@@ -1,9 +1,0 @@
-pub mod Given
-pub mod Sources
-pub mod Standing
-pub mod Order
-pub mod Modules
-pub mod Keeping
-pub mod Docs
-pub mod Compiled
-pub mod Laws

@@ -1,6 +1,0 @@
--- The first recipes are planned.
-use Rattle.run_prepared.proofs.Planning.{PlannedSoFar}
-use Rattle.run_prepared.proofs.planned.plan.Given as goal
-
-abbrev pub invariant-loop-resolved : goal.invariant-loop-resolved
-invariant-loop-resolved l = PlannedSoFar l.compilation l.recipes l.resolved-index l.all.items

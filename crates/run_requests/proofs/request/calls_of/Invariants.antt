@@ -1,8 +1,0 @@
--- The calls so far.
-use Rattle.std.proofs.Common.{◌≡◌, map}
-use Rattle.analyze_calls.specs.Calls.{rows}
-use Rattle.run_requests.specs.Words.{called}
-use Rattle.run_requests.proofs.request.calls_of.Given as goal
-
-abbrev pub invariant-loop-invocation : goal.invariant-loop-invocation
-invariant-loop-invocation l = rows l.calls.items ≡ map called l.yielded
