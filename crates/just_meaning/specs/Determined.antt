@@ -17,3 +17,12 @@ pub data GoAlike {Rule : Type 0} (old new old' new' : List Entry) (t t' : Tally)
   both_refused : (fault fault' : OpeningFailure) → outcome ≡ not_opened fault → outcome' ≡ not_opened fault' → GoAlike old new old' new' t t' outcome outcome'
   both_ran : (piece piece' : List Entry) (failure : Option Failure) → new ≡ old ++ piece → new' ≡ old' ++ piece' → events_of is_event piece ≡ events_of is_event piece' → t ≡ t'
       → outcome ≡ outcome_of failure → outcome' ≡ outcome_of failure → GoAlike old new old' new' t t' outcome outcome'
+
+-- whatever faults kept two runs from getting past their opening, they go alike
+abbrev pub RefusedGoAlike : Type 0 → Type 0
+RefusedGoAlike Rule = (old new old' new' : List Entry) (t t' : Tally) (fault fault' : OpeningFailure) → GoAlike old new old' new' t t' (not_opened {Rule} fault) (not_opened {Rule} fault')
+
+-- two runs with the same events, as many calls and the same end go alike, whatever else they recorded
+abbrev pub EqualEventsGoAlike : Type 0 → Type 0
+EqualEventsGoAlike Rule = (old piece old' piece' : List Entry) (t : Tally) (failure : Option Failure) → events_of is_event piece ≡ events_of is_event piece'
+    → GoAlike old (old ++ piece) old' (old' ++ piece') t t (outcome_of {Rule} failure) (outcome_of {Rule} failure)

@@ -2,6 +2,7 @@
 ghost use Rattle.std.specs.Prelude.{◌≡◌};
 ghost use Rattle.just_meaning.specs.Actions.{command_task};
 ghost use Rattle.just_meaning.specs.Agreement.{AgreesRun};
+ghost use Rattle.just_meaning.specs.Determined.{EqualEventsGoAlike, RefusedGoAlike};
 ghost use Rattle.just_meaning.specs.Driving.{CallGoes};
 ghost use Rattle.just_meaning.specs.Meanings.{IsNaive};
 ghost use Rattle.just_meaning.specs.Menus.{menu_of};
@@ -19,3 +20,10 @@ pub fn law(number: u8) -> u8
 {
     number
 }
+
+/// Two runs that were refused in their opening go alike, and so do two with the same events, as many
+/// calls and the same end.
+pub fn runs_go_alike<Rule>()
+    ensures refused { RefusedGoAlike Rule }
+    ensures events { EqualEventsGoAlike Rule }
+{}

@@ -5,7 +5,12 @@ use Rattle.meaning_rules.specs.Naming.{occurrences, a_variable}
 use Rattle.meaning_dialogues.specs.Evaluation.{Value}
 use Rattle.meaning_dialogues.specs.Meaning.{Meaning}
 use Rattle.meaning_rules.specs.Constants.{Means, meant, said_by}
-use Rattle.std.specs.Prelude.{◌++◌, Bool, Contains, ◌≡◌, ℕ, false, List, Some, None, slice_get}
+use Rattle.std.specs.Prelude.{◌++◌, Bool, Contains, ◌≡◌, ℕ, false, List, ◌∷◌, Option, Some, None, slice_get}
+use Rattle.just_value.specs.declared.positional.Override.{Override}
+use Rattle.semver.specs.declared.Version.{Version}
+use Rattle.tree_items.specs.Files.{ItemShape, file_text}
+use Rattle.meaning_rules.specs.Overrides.{overrides_of}
+use Rattle.meaning_rules.specs.Worlds.Reformatted.{IsFormattedAt}
 use Rattle.meaning_rules.specs.Worlds.Given.{Text, World, Overrides}
 use Rattle.meaning_rules.specs.Worlds.Sources.{Reached}
 use Rattle.meaning_rules.specs.Worlds.Modules.{IsModule}
@@ -41,3 +46,12 @@ ModulesStandBelow = (w : World) (path names : List Text) (own key : Text) → Is
 -- what a recipe depends on stands in the module at the path that is told
 abbrev pub DependenciesStandBelow : Type 0
 DependenciesStandBelow = (w : World) (path path' : List Text) (name name' : Text) (d : DependsOn w path name path' name') → IsModule w path' d.leads.inner
+
+-- each override has the name and the text that a word gave
+abbrev pub OverridesAreAsGiven : Type 0
+OverridesAreAsGiven = (given : Override) (words : List Override) → overrides_of (given ∷ words) ≡ (given.name, given.value) ∷ overrides_of words
+
+-- where a file stands in its formatted text, that is the text of what its other text says
+abbrev pub FormattedTextsAreWritten : Type 0
+FormattedTextsAreWritten = (expansion : Expansion) (version : Version) (source other : Text → Option Text) (key : Text) → IsFormattedAt expansion version source other key
+    → (items : List ItemShape) × (indentation : Text) × (other key ≡ Some (file_text indentation items))
