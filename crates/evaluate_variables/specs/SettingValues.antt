@@ -3,7 +3,9 @@ use Rattle.std.specs.Prelude.{◌≡◌, ◌≢◌, ℕ, false, Bool, List, ◌�
 use Rattle.tree_expressions.specs.declared.expression.Expression.{Expression}
 use Rattle.tree_attributes.specs.declared.setting.Interpreter.{Interpreter}
 use Rattle.tree_attributes.specs.declared.setting.Setting.{Setting}
-use Rattle.tree_attributes.specs.declared.setting.Setting.TheVariants.{AllowDuplicateRecipes, AllowDuplicateVariables, DefaultList, DefaultScript, DotenvCommand, DotenvFilename, DotenvLoad, DotenvOverride, DotenvPath, DotenvRequired, Export, Fallback, Guards, IgnoreComments, Indentation, Lazy, Lists, MinimumVersion, NoCd, NoExitMessage, PositionalArguments, Quiet, ScriptInterpreter, ShareSubsequents, Shell, Tempdir, Unstable, WindowsPowershell, WindowsShell, WorkingDirectory}
+use Rattle.tree_attributes.specs.declared.setting.Setting.TheVariants.{DotenvCommand, DotenvFilename, DotenvPath, Indentation, MinimumVersion, ScriptInterpreter, Shell, Tempdir, Truth, WindowsShell, WorkingDirectory}
+use Rattle.tree_attributes.specs.declared.truth_setting.TruthSetting.{TruthSetting}
+use Rattle.tree_attributes.specs.declared.truth_setting.TruthSetting.TheVariants.{AllowDuplicateRecipes, AllowDuplicateVariables, DefaultList, DefaultScript, DotenvLoad, DotenvOverride, DotenvRequired, Export, Fallback, Guards, IgnoreComments, Lazy, Lists, NoCd, NoExitMessage, PositionalArguments, Quiet, ShareSubsequents, Unstable, WindowsPowershell}
 use Rattle.tree_attributes.specs.Sets.Indentations.{is_indentation}
 use Rattle.evaluate_context.specs.Refusals.{fault_of}
 use Rattle.evaluate_context.specs.declared.error.Error.{Error}
@@ -16,38 +18,28 @@ use Rattle.meaning_dialogues.specs.Evaluation.{Value, dialogue, dialogues, inter
 use Rattle.meaning_dialogues.specs.Faults.{Fault, memory, setting_of}
 use Rattle.meaning_dialogues.specs.Terms.{term_of, terms_of}
 
--- the settings with a truth value; another setting changes nothing
-abbrev pub with_truth : Setting → Settings → Settings
-with_truth (AllowDuplicateRecipes b) s = record s { allow_duplicate_recipes = b }
-with_truth (AllowDuplicateVariables b) s = record s { allow_duplicate_variables = b }
-with_truth (DefaultList b) s = record s { default_list = b }
-with_truth (DefaultScript b) s = record s { default_script = b }
-with_truth (DotenvLoad b) s = record s { dotenv_load = b }
-with_truth (DotenvOverride b) s = record s { dotenv_override = b }
-with_truth (DotenvRequired b) s = record s { dotenv_required = b }
-with_truth (Export b) s = record s { export = b }
-with_truth (Fallback b) s = record s { fallback = b }
-with_truth (Guards b) s = record s { guards = b }
-with_truth (IgnoreComments b) s = record s { ignore_comments = b }
-with_truth (Lazy b) s = record s { lazy = b }
-with_truth (Lists b) s = record s { lists = b }
-with_truth (NoCd b) s = record s { no_cd = b }
-with_truth (NoExitMessage b) s = record s { no_exit_message = b }
-with_truth (PositionalArguments b) s = record s { positional_arguments = b }
-with_truth (Quiet b) s = record s { quiet = b }
-with_truth (ShareSubsequents b) s = record s { share_subsequents = b }
-with_truth (Unstable b) s = record s { unstable = b }
-with_truth (WindowsPowershell b) s = record s { windows_powershell = b }
-with_truth (DotenvCommand x) s = s
-with_truth (DotenvFilename x) s = s
-with_truth (DotenvPath x) s = s
-with_truth (ScriptInterpreter x) s = s
-with_truth (Shell x) s = s
-with_truth (WindowsShell x) s = s
-with_truth (Tempdir x) s = s
-with_truth (WorkingDirectory x) s = s
-with_truth (Indentation x) s = s
-with_truth (MinimumVersion x) s = s
+-- the settings with a truth value
+abbrev pub with_truth : TruthSetting → Bool → Settings → Settings
+with_truth AllowDuplicateRecipes b s = record s { allow_duplicate_recipes = b }
+with_truth AllowDuplicateVariables b s = record s { allow_duplicate_variables = b }
+with_truth DefaultList b s = record s { default_list = b }
+with_truth DefaultScript b s = record s { default_script = b }
+with_truth DotenvLoad b s = record s { dotenv_load = b }
+with_truth DotenvOverride b s = record s { dotenv_override = b }
+with_truth DotenvRequired b s = record s { dotenv_required = b }
+with_truth Export b s = record s { export = b }
+with_truth Fallback b s = record s { fallback = b }
+with_truth Guards b s = record s { guards = b }
+with_truth IgnoreComments b s = record s { ignore_comments = b }
+with_truth Lazy b s = record s { lazy = b }
+with_truth Lists b s = record s { lists = b }
+with_truth NoCd b s = record s { no_cd = b }
+with_truth NoExitMessage b s = record s { no_exit_message = b }
+with_truth PositionalArguments b s = record s { positional_arguments = b }
+with_truth Quiet b s = record s { quiet = b }
+with_truth ShareSubsequents b s = record s { share_subsequents = b }
+with_truth Unstable b s = record s { unstable = b }
+with_truth WindowsPowershell b s = record s { windows_powershell = b }
 
 module _ (reading : Reading) (lists : Bool) where
   -- what an expression settles to
@@ -69,26 +61,7 @@ module _ (reading : Reading) (lists : Bool) (name : List ℕ) where
 
   -- the new settings are the old ones with what the item says
   abbrev pub IsSet : Setting → Settings → Settings → Type 0
-  IsSet (AllowDuplicateRecipes b) old new = new ≡ record old { allow_duplicate_recipes = b }
-  IsSet (AllowDuplicateVariables b) old new = new ≡ record old { allow_duplicate_variables = b }
-  IsSet (DefaultList b) old new = new ≡ record old { default_list = b }
-  IsSet (DefaultScript b) old new = new ≡ record old { default_script = b }
-  IsSet (DotenvLoad b) old new = new ≡ record old { dotenv_load = b }
-  IsSet (DotenvOverride b) old new = new ≡ record old { dotenv_override = b }
-  IsSet (DotenvRequired b) old new = new ≡ record old { dotenv_required = b }
-  IsSet (Export b) old new = new ≡ record old { export = b }
-  IsSet (Fallback b) old new = new ≡ record old { fallback = b }
-  IsSet (Guards b) old new = new ≡ record old { guards = b }
-  IsSet (IgnoreComments b) old new = new ≡ record old { ignore_comments = b }
-  IsSet (Lazy b) old new = new ≡ record old { lazy = b }
-  IsSet (Lists b) old new = new ≡ record old { lists = b }
-  IsSet (NoCd b) old new = new ≡ record old { no_cd = b }
-  IsSet (NoExitMessage b) old new = new ≡ record old { no_exit_message = b }
-  IsSet (PositionalArguments b) old new = new ≡ record old { positional_arguments = b }
-  IsSet (Quiet b) old new = new ≡ record old { quiet = b }
-  IsSet (ShareSubsequents b) old new = new ≡ record old { share_subsequents = b }
-  IsSet (Unstable b) old new = new ≡ record old { unstable = b }
-  IsSet (WindowsPowershell b) old new = new ≡ record old { windows_powershell = b }
+  IsSet (Truth which b) old new = new ≡ with_truth which b old
   IsSet (DotenvCommand e) old new = (value : Value) × (value_of reading lists e ≡ Some (Ok value)) × (new ≡ record old { dotenv_command = value })
   IsSet (DotenvFilename e) old new = (value : Value) × (value_of reading lists e ≡ Some (Ok value)) × (new ≡ record old { dotenv_filename = value })
   IsSet (DotenvPath e) old new = (value : Value) × (value_of reading lists e ≡ Some (Ok value)) × (new ≡ record old { dotenv_path = value })
@@ -102,26 +75,7 @@ module _ (reading : Reading) (lists : Bool) (name : List ℕ) where
 
   -- what the item says is refused for this
   abbrev pub IsRefusedFor : Setting → Fault → Type 0
-  IsRefusedFor (AllowDuplicateRecipes b) fault = ⊥
-  IsRefusedFor (AllowDuplicateVariables b) fault = ⊥
-  IsRefusedFor (DefaultList b) fault = ⊥
-  IsRefusedFor (DefaultScript b) fault = ⊥
-  IsRefusedFor (DotenvLoad b) fault = ⊥
-  IsRefusedFor (DotenvOverride b) fault = ⊥
-  IsRefusedFor (DotenvRequired b) fault = ⊥
-  IsRefusedFor (Export b) fault = ⊥
-  IsRefusedFor (Fallback b) fault = ⊥
-  IsRefusedFor (Guards b) fault = ⊥
-  IsRefusedFor (IgnoreComments b) fault = ⊥
-  IsRefusedFor (Lazy b) fault = ⊥
-  IsRefusedFor (Lists b) fault = ⊥
-  IsRefusedFor (NoCd b) fault = ⊥
-  IsRefusedFor (NoExitMessage b) fault = ⊥
-  IsRefusedFor (PositionalArguments b) fault = ⊥
-  IsRefusedFor (Quiet b) fault = ⊥
-  IsRefusedFor (ShareSubsequents b) fault = ⊥
-  IsRefusedFor (Unstable b) fault = ⊥
-  IsRefusedFor (WindowsPowershell b) fault = ⊥
+  IsRefusedFor (Truth which b) fault = ⊥
   IsRefusedFor (DotenvCommand e) fault = value_of reading lists e ≡ Some (Err fault)
   IsRefusedFor (DotenvFilename e) fault = value_of reading lists e ≡ Some (Err fault)
   IsRefusedFor (DotenvPath e) fault = value_of reading lists e ≡ Some (Err fault)

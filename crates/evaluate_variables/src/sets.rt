@@ -9,7 +9,7 @@ use evaluate_context::{Error, Settings};
 use just_text::{Name, Text};
 use just_value::{StringContext, Value};
 use std::alloc::Global;
-use tree_attributes::{Indentation, Interpreter, Setting};
+use tree_attributes::{Indentation, Interpreter, Setting, TruthSetting};
 use tree_expressions::Expression;
 use tree_items::Set;
 
@@ -85,48 +85,39 @@ impl<'a, 'src> ConstEvaluator<'a, 'src> {
                 settings.indentation = Indentation::from_text(text.cooked.as_str());
                 Ok(())
             }
-            other => {
-                set_truth(settings, other);
+            Setting::Truth(which, value) => {
+                set_truth(settings, *which, *value);
                 Ok(())
             }
+            Setting::MinimumVersion(_) => Ok(()),
         }
     }
 }
 
-/// Sets what is true or false; any other setting changes nothing.
-fn set_truth(settings: &mut Settings, setting: &Setting)
-    ensures { settings.new ≡ with_truth setting.now settings.old }
+/// Sets what is true or false.
+fn set_truth(settings: &mut Settings, which: TruthSetting, value: bool)
+    ensures { settings.new ≡ with_truth which value settings.old }
 {
-    match setting {
-        Setting::AllowDuplicateRecipes(b) => settings.allow_duplicate_recipes = *b,
-        Setting::AllowDuplicateVariables(b) => settings.allow_duplicate_variables = *b,
-        Setting::DefaultList(b) => settings.default_list = *b,
-        Setting::DefaultScript(b) => settings.default_script = *b,
-        Setting::DotenvLoad(b) => settings.dotenv_load = *b,
-        Setting::DotenvOverride(b) => settings.dotenv_override = *b,
-        Setting::DotenvRequired(b) => settings.dotenv_required = *b,
-        Setting::Export(b) => settings.export = *b,
-        Setting::Fallback(b) => settings.fallback = *b,
-        Setting::Guards(b) => settings.guards = *b,
-        Setting::IgnoreComments(b) => settings.ignore_comments = *b,
-        Setting::Lazy(b) => settings.lazy = *b,
-        Setting::Lists(b) => settings.lists = *b,
-        Setting::NoCd(b) => settings.no_cd = *b,
-        Setting::NoExitMessage(b) => settings.no_exit_message = *b,
-        Setting::PositionalArguments(b) => settings.positional_arguments = *b,
-        Setting::Quiet(b) => settings.quiet = *b,
-        Setting::ShareSubsequents(b) => settings.share_subsequents = *b,
-        Setting::Unstable(b) => settings.unstable = *b,
-        Setting::WindowsPowershell(b) => settings.windows_powershell = *b,
-        Setting::DotenvCommand(_)
-        | Setting::DotenvFilename(_)
-        | Setting::DotenvPath(_)
-        | Setting::Indentation(_)
-        | Setting::MinimumVersion(_)
-        | Setting::ScriptInterpreter(_)
-        | Setting::Shell(_)
-        | Setting::Tempdir(_)
-        | Setting::WindowsShell(_)
-        | Setting::WorkingDirectory(_) => {}
+    match which {
+        TruthSetting::AllowDuplicateRecipes => settings.allow_duplicate_recipes = value,
+        TruthSetting::AllowDuplicateVariables => settings.allow_duplicate_variables = value,
+        TruthSetting::DefaultList => settings.default_list = value,
+        TruthSetting::DefaultScript => settings.default_script = value,
+        TruthSetting::DotenvLoad => settings.dotenv_load = value,
+        TruthSetting::DotenvOverride => settings.dotenv_override = value,
+        TruthSetting::DotenvRequired => settings.dotenv_required = value,
+        TruthSetting::Export => settings.export = value,
+        TruthSetting::Fallback => settings.fallback = value,
+        TruthSetting::Guards => settings.guards = value,
+        TruthSetting::IgnoreComments => settings.ignore_comments = value,
+        TruthSetting::Lazy => settings.lazy = value,
+        TruthSetting::Lists => settings.lists = value,
+        TruthSetting::NoCd => settings.no_cd = value,
+        TruthSetting::NoExitMessage => settings.no_exit_message = value,
+        TruthSetting::PositionalArguments => settings.positional_arguments = value,
+        TruthSetting::Quiet => settings.quiet = value,
+        TruthSetting::ShareSubsequents => settings.share_subsequents = value,
+        TruthSetting::Unstable => settings.unstable = value,
+        TruthSetting::WindowsPowershell => settings.windows_powershell = value,
     }
 }

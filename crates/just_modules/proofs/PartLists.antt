@@ -111,34 +111,15 @@ attribute_same attributes.Windows = refl
 attribute_same (attributes.WorkingDirectory s) = refl
 
 pub setting_same : (s : Setting) → in_setting s ≡ of_value (value_shape s)
-setting_same (settings.AllowDuplicateRecipes value) = refl
-setting_same (settings.AllowDuplicateVariables value) = refl
-setting_same (settings.DefaultList value) = refl
-setting_same (settings.DefaultScript value) = refl
+setting_same (settings.Truth which value) = refl
 setting_same (settings.DotenvCommand value) = refl
 setting_same (settings.DotenvFilename value) = refl
-setting_same (settings.DotenvLoad value) = refl
-setting_same (settings.DotenvOverride value) = refl
 setting_same (settings.DotenvPath value) = refl
-setting_same (settings.DotenvRequired value) = refl
-setting_same (settings.Export value) = refl
-setting_same (settings.Fallback value) = refl
-setting_same (settings.Guards value) = refl
-setting_same (settings.IgnoreComments value) = refl
 setting_same (settings.Indentation value) = refl
-setting_same (settings.Lazy value) = refl
-setting_same (settings.Lists value) = refl
 setting_same (settings.MinimumVersion value) = refl
-setting_same (settings.NoCd value) = refl
-setting_same (settings.NoExitMessage value) = refl
-setting_same (settings.PositionalArguments value) = refl
-setting_same (settings.Quiet value) = refl
 setting_same (settings.ScriptInterpreter value) = interpreter_same value
-setting_same (settings.ShareSubsequents value) = refl
 setting_same (settings.Shell value) = interpreter_same value
 setting_same (settings.Tempdir value) = refl
-setting_same (settings.Unstable value) = refl
-setting_same (settings.WindowsPowershell value) = refl
 setting_same (settings.WindowsShell value) = interpreter_same value
 setting_same (settings.WorkingDirectory value) = refl
 

@@ -213,7 +213,7 @@ fn in_setting<'src>(setting: &Setting<'src>) -> Option<ListUse<'src>>
         Setting::ScriptInterpreter(interpreter)
         | Setting::Shell(interpreter)
         | Setting::WindowsShell(interpreter) => in_interpreter(interpreter),
-        _ => None,
+        Setting::Truth(_, _) | Setting::Indentation(_) | Setting::MinimumVersion(_) => None,
     }
 }
 

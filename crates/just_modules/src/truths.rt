@@ -26,26 +26,7 @@ fn is_true(setting: &Setting) -> bool
     ensures { result ≡ is_true (value_shape setting.now) }
 {
     match setting {
-        Setting::AllowDuplicateRecipes(value)
-        | Setting::AllowDuplicateVariables(value)
-        | Setting::DefaultList(value)
-        | Setting::DefaultScript(value)
-        | Setting::DotenvLoad(value)
-        | Setting::DotenvOverride(value)
-        | Setting::DotenvRequired(value)
-        | Setting::Export(value)
-        | Setting::Fallback(value)
-        | Setting::Guards(value)
-        | Setting::IgnoreComments(value)
-        | Setting::Lazy(value)
-        | Setting::Lists(value)
-        | Setting::NoCd(value)
-        | Setting::NoExitMessage(value)
-        | Setting::PositionalArguments(value)
-        | Setting::Quiet(value)
-        | Setting::ShareSubsequents(value)
-        | Setting::Unstable(value)
-        | Setting::WindowsPowershell(value) => *value,
+        Setting::Truth(_, value) => *value,
         Setting::DotenvCommand(_)
         | Setting::DotenvFilename(_)
         | Setting::DotenvPath(_)

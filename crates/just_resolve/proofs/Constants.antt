@@ -8,7 +8,8 @@ use Rattle.std.specs.Ordering.{nat_cmp}
 use Rattle.std.proofs.lemmas.Option.{none-some, same_Some}
 use Rattle.just_text.specs.Tokens.{lexeme}
 use Rattle.tree_attributes.specs.declared.setting.Setting.{Setting}
-use Rattle.tree_attributes.specs.declared.setting.Setting.TheVariants.{AllowDuplicateRecipes, AllowDuplicateVariables, DefaultList, DefaultScript, DotenvCommand, DotenvFilename, DotenvLoad, DotenvOverride, DotenvPath, DotenvRequired, Export, Fallback, Guards, IgnoreComments, Indentation, Lazy, Lists, MinimumVersion, NoCd, NoExitMessage, PositionalArguments, Quiet, ScriptInterpreter, ShareSubsequents, Shell, Tempdir, Unstable, WindowsPowershell, WindowsShell, WorkingDirectory}
+use Rattle.tree_attributes.specs.declared.setting.Setting.TheVariants.{DotenvCommand, DotenvFilename, DotenvPath, Indentation, MinimumVersion, ScriptInterpreter, Shell, Tempdir, Truth, WindowsShell, WorkingDirectory}
+use Rattle.tree_attributes.specs.declared.truth_setting.TruthSetting.TheVariants.{AllowDuplicateRecipes, AllowDuplicateVariables, DefaultList, DefaultScript, DotenvLoad, DotenvOverride, DotenvRequired, Export, Fallback, Guards, IgnoreComments, Lazy, Lists, NoCd, NoExitMessage, PositionalArguments, Quiet, ShareSubsequents, Unstable, WindowsPowershell}
 use Rattle.tree_items.specs.declared.ast.Item.{Item}
 use Rattle.tree_items.specs.declared.set.Set.{Set}
 use Rattle.just_value.specs.Frames.{Frames}
@@ -74,35 +75,35 @@ module _ (reading : Reading) (lists : Bool) where
 -- ---- settings that a module lists
 
 -- a setting that says whether lists are on is one of lists
-lists_there : (setting : Setting) (value : Bool) → lists_of setting ≡ Some value → setting ≡ Lists value
-lists_there (AllowDuplicateRecipes x) value e = absurd (none-some value e)
-lists_there (AllowDuplicateVariables x) value e = absurd (none-some value e)
-lists_there (DefaultList x) value e = absurd (none-some value e)
-lists_there (DefaultScript x) value e = absurd (none-some value e)
+lists_there : (setting : Setting) (value : Bool) → lists_of setting ≡ Some value → setting ≡ Truth Lists value
+lists_there (Truth AllowDuplicateRecipes x) value e = absurd (none-some value e)
+lists_there (Truth AllowDuplicateVariables x) value e = absurd (none-some value e)
+lists_there (Truth DefaultList x) value e = absurd (none-some value e)
+lists_there (Truth DefaultScript x) value e = absurd (none-some value e)
+lists_there (Truth DotenvLoad x) value e = absurd (none-some value e)
+lists_there (Truth DotenvOverride x) value e = absurd (none-some value e)
+lists_there (Truth DotenvRequired x) value e = absurd (none-some value e)
+lists_there (Truth Export x) value e = absurd (none-some value e)
+lists_there (Truth Fallback x) value e = absurd (none-some value e)
+lists_there (Truth Guards x) value e = absurd (none-some value e)
+lists_there (Truth IgnoreComments x) value e = absurd (none-some value e)
+lists_there (Truth Lazy x) value e = absurd (none-some value e)
+lists_there (Truth Lists x) value e = ap (Truth Lists) (same_Some x value e)
+lists_there (Truth NoCd x) value e = absurd (none-some value e)
+lists_there (Truth NoExitMessage x) value e = absurd (none-some value e)
+lists_there (Truth PositionalArguments x) value e = absurd (none-some value e)
+lists_there (Truth Quiet x) value e = absurd (none-some value e)
+lists_there (Truth ShareSubsequents x) value e = absurd (none-some value e)
+lists_there (Truth Unstable x) value e = absurd (none-some value e)
+lists_there (Truth WindowsPowershell x) value e = absurd (none-some value e)
 lists_there (DotenvCommand x) value e = absurd (none-some value e)
 lists_there (DotenvFilename x) value e = absurd (none-some value e)
-lists_there (DotenvLoad x) value e = absurd (none-some value e)
-lists_there (DotenvOverride x) value e = absurd (none-some value e)
 lists_there (DotenvPath x) value e = absurd (none-some value e)
-lists_there (DotenvRequired x) value e = absurd (none-some value e)
-lists_there (Export x) value e = absurd (none-some value e)
-lists_there (Fallback x) value e = absurd (none-some value e)
-lists_there (Guards x) value e = absurd (none-some value e)
-lists_there (IgnoreComments x) value e = absurd (none-some value e)
 lists_there (Indentation x) value e = absurd (none-some value e)
-lists_there (Lazy x) value e = absurd (none-some value e)
-lists_there (Lists x) value e = ap Lists (same_Some x value e)
 lists_there (MinimumVersion x) value e = absurd (none-some value e)
-lists_there (NoCd x) value e = absurd (none-some value e)
-lists_there (NoExitMessage x) value e = absurd (none-some value e)
-lists_there (PositionalArguments x) value e = absurd (none-some value e)
-lists_there (Quiet x) value e = absurd (none-some value e)
 lists_there (ScriptInterpreter x) value e = absurd (none-some value e)
-lists_there (ShareSubsequents x) value e = absurd (none-some value e)
 lists_there (Shell x) value e = absurd (none-some value e)
 lists_there (Tempdir x) value e = absurd (none-some value e)
-lists_there (Unstable x) value e = absurd (none-some value e)
-lists_there (WindowsPowershell x) value e = absurd (none-some value e)
 lists_there (WindowsShell x) value e = absurd (none-some value e)
 lists_there (WorkingDirectory x) value e = absurd (none-some value e)
 

@@ -8,7 +8,8 @@ use Rattle.std.specs.Option.{option_and_then, unwrap_or}
 use Rattle.std.specs.Ordering.{nat_cmp}
 use Rattle.just_text.specs.Tokens.{lexeme}
 use Rattle.tree_attributes.specs.declared.setting.Setting.{Setting}
-use Rattle.tree_attributes.specs.declared.setting.Setting.TheVariants.{Lists}
+use Rattle.tree_attributes.specs.declared.setting.Setting.TheVariants.{Truth}
+use Rattle.tree_attributes.specs.declared.truth_setting.TruthSetting.TheVariants.{Lists}
 use Rattle.tree_items.specs.declared.ast.Item.{Item}
 use Rattle.tree_items.specs.declared.ast.Item.TheVariants as items
 use Rattle.tree_items.specs.declared.set.Set.{Set}
@@ -57,7 +58,7 @@ abbrev pub sets_at : Compilation → List Place → List Set
 sets_at compilation places = filter_map (set_at compilation) places
 
 abbrev pub lists_of : Setting → Option Bool
-lists_of (Lists value) = Some value
+lists_of (Truth Lists value) = Some value
 lists_of setting = None
 
 abbrev pub lists_at : Compilation → Place → Option Bool

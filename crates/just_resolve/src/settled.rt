@@ -23,7 +23,7 @@ use resolve_analysis::{ModuleLists, ModuleReads, add_marked};
 use resolve_references::{ReadFault, VariableResolver, set_references};
 use std::alloc::{AllocError, Global};
 use std::collections::{BTreeMap, BTreeSet};
-use tree_attributes::Setting;
+use tree_attributes::{Setting, TruthSetting};
 use tree_items::Set;
 
 /// What the setting reads and calls.
@@ -78,7 +78,7 @@ fn lists_at(compilation: &Compilation, place: Place) -> Option<bool>
 {
     match compilation.set(place) {
         Some(set) => match &set.value {
-            Setting::Lists(value) => Some(*value),
+            Setting::Truth(TruthSetting::Lists, value) => Some(*value),
             _ => None,
         },
         None => None,

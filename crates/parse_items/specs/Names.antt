@@ -2,74 +2,80 @@
 use Rattle.std.specs.Prelude.{ℕ, List, [], ◌∷◌, Option, Some, None, codes, if◌then◌else◌}
 use Rattle.std.specs.Str.{bytes_eq}
 use Rattle.tree_attributes.specs.declared.setting.Setting.{Setting}
-use Rattle.tree_attributes.specs.declared.setting.Setting.TheVariants.{AllowDuplicateRecipes, AllowDuplicateVariables, DefaultList, DefaultScript, DotenvCommand, DotenvFilename, DotenvLoad, DotenvOverride, DotenvPath, DotenvRequired, Export, Fallback, Guards, IgnoreComments, Indentation as IndentationSetting, Lazy, Lists, MinimumVersion, NoCd, NoExitMessage, PositionalArguments, Quiet, ScriptInterpreter, ShareSubsequents, Shell, Tempdir, Unstable, WindowsPowershell, WindowsShell, WorkingDirectory}
+use Rattle.tree_attributes.specs.declared.setting.Setting.TheVariants.{DotenvCommand, DotenvFilename, DotenvPath, Indentation as IndentationSetting, MinimumVersion, ScriptInterpreter, Shell, Tempdir, Truth, WindowsShell, WorkingDirectory}
+use Rattle.tree_attributes.specs.declared.truth_setting.TruthSetting.{TruthSetting}
+use Rattle.tree_attributes.specs.declared.truth_setting.TruthSetting.TheVariants.{AllowDuplicateRecipes, AllowDuplicateVariables, DefaultList, DefaultScript, DotenvLoad, DotenvOverride, DotenvRequired, Export, Fallback, Guards, IgnoreComments, Lazy, Lists, NoCd, NoExitMessage, PositionalArguments, Quiet, ShareSubsequents, Unstable, WindowsPowershell}
 use Rattle.parse_items.specs.declared.form.Form.{Form}
-use Rattle.parse_items.specs.declared.form.Form.TheVariants.{Indentation, Interpreter, Truth, Value, Version}
+use Rattle.parse_items.specs.declared.form.Form.TheVariants.{Indentation, Interpreter, Truth as TruthForm, Value, Version}
+
+-- the name of a setting that is true or false
+abbrev pub truth_name : TruthSetting → List ℕ
+truth_name AllowDuplicateRecipes = codes "allow-duplicate-recipes"
+truth_name AllowDuplicateVariables = codes "allow-duplicate-variables"
+truth_name DefaultList = codes "default-list"
+truth_name DefaultScript = codes "default-script"
+truth_name DotenvLoad = codes "dotenv-load"
+truth_name DotenvOverride = codes "dotenv-override"
+truth_name DotenvRequired = codes "dotenv-required"
+truth_name Export = codes "export"
+truth_name Fallback = codes "fallback"
+truth_name Guards = codes "guards"
+truth_name IgnoreComments = codes "ignore-comments"
+truth_name Lazy = codes "lazy"
+truth_name Lists = codes "lists"
+truth_name NoCd = codes "no-cd"
+truth_name NoExitMessage = codes "no-exit-message"
+truth_name PositionalArguments = codes "positional-arguments"
+truth_name Quiet = codes "quiet"
+truth_name ShareSubsequents = codes "share-subsequents"
+truth_name Unstable = codes "unstable"
+truth_name WindowsPowershell = codes "windows-powershell"
 
 -- the name of a setting
 abbrev pub setting_name : Setting → List ℕ
-setting_name (AllowDuplicateRecipes value) = codes "allow-duplicate-recipes"
-setting_name (AllowDuplicateVariables value) = codes "allow-duplicate-variables"
-setting_name (DefaultList value) = codes "default-list"
-setting_name (DefaultScript value) = codes "default-script"
 setting_name (DotenvCommand value) = codes "dotenv-command"
 setting_name (DotenvFilename value) = codes "dotenv-filename"
-setting_name (DotenvLoad value) = codes "dotenv-load"
-setting_name (DotenvOverride value) = codes "dotenv-override"
 setting_name (DotenvPath value) = codes "dotenv-path"
-setting_name (DotenvRequired value) = codes "dotenv-required"
-setting_name (Export value) = codes "export"
-setting_name (Fallback value) = codes "fallback"
-setting_name (Guards value) = codes "guards"
-setting_name (IgnoreComments value) = codes "ignore-comments"
 setting_name (IndentationSetting value) = codes "indentation"
-setting_name (Lazy value) = codes "lazy"
-setting_name (Lists value) = codes "lists"
 setting_name (MinimumVersion value) = codes "minimum-version"
-setting_name (NoCd value) = codes "no-cd"
-setting_name (NoExitMessage value) = codes "no-exit-message"
-setting_name (PositionalArguments value) = codes "positional-arguments"
-setting_name (Quiet value) = codes "quiet"
 setting_name (ScriptInterpreter value) = codes "script-interpreter"
-setting_name (ShareSubsequents value) = codes "share-subsequents"
 setting_name (Shell value) = codes "shell"
+setting_name (Truth which value) = truth_name which
 setting_name (Tempdir value) = codes "tempdir"
-setting_name (Unstable value) = codes "unstable"
-setting_name (WindowsPowershell value) = codes "windows-powershell"
 setting_name (WindowsShell value) = codes "windows-shell"
 setting_name (WorkingDirectory value) = codes "working-directory"
 
 -- the form of each setting's value, by its name
 abbrev pub forms : List (List ℕ × Form)
 forms =
-    (codes "allow-duplicate-recipes", Truth) ∷
-    (codes "allow-duplicate-variables", Truth) ∷
-    (codes "default-list", Truth) ∷
-    (codes "default-script", Truth) ∷
+    (codes "allow-duplicate-recipes", TruthForm) ∷
+    (codes "allow-duplicate-variables", TruthForm) ∷
+    (codes "default-list", TruthForm) ∷
+    (codes "default-script", TruthForm) ∷
     (codes "dotenv-command", Value) ∷
     (codes "dotenv-filename", Value) ∷
-    (codes "dotenv-load", Truth) ∷
-    (codes "dotenv-override", Truth) ∷
+    (codes "dotenv-load", TruthForm) ∷
+    (codes "dotenv-override", TruthForm) ∷
     (codes "dotenv-path", Value) ∷
-    (codes "dotenv-required", Truth) ∷
-    (codes "export", Truth) ∷
-    (codes "fallback", Truth) ∷
-    (codes "guards", Truth) ∷
-    (codes "ignore-comments", Truth) ∷
+    (codes "dotenv-required", TruthForm) ∷
+    (codes "export", TruthForm) ∷
+    (codes "fallback", TruthForm) ∷
+    (codes "guards", TruthForm) ∷
+    (codes "ignore-comments", TruthForm) ∷
     (codes "indentation", Indentation) ∷
-    (codes "lazy", Truth) ∷
-    (codes "lists", Truth) ∷
+    (codes "lazy", TruthForm) ∷
+    (codes "lists", TruthForm) ∷
     (codes "minimum-version", Version) ∷
-    (codes "no-cd", Truth) ∷
-    (codes "no-exit-message", Truth) ∷
-    (codes "positional-arguments", Truth) ∷
-    (codes "quiet", Truth) ∷
+    (codes "no-cd", TruthForm) ∷
+    (codes "no-exit-message", TruthForm) ∷
+    (codes "positional-arguments", TruthForm) ∷
+    (codes "quiet", TruthForm) ∷
     (codes "script-interpreter", Interpreter) ∷
-    (codes "share-subsequents", Truth) ∷
+    (codes "share-subsequents", TruthForm) ∷
     (codes "shell", Interpreter) ∷
     (codes "tempdir", Value) ∷
-    (codes "unstable", Truth) ∷
-    (codes "windows-powershell", Truth) ∷
+    (codes "unstable", TruthForm) ∷
+    (codes "windows-powershell", TruthForm) ∷
     (codes "windows-shell", Interpreter) ∷
     (codes "working-directory", Value) ∷
     []

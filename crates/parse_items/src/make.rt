@@ -4,11 +4,41 @@ ghost use Rattle.tree_attributes.specs.Settings.{expression, interpreter, interp
 ghost use Rattle.tree_expressions.specs.Shape.{shape_of};
 ghost use Rattle.parse_expressions.specs.Literals.{Origin, IsCooked};
 ghost use Rattle.parse_items.specs.SettingCooked.{IsCookedInterpreter, IsCookedSetting};
-ghost use Rattle.parse_items.specs.Names.{form_named, setting_name};
+ghost use Rattle.parse_items.specs.Names.{form_named, setting_name, truth_name};
 ghost use Rattle.parse_items.specs.declared.form.Form.TheVariants as forms;
 
-use tree_attributes::{Interpreter, Setting};
+use tree_attributes::{Interpreter, Setting, TruthSetting};
 use tree_expressions::Expression;
+
+/// The setting of that name that is true or false.
+fn truth_named(name: &str) -> TruthSetting
+    requires { form_named name.now ≡ Some forms.Truth }
+    ensures { truth_name result ≡ name.now }
+{
+    match name {
+        "allow-duplicate-recipes" => TruthSetting::AllowDuplicateRecipes,
+        "allow-duplicate-variables" => TruthSetting::AllowDuplicateVariables,
+        "default-list" => TruthSetting::DefaultList,
+        "default-script" => TruthSetting::DefaultScript,
+        "dotenv-load" => TruthSetting::DotenvLoad,
+        "dotenv-override" => TruthSetting::DotenvOverride,
+        "dotenv-required" => TruthSetting::DotenvRequired,
+        "export" => TruthSetting::Export,
+        "fallback" => TruthSetting::Fallback,
+        "guards" => TruthSetting::Guards,
+        "ignore-comments" => TruthSetting::IgnoreComments,
+        "lazy" => TruthSetting::Lazy,
+        "lists" => TruthSetting::Lists,
+        "no-cd" => TruthSetting::NoCd,
+        "no-exit-message" => TruthSetting::NoExitMessage,
+        "positional-arguments" => TruthSetting::PositionalArguments,
+        "quiet" => TruthSetting::Quiet,
+        "share-subsequents" => TruthSetting::ShareSubsequents,
+        "unstable" => TruthSetting::Unstable,
+        "windows-powershell" => TruthSetting::WindowsPowershell,
+        _ => unreachable!(),
+    }
+}
 
 /// The setting of that name, whose value is a truth value.
 pub(crate) fn truth_setting<'src>(name: &str, value: bool) -> Setting<'src>
@@ -17,29 +47,7 @@ pub(crate) fn truth_setting<'src>(name: &str, value: bool) -> Setting<'src>
     ensures value { value_shape result ≡ truth value }
     ensures cooked { (origin : Origin) → IsCookedSetting origin result }
 {
-    match name {
-        "allow-duplicate-recipes" => Setting::AllowDuplicateRecipes(value),
-        "allow-duplicate-variables" => Setting::AllowDuplicateVariables(value),
-        "default-list" => Setting::DefaultList(value),
-        "default-script" => Setting::DefaultScript(value),
-        "dotenv-load" => Setting::DotenvLoad(value),
-        "dotenv-override" => Setting::DotenvOverride(value),
-        "dotenv-required" => Setting::DotenvRequired(value),
-        "export" => Setting::Export(value),
-        "fallback" => Setting::Fallback(value),
-        "guards" => Setting::Guards(value),
-        "ignore-comments" => Setting::IgnoreComments(value),
-        "lazy" => Setting::Lazy(value),
-        "lists" => Setting::Lists(value),
-        "no-cd" => Setting::NoCd(value),
-        "no-exit-message" => Setting::NoExitMessage(value),
-        "positional-arguments" => Setting::PositionalArguments(value),
-        "quiet" => Setting::Quiet(value),
-        "share-subsequents" => Setting::ShareSubsequents(value),
-        "unstable" => Setting::Unstable(value),
-        "windows-powershell" => Setting::WindowsPowershell(value),
-        _ => unreachable!(),
-    }
+    Setting::Truth(truth_named(name), value)
 }
 
 /// The setting of that name, whose value is an expression.

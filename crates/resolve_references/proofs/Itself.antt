@@ -8,34 +8,15 @@ use Rattle.resolve_references.specs.Numbered.{IsNumberedItem, IsSameSetting}
 
 -- a setting is the same as itself
 same_setting : (setting : Setting) → IsSameSetting setting setting
-same_setting (settings.AllowDuplicateRecipes value) = refl
-same_setting (settings.AllowDuplicateVariables value) = refl
-same_setting (settings.DefaultList value) = refl
-same_setting (settings.DefaultScript value) = refl
+same_setting (settings.Truth which value) = refl
 same_setting (settings.DotenvCommand value) = (value, refl)
 same_setting (settings.DotenvFilename value) = (value, refl)
-same_setting (settings.DotenvLoad value) = refl
-same_setting (settings.DotenvOverride value) = refl
 same_setting (settings.DotenvPath value) = (value, refl)
-same_setting (settings.DotenvRequired value) = refl
-same_setting (settings.Export value) = refl
-same_setting (settings.Fallback value) = refl
-same_setting (settings.Guards value) = refl
-same_setting (settings.IgnoreComments value) = refl
 same_setting (settings.Indentation value) = refl
-same_setting (settings.Lazy value) = refl
-same_setting (settings.Lists value) = refl
 same_setting (settings.MinimumVersion value) = refl
-same_setting (settings.NoCd value) = refl
-same_setting (settings.NoExitMessage value) = refl
-same_setting (settings.PositionalArguments value) = refl
-same_setting (settings.Quiet value) = refl
 same_setting (settings.ScriptInterpreter value) = (value, refl)
-same_setting (settings.ShareSubsequents value) = refl
 same_setting (settings.Shell value) = (value, refl)
 same_setting (settings.Tempdir value) = (value, refl)
-same_setting (settings.Unstable value) = refl
-same_setting (settings.WindowsPowershell value) = refl
 same_setting (settings.WindowsShell value) = (value, refl)
 same_setting (settings.WorkingDirectory value) = (value, refl)
 

@@ -186,7 +186,7 @@ fn add_set<'src>(references: &mut References<'src>, set: &Set<'src>) -> Result<(
         Setting::ScriptInterpreter(interpreter)
         | Setting::Shell(interpreter)
         | Setting::WindowsShell(interpreter) => add_interpreter(references, interpreter),
-        _ => Ok(()),
+        Setting::Truth(_, _) | Setting::Indentation(_) | Setting::MinimumVersion(_) => Ok(()),
     }
 }
 

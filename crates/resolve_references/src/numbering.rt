@@ -302,7 +302,7 @@ fn number_setting(setting: &mut Setting, names: &Names)
         Setting::ScriptInterpreter(interpreter) => number_interpreter(interpreter, names),
         Setting::Shell(interpreter) => number_interpreter(interpreter, names),
         Setting::WindowsShell(interpreter) => number_interpreter(interpreter, names),
-        _ => {}
+        Setting::Truth(_, _) | Setting::Indentation(_) | Setting::MinimumVersion(_) => {}
     }
 }
 

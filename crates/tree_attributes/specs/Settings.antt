@@ -4,7 +4,7 @@ use Rattle.std.specs.List.{flat_map}
 use Rattle.tree_expressions.specs.declared.expression.Expression.{Expression}
 use Rattle.tree_attributes.specs.declared.setting.Interpreter.{Interpreter}
 use Rattle.tree_attributes.specs.declared.setting.Setting.{Setting}
-use Rattle.tree_attributes.specs.declared.setting.Setting.TheVariants.{AllowDuplicateRecipes, AllowDuplicateVariables, DefaultList, DefaultScript, DotenvCommand, DotenvFilename, DotenvLoad, DotenvOverride, DotenvPath, DotenvRequired, Export, Fallback, Guards, IgnoreComments, Indentation, Lazy, Lists, MinimumVersion, NoCd, NoExitMessage, PositionalArguments, Quiet, ScriptInterpreter, ShareSubsequents, Shell, Tempdir, Unstable, WindowsPowershell, WindowsShell, WorkingDirectory}
+use Rattle.tree_attributes.specs.declared.setting.Setting.TheVariants.{DotenvCommand, DotenvFilename, DotenvPath, Indentation, MinimumVersion, ScriptInterpreter, Shell, Tempdir, Truth, WindowsShell, WorkingDirectory}
 use Rattle.tree_expressions.specs.Shape.{Shape, shape_of, written}
 use Rattle.tree_expressions.specs.Printing.{text_of}
 
@@ -35,34 +35,15 @@ pub data ValueShape : Type 0 where
 
 -- the form of each setting's value
 abbrev pub value_shape : Setting → ValueShape
-value_shape (AllowDuplicateRecipes value) = truth value
-value_shape (AllowDuplicateVariables value) = truth value
-value_shape (DefaultList value) = truth value
-value_shape (DefaultScript value) = truth value
+value_shape (Truth which value) = truth value
 value_shape (DotenvCommand value) = expression (shape_of value)
 value_shape (DotenvFilename value) = expression (shape_of value)
-value_shape (DotenvLoad value) = truth value
-value_shape (DotenvOverride value) = truth value
 value_shape (DotenvPath value) = expression (shape_of value)
-value_shape (DotenvRequired value) = truth value
-value_shape (Export value) = truth value
-value_shape (Fallback value) = truth value
-value_shape (Guards value) = truth value
-value_shape (IgnoreComments value) = truth value
 value_shape (Indentation value) = string (written value)
-value_shape (Lazy value) = truth value
-value_shape (Lists value) = truth value
 value_shape (MinimumVersion value) = string (written value)
-value_shape (NoCd value) = truth value
-value_shape (NoExitMessage value) = truth value
-value_shape (PositionalArguments value) = truth value
-value_shape (Quiet value) = truth value
 value_shape (ScriptInterpreter value) = interpreter (interpreter_shape value)
-value_shape (ShareSubsequents value) = truth value
 value_shape (Shell value) = interpreter (interpreter_shape value)
 value_shape (Tempdir value) = expression (shape_of value)
-value_shape (Unstable value) = truth value
-value_shape (WindowsPowershell value) = truth value
 value_shape (WindowsShell value) = interpreter (interpreter_shape value)
 value_shape (WorkingDirectory value) = expression (shape_of value)
 

@@ -16,6 +16,7 @@ mod printed_arguments;
 mod rows;
 mod setting;
 mod systems;
+mod truth_setting;
 
 pub use argument_form::ArgumentForm;
 pub use arguments::AttributeArguments;
@@ -30,3 +31,4 @@ pub use printed_arguments::PrintedArguments;
 pub use rows::{Elements, Strings};
 pub use setting::{Interpreter, Setting};
 pub use systems::{is_private, may_carry};
+pub use truth_setting::TruthSetting;

@@ -3,6 +3,7 @@ ghost use Rattle.std.specs.Prelude.{Some};
 ghost use Rattle.tree_attributes.specs.Settings as spec;
 
 use crate::rows::Elements;
+use crate::truth_setting::TruthSetting;
 use std::fmt;
 use tree_expressions::{Expression, StringLiteral};
 
@@ -34,36 +35,17 @@ impl<'src> fmt::Display for Interpreter<Expression<'src>> {
 /// A setting and its value: a truth value, an expression, a list of one or more expressions, or a
 /// string.
 pub enum Setting<'src> {
-    AllowDuplicateRecipes(bool),
-    AllowDuplicateVariables(bool),
-    DefaultList(bool),
-    DefaultScript(bool),
     DotenvCommand(Expression<'src>),
     DotenvFilename(Expression<'src>),
-    DotenvLoad(bool),
-    DotenvOverride(bool),
     DotenvPath(Expression<'src>),
-    DotenvRequired(bool),
-    Export(bool),
-    Fallback(bool),
-    Guards(bool),
-    IgnoreComments(bool),
     /// One tab, or one to eight spaces.
     Indentation(StringLiteral<'src>),
-    Lazy(bool),
-    Lists(bool),
     /// A version.
     MinimumVersion(StringLiteral<'src>),
-    NoCd(bool),
-    NoExitMessage(bool),
-    PositionalArguments(bool),
-    Quiet(bool),
     ScriptInterpreter(Interpreter<Expression<'src>>),
-    ShareSubsequents(bool),
     Shell(Interpreter<Expression<'src>>),
     Tempdir(Expression<'src>),
-    Unstable(bool),
-    WindowsPowershell(bool),
+    Truth(TruthSetting, bool),
     WindowsShell(Interpreter<Expression<'src>>),
     WorkingDirectory(Expression<'src>),
 }
@@ -71,26 +53,7 @@ pub enum Setting<'src> {
 impl Drop for Setting<'_> {
     fn drop(self) {
         match self {
-            Setting::AllowDuplicateRecipes(_value)
-            | Setting::AllowDuplicateVariables(_value)
-            | Setting::DefaultList(_value)
-            | Setting::DefaultScript(_value)
-            | Setting::DotenvLoad(_value)
-            | Setting::DotenvOverride(_value)
-            | Setting::DotenvRequired(_value)
-            | Setting::Export(_value)
-            | Setting::Fallback(_value)
-            | Setting::Guards(_value)
-            | Setting::IgnoreComments(_value)
-            | Setting::Lazy(_value)
-            | Setting::Lists(_value)
-            | Setting::NoCd(_value)
-            | Setting::NoExitMessage(_value)
-            | Setting::PositionalArguments(_value)
-            | Setting::Quiet(_value)
-            | Setting::ShareSubsequents(_value)
-            | Setting::Unstable(_value)
-            | Setting::WindowsPowershell(_value) => {}
+            Setting::Truth(_which, _value) => {}
             Setting::DotenvCommand(_value)
             | Setting::DotenvFilename(_value)
             | Setting::DotenvPath(_value)
@@ -110,26 +73,7 @@ impl fmt::Display for Setting<'_> {
 
     fn fmt<W: fmt::Write>(&self, f: &mut fmt::Formatter<W>) -> fmt::Result {
         match self {
-            Setting::AllowDuplicateRecipes(value)
-            | Setting::AllowDuplicateVariables(value)
-            | Setting::DefaultList(value)
-            | Setting::DefaultScript(value)
-            | Setting::DotenvLoad(value)
-            | Setting::DotenvOverride(value)
-            | Setting::DotenvRequired(value)
-            | Setting::Export(value)
-            | Setting::Fallback(value)
-            | Setting::Guards(value)
-            | Setting::IgnoreComments(value)
-            | Setting::Lazy(value)
-            | Setting::Lists(value)
-            | Setting::NoCd(value)
-            | Setting::NoExitMessage(value)
-            | Setting::PositionalArguments(value)
-            | Setting::Quiet(value)
-            | Setting::ShareSubsequents(value)
-            | Setting::Unstable(value)
-            | Setting::WindowsPowershell(value) => fmt::Display::fmt(value, f),
+            Setting::Truth(_which, value) => fmt::Display::fmt(value, f),
             Setting::DotenvCommand(value)
             | Setting::DotenvFilename(value)
             | Setting::DotenvPath(value)

@@ -2,7 +2,7 @@
 use Rattle.std.proofs.Common.{◌≡◌, inl, inr, refl, subst, List, [], ◌∷◌, map}
 use Rattle.std.specs.Prelude.{Contains}
 use Rattle.tree_attributes.specs.declared.setting.Setting.{Setting}
-use Rattle.tree_attributes.specs.declared.setting.Setting.TheVariants.{AllowDuplicateRecipes, AllowDuplicateVariables, DefaultList, DefaultScript, DotenvCommand, DotenvFilename, DotenvLoad, DotenvOverride, DotenvPath, DotenvRequired, Export, Fallback, Guards, IgnoreComments, Indentation, Lazy, Lists, MinimumVersion, NoCd, NoExitMessage, PositionalArguments, Quiet, ScriptInterpreter, ShareSubsequents, Shell, Tempdir, Unstable, WindowsPowershell, WindowsShell, WorkingDirectory}
+use Rattle.tree_attributes.specs.declared.setting.Setting.TheVariants.{DotenvCommand, DotenvFilename, DotenvPath, Indentation, MinimumVersion, ScriptInterpreter, Shell, Tempdir, Truth, WindowsShell, WorkingDirectory}
 use Rattle.tree_expressions.specs.declared.expression.Expression.{Expression}
 use Rattle.resolve_references.specs.Seen.{Seen, seeing, seen_in_setting}
 use Rattle.meaning_rules.proofs.Worlds.Places.{contains_cases, contains_none}
@@ -22,33 +22,14 @@ none_plain : (s : Seen) → Contains [] s → IsPlain s
 none_plain s c = absurd (contains_none [] s refl c)
 
 pub setting_plain : (setting : Setting) (s : Seen) → Contains (seen_in_setting setting) s → IsPlain s
-setting_plain (AllowDuplicateRecipes b) s c = none_plain s c
-setting_plain (AllowDuplicateVariables b) s c = none_plain s c
-setting_plain (DefaultList b) s c = none_plain s c
-setting_plain (DefaultScript b) s c = none_plain s c
+setting_plain (Truth which b) s c = none_plain s c
 setting_plain (DotenvCommand e) s c = row_plain (e ∷ []) s c
 setting_plain (DotenvFilename e) s c = row_plain (e ∷ []) s c
-setting_plain (DotenvLoad b) s c = none_plain s c
-setting_plain (DotenvOverride b) s c = none_plain s c
 setting_plain (DotenvPath e) s c = row_plain (e ∷ []) s c
-setting_plain (DotenvRequired b) s c = none_plain s c
-setting_plain (Export b) s c = none_plain s c
-setting_plain (Fallback b) s c = none_plain s c
-setting_plain (Guards b) s c = none_plain s c
-setting_plain (IgnoreComments b) s c = none_plain s c
 setting_plain (Indentation t) s c = none_plain s c
-setting_plain (Lazy b) s c = none_plain s c
-setting_plain (Lists b) s c = none_plain s c
 setting_plain (MinimumVersion t) s c = none_plain s c
-setting_plain (NoCd b) s c = none_plain s c
-setting_plain (NoExitMessage b) s c = none_plain s c
-setting_plain (PositionalArguments b) s c = none_plain s c
-setting_plain (Quiet b) s c = none_plain s c
 setting_plain (ScriptInterpreter i) s c = row_plain (i.command ∷ i.arguments.items) s c
-setting_plain (ShareSubsequents b) s c = none_plain s c
 setting_plain (Shell i) s c = row_plain (i.command ∷ i.arguments.items) s c
 setting_plain (Tempdir e) s c = row_plain (e ∷ []) s c
-setting_plain (Unstable b) s c = none_plain s c
-setting_plain (WindowsPowershell b) s c = none_plain s c
 setting_plain (WindowsShell i) s c = row_plain (i.command ∷ i.arguments.items) s c
 setting_plain (WorkingDirectory e) s c = row_plain (e ∷ []) s c

@@ -4,7 +4,7 @@ use Rattle.std.specs.Prelude.{Contains}
 use Rattle.parse_expressions.specs.Literals.{from_file}
 use Rattle.tree_attributes.specs.declared.setting.Interpreter.{Interpreter}
 use Rattle.tree_attributes.specs.declared.setting.Setting.{Setting}
-use Rattle.tree_attributes.specs.declared.setting.Setting.TheVariants.{AllowDuplicateRecipes, AllowDuplicateVariables, DefaultList, DefaultScript, DotenvCommand, DotenvFilename, DotenvLoad, DotenvOverride, DotenvPath, DotenvRequired, Export, Fallback, Guards, IgnoreComments, Indentation, Lazy, Lists, MinimumVersion, NoCd, NoExitMessage, PositionalArguments, Quiet, ScriptInterpreter, ShareSubsequents, Shell, Tempdir, Unstable, WindowsPowershell, WindowsShell, WorkingDirectory}
+use Rattle.tree_attributes.specs.declared.setting.Setting.TheVariants.{DotenvCommand, DotenvFilename, DotenvPath, Indentation, MinimumVersion, ScriptInterpreter, Shell, Tempdir, Truth, WindowsShell, WorkingDirectory}
 use Rattle.tree_expressions.specs.declared.expression.Expression.{Expression}
 use Rattle.tree_expressions.specs.Shape.{shape_of}
 use Rattle.parse_items.specs.Names.{setting_name}
@@ -72,65 +72,27 @@ module _ (w : World) (o : Overrides) (path : List Text) (own : Text) where
         (map (said_by w.expansion lists variables) (map shape_of (i.command ∷ i.arguments.items))) (row_same (i.command ∷ i.arguments.items) into)
 
 pub set_ones_answer : SetOnesAnswer
-set_ones_answer w o path own file number reading lists variables (AllowDuplicateRecipes b) k old new h = tt
-set_ones_answer w o path own file number reading lists variables (AllowDuplicateVariables b) k old new h = tt
-set_ones_answer w o path own file number reading lists variables (DefaultList b) k old new h = tt
-set_ones_answer w o path own file number reading lists variables (DefaultScript b) k old new h = tt
+set_ones_answer w o path own file number reading lists variables (Truth which b) k old new h = tt
 set_ones_answer w o path own file number reading lists variables (DotenvCommand e) k old new h = good w o path own _ _ h.0 (value_same w o path own file number reading lists variables (DotenvCommand e) k e (contains_first (seeing [] e) [])) h.1
 set_ones_answer w o path own file number reading lists variables (DotenvFilename e) k old new h = good w o path own _ _ h.0 (value_same w o path own file number reading lists variables (DotenvFilename e) k e (contains_first (seeing [] e) [])) h.1
-set_ones_answer w o path own file number reading lists variables (DotenvLoad b) k old new h = tt
-set_ones_answer w o path own file number reading lists variables (DotenvOverride b) k old new h = tt
 set_ones_answer w o path own file number reading lists variables (DotenvPath e) k old new h = good w o path own _ _ h.0 (value_same w o path own file number reading lists variables (DotenvPath e) k e (contains_first (seeing [] e) [])) h.1
-set_ones_answer w o path own file number reading lists variables (DotenvRequired b) k old new h = tt
-set_ones_answer w o path own file number reading lists variables (Export b) k old new h = tt
-set_ones_answer w o path own file number reading lists variables (Fallback b) k old new h = tt
-set_ones_answer w o path own file number reading lists variables (Guards b) k old new h = tt
-set_ones_answer w o path own file number reading lists variables (IgnoreComments b) k old new h = tt
 set_ones_answer w o path own file number reading lists variables (Indentation s) k old new h = tt
-set_ones_answer w o path own file number reading lists variables (Lazy b) k old new h = tt
-set_ones_answer w o path own file number reading lists variables (Lists b) k old new h = tt
 set_ones_answer w o path own file number reading lists variables (MinimumVersion s) k old new h = tt
-set_ones_answer w o path own file number reading lists variables (NoCd b) k old new h = tt
-set_ones_answer w o path own file number reading lists variables (NoExitMessage b) k old new h = tt
-set_ones_answer w o path own file number reading lists variables (PositionalArguments b) k old new h = tt
-set_ones_answer w o path own file number reading lists variables (Quiet b) k old new h = tt
 set_ones_answer w o path own file number reading lists variables (ScriptInterpreter i) k old new h = good w o path own _ _ _ (words_same w o path own file number reading lists variables (ScriptInterpreter i) k (setting_name (ScriptInterpreter i)) i (λ s c. c)) h.1
-set_ones_answer w o path own file number reading lists variables (ShareSubsequents b) k old new h = tt
 set_ones_answer w o path own file number reading lists variables (Shell i) k old new h = good w o path own _ _ _ (words_same w o path own file number reading lists variables (Shell i) k (setting_name (Shell i)) i (λ s c. c)) h.1
 set_ones_answer w o path own file number reading lists variables (Tempdir e) k old new h = good w o path own _ _ h.0 (text_same w o path own file number reading lists variables (Tempdir e) k (setting_name (Tempdir e)) e (contains_first (seeing [] e) [])) h.1
-set_ones_answer w o path own file number reading lists variables (Unstable b) k old new h = tt
-set_ones_answer w o path own file number reading lists variables (WindowsPowershell b) k old new h = tt
 set_ones_answer w o path own file number reading lists variables (WindowsShell i) k old new h = good w o path own _ _ _ (words_same w o path own file number reading lists variables (WindowsShell i) k (setting_name (WindowsShell i)) i (λ s c. c)) h.1
 set_ones_answer w o path own file number reading lists variables (WorkingDirectory e) k old new h = good w o path own _ _ h.0 (text_same w o path own file number reading lists variables (WorkingDirectory e) k (setting_name (WorkingDirectory e)) e (contains_first (seeing [] e) [])) h.1
 
 pub refused_ones_lack : RefusedOnesLack
-refused_ones_lack w o path own file number reading lists variables (AllowDuplicateRecipes b) k fault h g = h
-refused_ones_lack w o path own file number reading lists variables (AllowDuplicateVariables b) k fault h g = h
-refused_ones_lack w o path own file number reading lists variables (DefaultList b) k fault h g = h
-refused_ones_lack w o path own file number reading lists variables (DefaultScript b) k fault h g = h
+refused_ones_lack w o path own file number reading lists variables (Truth which b) k fault h g = h
 refused_ones_lack w o path own file number reading lists variables (DotenvCommand e) k fault h g = bad w o path own _ _ fault (value_same w o path own file number reading lists variables (DotenvCommand e) k e (contains_first (seeing [] e) [])) h g
 refused_ones_lack w o path own file number reading lists variables (DotenvFilename e) k fault h g = bad w o path own _ _ fault (value_same w o path own file number reading lists variables (DotenvFilename e) k e (contains_first (seeing [] e) [])) h g
-refused_ones_lack w o path own file number reading lists variables (DotenvLoad b) k fault h g = h
-refused_ones_lack w o path own file number reading lists variables (DotenvOverride b) k fault h g = h
 refused_ones_lack w o path own file number reading lists variables (DotenvPath e) k fault h g = bad w o path own _ _ fault (value_same w o path own file number reading lists variables (DotenvPath e) k e (contains_first (seeing [] e) [])) h g
-refused_ones_lack w o path own file number reading lists variables (DotenvRequired b) k fault h g = h
-refused_ones_lack w o path own file number reading lists variables (Export b) k fault h g = h
-refused_ones_lack w o path own file number reading lists variables (Fallback b) k fault h g = h
-refused_ones_lack w o path own file number reading lists variables (Guards b) k fault h g = h
-refused_ones_lack w o path own file number reading lists variables (IgnoreComments b) k fault h g = h
 refused_ones_lack w o path own file number reading lists variables (Indentation s) k fault h g = h
-refused_ones_lack w o path own file number reading lists variables (Lazy b) k fault h g = h
-refused_ones_lack w o path own file number reading lists variables (Lists b) k fault h g = h
 refused_ones_lack w o path own file number reading lists variables (MinimumVersion s) k fault h g = h
-refused_ones_lack w o path own file number reading lists variables (NoCd b) k fault h g = h
-refused_ones_lack w o path own file number reading lists variables (NoExitMessage b) k fault h g = h
-refused_ones_lack w o path own file number reading lists variables (PositionalArguments b) k fault h g = h
-refused_ones_lack w o path own file number reading lists variables (Quiet b) k fault h g = h
 refused_ones_lack w o path own file number reading lists variables (ScriptInterpreter i) k fault h g = bad w o path own _ _ fault (words_same w o path own file number reading lists variables (ScriptInterpreter i) k (setting_name (ScriptInterpreter i)) i (λ s c. c)) h g
-refused_ones_lack w o path own file number reading lists variables (ShareSubsequents b) k fault h g = h
 refused_ones_lack w o path own file number reading lists variables (Shell i) k fault h g = bad w o path own _ _ fault (words_same w o path own file number reading lists variables (Shell i) k (setting_name (Shell i)) i (λ s c. c)) h g
 refused_ones_lack w o path own file number reading lists variables (Tempdir e) k fault h g = bad w o path own _ _ fault (text_same w o path own file number reading lists variables (Tempdir e) k (setting_name (Tempdir e)) e (contains_first (seeing [] e) [])) h g
-refused_ones_lack w o path own file number reading lists variables (Unstable b) k fault h g = h
-refused_ones_lack w o path own file number reading lists variables (WindowsPowershell b) k fault h g = h
 refused_ones_lack w o path own file number reading lists variables (WindowsShell i) k fault h g = bad w o path own _ _ fault (words_same w o path own file number reading lists variables (WindowsShell i) k (setting_name (WindowsShell i)) i (λ s c. c)) h g
 refused_ones_lack w o path own file number reading lists variables (WorkingDirectory e) k fault h g = bad w o path own _ _ fault (text_same w o path own file number reading lists variables (WorkingDirectory e) k (setting_name (WorkingDirectory e)) e (contains_first (seeing [] e) [])) h g

@@ -123,34 +123,15 @@ numbers_kept old new same = sym (map-map number bare_parameter new) ∙ ap (map 
 
 -- a setting has the name that it had
 name_kept : (before after : Setting) → IsSameSetting before after → setting_name after ≡ setting_name before
-name_kept (settings.AllowDuplicateRecipes value) after is = ap setting_name is
-name_kept (settings.AllowDuplicateVariables value) after is = ap setting_name is
-name_kept (settings.DefaultList value) after is = ap setting_name is
-name_kept (settings.DefaultScript value) after is = ap setting_name is
+name_kept (settings.Truth which value) after is = ap setting_name is
 name_kept (settings.DotenvCommand value) after is = ap setting_name is.1
 name_kept (settings.DotenvFilename value) after is = ap setting_name is.1
-name_kept (settings.DotenvLoad value) after is = ap setting_name is
-name_kept (settings.DotenvOverride value) after is = ap setting_name is
 name_kept (settings.DotenvPath value) after is = ap setting_name is.1
-name_kept (settings.DotenvRequired value) after is = ap setting_name is
-name_kept (settings.Export value) after is = ap setting_name is
-name_kept (settings.Fallback value) after is = ap setting_name is
-name_kept (settings.Guards value) after is = ap setting_name is
-name_kept (settings.IgnoreComments value) after is = ap setting_name is
 name_kept (settings.Indentation value) after is = ap setting_name is
-name_kept (settings.Lazy value) after is = ap setting_name is
-name_kept (settings.Lists value) after is = ap setting_name is
 name_kept (settings.MinimumVersion value) after is = ap setting_name is
-name_kept (settings.NoCd value) after is = ap setting_name is
-name_kept (settings.NoExitMessage value) after is = ap setting_name is
-name_kept (settings.PositionalArguments value) after is = ap setting_name is
-name_kept (settings.Quiet value) after is = ap setting_name is
 name_kept (settings.ScriptInterpreter value) after is = ap setting_name is.1
-name_kept (settings.ShareSubsequents value) after is = ap setting_name is
 name_kept (settings.Shell value) after is = ap setting_name is.1
 name_kept (settings.Tempdir value) after is = ap setting_name is.1
-name_kept (settings.Unstable value) after is = ap setting_name is
-name_kept (settings.WindowsPowershell value) after is = ap setting_name is
 name_kept (settings.WindowsShell value) after is = ap setting_name is.1
 name_kept (settings.WorkingDirectory value) after is = ap setting_name is.1
 

@@ -161,34 +161,15 @@ module _ (origin : Origin) where
       both (attributed ++ parameters ++ priors ++ subsequents) body with_subsequents (in_body seen r.body.items h.body)
 
   in_setting : (setting : Setting) → IsCookedSetting origin setting → AreAllCooked (seen_in_setting setting)
-  in_setting (settings.AllowDuplicateRecipes value) h = none
-  in_setting (settings.AllowDuplicateVariables value) h = none
-  in_setting (settings.DefaultList value) h = none
-  in_setting (settings.DefaultScript value) h = none
+  in_setting (settings.Truth which value) h = none
   in_setting (settings.DotenvCommand value) h = alone [] value h
   in_setting (settings.DotenvFilename value) h = alone [] value h
-  in_setting (settings.DotenvLoad value) h = none
-  in_setting (settings.DotenvOverride value) h = none
   in_setting (settings.DotenvPath value) h = alone [] value h
-  in_setting (settings.DotenvRequired value) h = none
-  in_setting (settings.Export value) h = none
-  in_setting (settings.Fallback value) h = none
-  in_setting (settings.Guards value) h = none
-  in_setting (settings.IgnoreComments value) h = none
   in_setting (settings.Indentation value) h = none
-  in_setting (settings.Lazy value) h = none
-  in_setting (settings.Lists value) h = none
   in_setting (settings.MinimumVersion value) h = none
-  in_setting (settings.NoCd value) h = none
-  in_setting (settings.NoExitMessage value) h = none
-  in_setting (settings.PositionalArguments value) h = none
-  in_setting (settings.Quiet value) h = none
   in_setting (settings.ScriptInterpreter i) h = first [] i.command (map (seeing []) i.arguments.items) h.command (row [] i.arguments.items h.arguments)
-  in_setting (settings.ShareSubsequents value) h = none
   in_setting (settings.Shell i) h = first [] i.command (map (seeing []) i.arguments.items) h.command (row [] i.arguments.items h.arguments)
   in_setting (settings.Tempdir value) h = alone [] value h
-  in_setting (settings.Unstable value) h = none
-  in_setting (settings.WindowsPowershell value) h = none
   in_setting (settings.WindowsShell i) h = first [] i.command (map (seeing []) i.arguments.items) h.command (row [] i.arguments.items h.arguments)
   in_setting (settings.WorkingDirectory value) h = alone [] value h
 

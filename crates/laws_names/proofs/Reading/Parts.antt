@@ -176,34 +176,15 @@ of_recipe expansion r h =
     (of_body all r.body.items)
 
 of_setting : (expansion : Expansion) (s : Setting) → parts_of_value (value_of expansion) (value_shape s) ≡ map part_of (seen_in_setting s)
-of_setting expansion (settings.AllowDuplicateRecipes value) = refl
-of_setting expansion (settings.AllowDuplicateVariables value) = refl
-of_setting expansion (settings.DefaultList value) = refl
-of_setting expansion (settings.DefaultScript value) = refl
+of_setting expansion (settings.Truth which value) = refl
 of_setting expansion (settings.DotenvCommand value) = refl
 of_setting expansion (settings.DotenvFilename value) = refl
-of_setting expansion (settings.DotenvLoad value) = refl
-of_setting expansion (settings.DotenvOverride value) = refl
 of_setting expansion (settings.DotenvPath value) = refl
-of_setting expansion (settings.DotenvRequired value) = refl
-of_setting expansion (settings.Export value) = refl
-of_setting expansion (settings.Fallback value) = refl
-of_setting expansion (settings.Guards value) = refl
-of_setting expansion (settings.IgnoreComments value) = refl
 of_setting expansion (settings.Indentation value) = refl
-of_setting expansion (settings.Lazy value) = refl
-of_setting expansion (settings.Lists value) = refl
 of_setting expansion (settings.MinimumVersion value) = refl
-of_setting expansion (settings.NoCd value) = refl
-of_setting expansion (settings.NoExitMessage value) = refl
-of_setting expansion (settings.PositionalArguments value) = refl
-of_setting expansion (settings.Quiet value) = refl
 of_setting expansion (settings.ScriptInterpreter value) = of_interpreter [] value
-of_setting expansion (settings.ShareSubsequents value) = refl
 of_setting expansion (settings.Shell value) = of_interpreter [] value
 of_setting expansion (settings.Tempdir value) = refl
-of_setting expansion (settings.Unstable value) = refl
-of_setting expansion (settings.WindowsPowershell value) = refl
 of_setting expansion (settings.WindowsShell value) = of_interpreter [] value
 of_setting expansion (settings.WorkingDirectory value) = refl
 

@@ -94,34 +94,15 @@ of_line : (all : List (List ℕ × ℕ)) (line : Line) → references_of_line li
 of_line all line = flat (seen_in_fragment all) references_of_fragment (of_fragment all) line.fragments.items
 
 of_setting : (s : Setting) → references_of_setting s ≡ flat_map references_seen (seen_in_setting s)
-of_setting (settings.AllowDuplicateRecipes value) = refl
-of_setting (settings.AllowDuplicateVariables value) = refl
-of_setting (settings.DefaultList value) = refl
-of_setting (settings.DefaultScript value) = refl
+of_setting (settings.Truth which value) = refl
 of_setting (settings.DotenvCommand value) = alone [] value
 of_setting (settings.DotenvFilename value) = alone [] value
-of_setting (settings.DotenvLoad value) = refl
-of_setting (settings.DotenvOverride value) = refl
 of_setting (settings.DotenvPath value) = alone [] value
-of_setting (settings.DotenvRequired value) = refl
-of_setting (settings.Export value) = refl
-of_setting (settings.Fallback value) = refl
-of_setting (settings.Guards value) = refl
-of_setting (settings.IgnoreComments value) = refl
 of_setting (settings.Indentation value) = refl
-of_setting (settings.Lazy value) = refl
-of_setting (settings.Lists value) = refl
 of_setting (settings.MinimumVersion value) = refl
-of_setting (settings.NoCd value) = refl
-of_setting (settings.NoExitMessage value) = refl
-of_setting (settings.PositionalArguments value) = refl
-of_setting (settings.Quiet value) = refl
 of_setting (settings.ScriptInterpreter value) = of_interpreter [] value
-of_setting (settings.ShareSubsequents value) = refl
 of_setting (settings.Shell value) = of_interpreter [] value
 of_setting (settings.Tempdir value) = alone [] value
-of_setting (settings.Unstable value) = refl
-of_setting (settings.WindowsPowershell value) = refl
 of_setting (settings.WindowsShell value) = of_interpreter [] value
 of_setting (settings.WorkingDirectory value) = alone [] value
 

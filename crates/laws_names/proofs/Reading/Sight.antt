@@ -119,34 +119,15 @@ line_sees : (all : Pairs) (line : Line) (s : Seen) → Contains (seen_in_line al
 line_sees all line s c = let r = contained_flat (seen_in_fragment all) line.fragments.items s c in fragment_sees all r.0 s r.2
 
 setting_sees : (setting : Setting) (s : Seen) → Contains (seen_in_setting setting) s → Sees [] s
-setting_sees (settings.AllowDuplicateRecipes value) s c = absurd (contains_none [] s refl c)
-setting_sees (settings.AllowDuplicateVariables value) s c = absurd (contains_none [] s refl c)
-setting_sees (settings.DefaultList value) s c = absurd (contains_none [] s refl c)
-setting_sees (settings.DefaultScript value) s c = absurd (contains_none [] s refl c)
+setting_sees (settings.Truth which value) s c = absurd (contains_none [] s refl c)
 setting_sees (settings.DotenvCommand value) s c = one_sees [] [] value s (λ pair d. d) c
 setting_sees (settings.DotenvFilename value) s c = one_sees [] [] value s (λ pair d. d) c
-setting_sees (settings.DotenvLoad value) s c = absurd (contains_none [] s refl c)
-setting_sees (settings.DotenvOverride value) s c = absurd (contains_none [] s refl c)
 setting_sees (settings.DotenvPath value) s c = one_sees [] [] value s (λ pair d. d) c
-setting_sees (settings.DotenvRequired value) s c = absurd (contains_none [] s refl c)
-setting_sees (settings.Export value) s c = absurd (contains_none [] s refl c)
-setting_sees (settings.Fallback value) s c = absurd (contains_none [] s refl c)
-setting_sees (settings.Guards value) s c = absurd (contains_none [] s refl c)
-setting_sees (settings.IgnoreComments value) s c = absurd (contains_none [] s refl c)
 setting_sees (settings.Indentation value) s c = absurd (contains_none [] s refl c)
-setting_sees (settings.Lazy value) s c = absurd (contains_none [] s refl c)
-setting_sees (settings.Lists value) s c = absurd (contains_none [] s refl c)
 setting_sees (settings.MinimumVersion value) s c = absurd (contains_none [] s refl c)
-setting_sees (settings.NoCd value) s c = absurd (contains_none [] s refl c)
-setting_sees (settings.NoExitMessage value) s c = absurd (contains_none [] s refl c)
-setting_sees (settings.PositionalArguments value) s c = absurd (contains_none [] s refl c)
-setting_sees (settings.Quiet value) s c = absurd (contains_none [] s refl c)
 setting_sees (settings.ScriptInterpreter value) s c = interpreter_sees [] [] value s (λ pair d. d) c
-setting_sees (settings.ShareSubsequents value) s c = absurd (contains_none [] s refl c)
 setting_sees (settings.Shell value) s c = interpreter_sees [] [] value s (λ pair d. d) c
 setting_sees (settings.Tempdir value) s c = one_sees [] [] value s (λ pair d. d) c
-setting_sees (settings.Unstable value) s c = absurd (contains_none [] s refl c)
-setting_sees (settings.WindowsPowershell value) s c = absurd (contains_none [] s refl c)
 setting_sees (settings.WindowsShell value) s c = interpreter_sees [] [] value s (λ pair d. d) c
 setting_sees (settings.WorkingDirectory value) s c = one_sees [] [] value s (λ pair d. d) c
 

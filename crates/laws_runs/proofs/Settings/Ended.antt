@@ -5,7 +5,7 @@ use Rattle.std.specs.List.{flat_map}
 use Rattle.std.proofs.lemmas.Option.{none-some, same_Some}
 use Rattle.tree_attributes.specs.declared.setting.Interpreter.{Interpreter}
 use Rattle.tree_attributes.specs.declared.setting.Setting.{Setting}
-use Rattle.tree_attributes.specs.declared.setting.Setting.TheVariants.{AllowDuplicateRecipes, AllowDuplicateVariables, DefaultList, DefaultScript, DotenvCommand, DotenvFilename, DotenvLoad, DotenvOverride, DotenvPath, DotenvRequired, Export, Fallback, Guards, IgnoreComments, Indentation, Lazy, Lists, MinimumVersion, NoCd, NoExitMessage, PositionalArguments, Quiet, ScriptInterpreter, ShareSubsequents, Shell, Tempdir, Unstable, WindowsPowershell, WindowsShell, WorkingDirectory}
+use Rattle.tree_attributes.specs.declared.setting.Setting.TheVariants.{DotenvCommand, DotenvFilename, DotenvPath, Indentation, MinimumVersion, ScriptInterpreter, Shell, Tempdir, Truth, WindowsShell, WorkingDirectory}
 use Rattle.tree_expressions.specs.Shape.{Shape, shape_of}
 use Rattle.tree_expressions.specs.declared.expression.Expression.{Expression}
 use Rattle.resolve_references.specs.Seen.{Seen, seeing, seen_in_setting}
@@ -106,34 +106,15 @@ module _ (reading : Reading) (lists : Bool) where
 
     -- each expression of a setting that is set settles to a value
     pub each_ends : (setting : Setting) (old new : Settings) → IsSet reading lists name setting old new → (s : Seen) → Contains (seen_in_setting setting) s → HasEnd s.expression
-    each_ends (AllowDuplicateRecipes b) old new h s c = none_ends s c
-    each_ends (AllowDuplicateVariables b) old new h s c = none_ends s c
-    each_ends (DefaultList b) old new h s c = none_ends s c
-    each_ends (DefaultScript b) old new h s c = none_ends s c
+    each_ends (Truth which b) old new h s c = none_ends s c
     each_ends (DotenvCommand e) old new h s c = one_ends e h.0 h.1 s c
     each_ends (DotenvFilename e) old new h s c = one_ends e h.0 h.1 s c
-    each_ends (DotenvLoad b) old new h s c = none_ends s c
-    each_ends (DotenvOverride b) old new h s c = none_ends s c
     each_ends (DotenvPath e) old new h s c = one_ends e h.0 h.1 s c
-    each_ends (DotenvRequired b) old new h s c = none_ends s c
-    each_ends (Export b) old new h s c = none_ends s c
-    each_ends (Fallback b) old new h s c = none_ends s c
-    each_ends (Guards b) old new h s c = none_ends s c
-    each_ends (IgnoreComments b) old new h s c = none_ends s c
     each_ends (Indentation t) old new h s c = none_ends s c
-    each_ends (Lazy b) old new h s c = none_ends s c
-    each_ends (Lists b) old new h s c = none_ends s c
     each_ends (MinimumVersion t) old new h s c = none_ends s c
-    each_ends (NoCd b) old new h s c = none_ends s c
-    each_ends (NoExitMessage b) old new h s c = none_ends s c
-    each_ends (PositionalArguments b) old new h s c = none_ends s c
-    each_ends (Quiet b) old new h s c = none_ends s c
     each_ends (ScriptInterpreter i) old new h s c = words_end i _ h.1 s c
-    each_ends (ShareSubsequents b) old new h s c = none_ends s c
     each_ends (Shell i) old new h s c = words_end i _ h.1 s c
     each_ends (Tempdir e) old new h s c = text_ends e h.0 h.1 s c
-    each_ends (Unstable b) old new h s c = none_ends s c
-    each_ends (WindowsPowershell b) old new h s c = none_ends s c
     each_ends (WindowsShell i) old new h s c = words_end i _ h.1 s c
     each_ends (WorkingDirectory e) old new h s c = text_ends e h.0 h.1 s c
 

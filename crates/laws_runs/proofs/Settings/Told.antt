@@ -6,20 +6,22 @@ use Rattle.std.specs.Option.{option_map}
 use Rattle.std.specs.Str.{bytes_eq}
 use Rattle.std.proofs.lemmas.Map.Keys.{sorted_head, sorted_tail}
 use Rattle.std.proofs.lemmas.Slice.Eq.{bytes_eq-Decides}
-use Rattle.tree_attributes.specs.Settings.{ValueShape, expression, value_shape}
+use Rattle.tree_attributes.specs.Settings.{ValueShape, expression, truth, value_shape}
 use Rattle.tree_attributes.specs.declared.setting.Interpreter.{Interpreter}
 use Rattle.tree_attributes.specs.declared.setting.Setting.{Setting}
-use Rattle.tree_attributes.specs.declared.setting.Setting.TheVariants.{AllowDuplicateRecipes, AllowDuplicateVariables, DefaultList, DefaultScript, DotenvCommand, DotenvFilename, DotenvLoad, DotenvOverride, DotenvPath, DotenvRequired, Export, Fallback, Guards, IgnoreComments, Indentation, Lazy, Lists, MinimumVersion, NoCd, NoExitMessage, PositionalArguments, Quiet, ScriptInterpreter, ShareSubsequents, Shell, Tempdir, Unstable, WindowsPowershell, WindowsShell, WorkingDirectory}
+use Rattle.tree_attributes.specs.declared.setting.Setting.TheVariants.{DotenvCommand, DotenvFilename, DotenvPath, Indentation, MinimumVersion, ScriptInterpreter, Shell, Tempdir, Truth, WindowsShell, WorkingDirectory}
+use Rattle.tree_attributes.specs.declared.truth_setting.TruthSetting.{TruthSetting}
+use Rattle.tree_attributes.specs.declared.truth_setting.TruthSetting.TheVariants.{AllowDuplicateRecipes, AllowDuplicateVariables, DefaultList, DefaultScript, DotenvLoad, DotenvOverride, DotenvRequired, Export, Fallback, Guards, IgnoreComments, Lazy, Lists, NoCd, NoExitMessage, PositionalArguments, Quiet, ShareSubsequents, Unstable, WindowsPowershell}
 use Rattle.tree_expressions.specs.Shape.{Shape, shape_of}
 use Rattle.tree_items.specs.Items.{set_shape}
 use Rattle.tree_items.specs.declared.set.Set.{Set}
-use Rattle.parse_items.specs.Names.{setting_name}
+use Rattle.parse_items.specs.Names.{setting_name, truth_name}
 use Rattle.modules_compilation.specs.Tables.{text_cmp}
 use Rattle.resolve_references.specs.Seen.{Seen, seeing, seen_in_setting}
 use Rattle.evaluate_context.specs.Defaults.{defaults}
 use Rattle.evaluate_context.specs.declared.settings.Settings.{Settings}
 use Rattle.evaluate_expressions.specs.Interpreters.{words_of}
-use Rattle.evaluate_variables.specs.SettingValues.{IsSet}
+use Rattle.evaluate_variables.specs.SettingValues.{IsSet, with_truth}
 use Rattle.meaning_dialogues.specs.Dialogue.{Reading}
 use Rattle.meaning_dialogues.specs.Evaluation.{Value}
 use Rattle.meaning_rules.specs.Worlds.Given.{Text}
@@ -111,36 +113,40 @@ module _ (reading : Reading) (lists : Bool) (settle : Shape → Value) where
   abbrev AllStand : Setting → Type 0
   AllStand setting = (s : Seen) → Contains (seen_in_setting setting) s → Stands reading lists settle s.expression
 
+  -- a truth value that is set changes what is told so
+  told_truth : (which : TruthSetting) (b : Bool) (old : Settings) → told_by (with_truth which b old) ≡ told_with settle (truth_name which) (truth b) (told_by old)
+  told_truth AllowDuplicateRecipes b old = refl
+  told_truth AllowDuplicateVariables b old = refl
+  told_truth DefaultList b old = refl
+  told_truth DefaultScript b old = refl
+  told_truth DotenvLoad b old = refl
+  told_truth DotenvOverride b old = refl
+  told_truth DotenvRequired b old = refl
+  told_truth Export b old = refl
+  told_truth Fallback b old = refl
+  told_truth Guards b old = refl
+  told_truth IgnoreComments b old = refl
+  told_truth Lazy b old = refl
+  told_truth Lists b old = refl
+  told_truth NoCd b old = refl
+  told_truth NoExitMessage b old = refl
+  told_truth PositionalArguments b old = refl
+  told_truth Quiet b old = refl
+  told_truth ShareSubsequents b old = refl
+  told_truth Unstable b old = refl
+  told_truth WindowsPowershell b old = refl
+
   -- a setting that is set changes what is told so
   told_step : (name : List ℕ) (setting : Setting) → AllStand setting → (old new : Settings) → IsSet reading lists name setting old new → told_by new ≡ told_with settle (setting_name setting) (value_shape setting) (told_by old)
-  told_step name (AllowDuplicateRecipes b) stand old new h = ap told_by h
-  told_step name (AllowDuplicateVariables b) stand old new h = ap told_by h
-  told_step name (DefaultList b) stand old new h = ap told_by h
-  told_step name (DefaultScript b) stand old new h = ap told_by h
+  told_step name (Truth which b) stand old new h = ap told_by h ∙ told_truth which b old
   told_step name (DotenvCommand e) stand old new h = ap told_by h.2 ∙ ap (λ (value : Value). told_by (record old { dotenv_command = value })) (sym (stand (seeing [] e) (contains_first (seeing [] e) []) h.0 h.1))
   told_step name (DotenvFilename e) stand old new h = ap told_by h.2 ∙ ap (λ (value : Value). told_by (record old { dotenv_filename = value })) (sym (stand (seeing [] e) (contains_first (seeing [] e) []) h.0 h.1))
-  told_step name (DotenvLoad b) stand old new h = ap told_by h
-  told_step name (DotenvOverride b) stand old new h = ap told_by h
   told_step name (DotenvPath e) stand old new h = ap told_by h.2 ∙ ap (λ (value : Value). told_by (record old { dotenv_path = value })) (sym (stand (seeing [] e) (contains_first (seeing [] e) []) h.0 h.1))
-  told_step name (DotenvRequired b) stand old new h = ap told_by h
-  told_step name (Export b) stand old new h = ap told_by h
-  told_step name (Fallback b) stand old new h = ap told_by h
-  told_step name (Guards b) stand old new h = ap told_by h
-  told_step name (IgnoreComments b) stand old new h = ap told_by h
   told_step name (Indentation s) stand old new h = ap told_by h.1
-  told_step name (Lazy b) stand old new h = ap told_by h
-  told_step name (Lists b) stand old new h = ap told_by h
   told_step name (MinimumVersion s) stand old new h = ap told_by h
-  told_step name (NoCd b) stand old new h = ap told_by h
-  told_step name (NoExitMessage b) stand old new h = ap told_by h
-  told_step name (PositionalArguments b) stand old new h = ap told_by h
-  told_step name (Quiet b) stand old new h = ap told_by h
   told_step name (ScriptInterpreter i) stand old new h = ap told_by h.2 ∙ ap (λ (words : List Text). record (told_by old) { script_interpreter = Some words }) (sym (words_stand reading lists settle name i (words_of h.0) stand h.1))
-  told_step name (ShareSubsequents b) stand old new h = ap told_by h
   told_step name (Shell i) stand old new h = ap told_by h.2 ∙ ap (λ (words : List Text). record (told_by old) { shell = Some words }) (sym (words_stand reading lists settle name i (words_of h.0) stand h.1))
   told_step name (Tempdir e) stand old new h = ap told_by h.2
-  told_step name (Unstable b) stand old new h = ap told_by h
-  told_step name (WindowsPowershell b) stand old new h = ap told_by h
   told_step name (WindowsShell i) stand old new h = ap told_by h.2
   told_step name (WorkingDirectory e) stand old new h =
       let text = text_stands reading lists settle name e h.0 (stand (seeing [] e) (contains_first (seeing [] e) [])) h.1 in
