@@ -1,6 +1,8 @@
 //! The forms of strings.
-ghost use Rattle.std.specs.Prelude.{◌≡◌};
+ghost use Rattle.std.specs.Prelude.{◌≡◌, ◌||◌, if◌then◌else◌, codes};
+ghost use Rattle.tree_expressions.specs.Cutting.{begins};
 ghost use Rattle.tree_expressions.specs.Kinds as spec;
+ghost use Rattle.tree_expressions.specs.declared.string_kind.StringDelimiter.TheVariants.{QuoteSingle, QuoteDouble};
 
 use crate::cut;
 
@@ -34,12 +36,41 @@ pub struct StringKind {
 fn prefix_of(lexeme: &str) -> StringPrefix
     ensures { result ≡ spec.prefix_of lexeme.now }
 {
-    if cut::begins(lexeme, "x") {
-        StringPrefix::Expand
-    } else if cut::begins(lexeme, "f") {
-        StringPrefix::Format
-    } else {
-        StringPrefix::Absent
+    match lexeme.as_bytes() {
+        [b'x', ..] => StringPrefix::Expand,
+        [b'f', ..] => StringPrefix::Format,
+        _ => StringPrefix::Absent,
+    }
+}
+
+/// The string from its quotes on. Most strings have nothing before these, which isn't looked for.
+fn quoted(prefix: StringPrefix, lexeme: &str) -> &str
+    requires { prefix ≡ spec.prefix_of lexeme.now }
+    ensures { result.now ≡ spec.quoted lexeme.now }
+{
+    match prefix {
+        StringPrefix::Absent => lexeme,
+        _ => cut::without_front(lexeme, prefix.text()),
+    }
+}
+
+/// The quotes of a string that begins with them.
+fn delimiter_of(quoted: &str) -> StringDelimiter
+    ensures { result ≡ (if begins quoted.now (codes "\"") then QuoteDouble else QuoteSingle) }
+{
+    match quoted.as_bytes() {
+        [b'"', ..] => StringDelimiter::QuoteDouble,
+        _ => StringDelimiter::QuoteSingle,
+    }
+}
+
+/// Whether three quotes open a string that begins with its quotes.
+fn is_tripled(quoted: &str) -> bool
+    ensures { result ≡ (begins quoted.now (codes "'''") || begins quoted.now (codes "\"\"\"")) }
+{
+    match quoted.as_bytes() {
+        [b'\'', b'\'', b'\'', ..] | [b'"', b'"', b'"', ..] => true,
+        _ => false,
     }
 }
 
@@ -62,15 +93,11 @@ impl StringKind {
         ensures { result ≡ spec.kind_of lexeme.now }
     {
         let prefix = prefix_of(lexeme);
-        let quoted = cut::without_front(lexeme, prefix.text());
+        let quoted = quoted(prefix, lexeme);
         StringKind {
-            delimiter: if cut::begins(quoted, "\"") {
-                StringDelimiter::QuoteDouble
-            } else {
-                StringDelimiter::QuoteSingle
-            },
+            delimiter: delimiter_of(quoted),
             prefix,
-            tripled: cut::begins(quoted, "'''") || cut::begins(quoted, "\"\"\""),
+            tripled: is_tripled(quoted),
         }
     }
 
@@ -94,6 +121,6 @@ pub(crate) fn contents(kind: StringKind, lexeme: &str) -> &str
     ensures { result.now ≡ spec.contents lexeme.now }
 {
     let mark = kind.mark();
-    let quoted = cut::without_front(lexeme, kind.prefix.text());
+    let quoted = quoted(kind.prefix, lexeme);
     cut::without_back(cut::without_front(quoted, mark), mark)
 }
