@@ -7,3 +7,4 @@ pub mod Order
 pub mod Keywords
 pub mod Counts
 pub mod Names
+pub mod Paths

@@ -7,34 +7,56 @@ ghost use Rattle.just_text.specs.Order.{names_cmp, names_eq, names_ties};
 use crate::name::Name;
 use std::alloc::{AllocError, AllocFailed, Global};
 use std::cmp::Ordering;
-use std::fmt;
 use std::marker::Model;
+use std::{fmt, slice};
+
+/// The names of a path. Most paths are a name alone, which takes no memory.
+#[derive(Drop)]
+enum Names<'src> {
+    One(Name<'src>),
+    Several(Vec<Name<'src>>),
+}
 
 /// One or more names: those of the modules that lead to an item, and the item's own.
 #[derive(Drop)]
 pub struct Namepath<'src> {
-    names: Vec<Name<'src>>,
+    names: Names<'src>,
+    alloc: Global,
 }
 
 impl<'src> Model for Namepath<'src> {
     ghost use Rattle.std.specs.Prelude.{List, ◌<◌, length};
+    ghost use Rattle.just_text.specs.Paths.{names_in};
     ghost use Rattle.just_text.specs.declared.name.Name.{Name};
 
     ghost Value = { List Name };
 
-    ghost view = { λ p. p.names.items };
+    ghost view = { λ p. names_in p.names };
 
-    ghost invariant = { λ p. 0 < length p.names.items };
+    ghost invariant = { λ p. 0 < length (names_in p.names) };
+}
+
+/// The two names. Refused only where memory is.
+fn pair<'src>(
+    alloc: Global,
+    first: Name<'src>,
+    second: Name<'src>,
+) -> Result<Vec<Name<'src>>, AllocError>
+    ensures { IfOk result (λ names. names.items ≡ first.entry ∷ second.entry ∷ []) }
+{
+    let mut names = Vec::with_capacity(alloc, 2)?;
+    names.push(first)?;
+    names.push(second)?;
+    Ok(names)
 }
 
 impl<'src> Namepath<'src> {
-    /// The path of a name alone.
+    /// The path of a name alone, which takes no memory.
     pub fn from_name(alloc: Global, name: Name<'src>) -> Result<Namepath<'src>, AllocError>
         ensures { IfOk result (λ p. p ≡ name.entry ∷ []) }
     {
-        let mut names = Vec::with_capacity(alloc, 1)?;
-        names.push(name)?;
-        Ok(Namepath { names })
+        let names = Names::One(name);
+        Ok(Namepath { names, alloc })
     }
 
     /// Puts a name after the others. A refused growth changes nothing and gives the name back.
@@ -42,7 +64,17 @@ impl<'src> Namepath<'src> {
         ensures grown { self.new ≡ (if is_ok result then self.old ++ name.entry ∷ [] else self.old) }
         ensures returned { IfErr result (λ e. e.value ≡ name.entry) }
     {
-        self.names.push(name)
+        let first = match &mut self.names {
+            Names::One(first) => *first,
+            Names::Several(names) => return names.push(name),
+        };
+        match pair(self.alloc, first, name) {
+            Ok(names) => {
+                self.names = Names::Several(names);
+                Ok(())
+            }
+            Err(_) => Err(AllocFailed { value: name }),
+        }
     }
 
     /// The names, of which there is at least one.
@@ -50,14 +82,20 @@ impl<'src> Namepath<'src> {
         ensures value { result.now ≡ self.now }
         ensures some { 0 < length result.now }
     {
-        self.names.as_slice()
+        match &self.names {
+            Names::One(name) => slice::from_ref(name),
+            Names::Several(names) => names.as_slice(),
+        }
     }
 
     /// The item's own name.
     pub fn last(&self) -> Name<'src>
         ensures { slice_get self.now (length self.now - 1) ≡ Some result }
     {
-        self.names[self.names.len() - 1]
+        match &self.names {
+            Names::One(name) => *name,
+            Names::Several(names) => names[names.len() - 1],
+        }
     }
 }
 
@@ -65,8 +103,14 @@ impl Clone for Namepath<'_> {
     ghost is_clone = { λ s t. t ≡ s };
 
     fn clone(&self) -> Result<Self, AllocError> {
-        let names = self.names.clone()?;
-        Ok(Namepath { names })
+        let names = match &self.names {
+            Names::One(name) => Names::One(*name),
+            Names::Several(names) => Names::Several(names.clone()?),
+        };
+        Ok(Namepath {
+            names,
+            alloc: self.alloc,
+        })
     }
 }
 
@@ -76,7 +120,7 @@ impl fmt::Display for Namepath<'_> {
     ghost output = { λ path. Some (path_text path) };
 
     fn fmt<W: fmt::Write>(&self, f: &mut fmt::Formatter<W>) -> fmt::Result {
-        let Some((first, others)) = self.names.split_first() else {
+        let Some((first, others)) = self.names().split_first() else {
             return Ok(());
         };
         write!(f, "{first}")?;
@@ -89,7 +133,7 @@ impl fmt::Display for Namepath<'_> {
 
 impl fmt::Debug for Namepath<'_> {
     fn fmt<W: fmt::Write>(&self, f: &mut fmt::Formatter<W>) -> fmt::Result {
-        fmt::Debug::fmt(&self.names, f)
+        fmt::Debug::fmt(self.names(), f)
     }
 }
 
@@ -99,7 +143,7 @@ impl PartialEq for Namepath<'_> {
     ghost laws = { Prim.search (comparing, rules) depth 12 };
 
     fn eq(&self, other: &Self) -> bool {
-        self.names == other.names
+        self.names() == other.names()
     }
 }
 
@@ -131,6 +175,6 @@ impl Ord for Namepath<'_> {
     ghost matches_eq = { names_ties };
 
     fn cmp(&self, other: &Self) -> Ordering {
-        self.names.cmp(&other.names)
+        self.names().cmp(other.names())
     }
 }
