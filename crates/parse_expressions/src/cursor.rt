@@ -71,14 +71,19 @@ impl<'t, 'src> Cursor<'t, 'src> {
 
     /// Takes the next token, which has to be of that kind. `Unexpected` tells which other token is
     /// next, or that the tokens end.
-    #[tactic(auto, unfolding(crate::specs::Reading::expect))]
+    #[tactic(auto, unfolding(crate::specs::Reading::accept, crate::specs::Reading::expect))]
     pub fn expect(&mut self, kind: TokenKind) -> Result<Token<'src>, Fault<'src>>
         ensures { Gives (λ t. (t, ahead self.new)) result (expect word_of kind (ahead self.old)) }
     {
-        match self.accept(kind) {
-            Some(token) => Ok(token),
-            None => Err(self.unexpected()),
+        self.skip_whitespace();
+        let Some(token) = self.rest.first() else {
+            return Err(Fault::Unexpected(None));
+        };
+        if token.kind != kind {
+            return Err(Fault::Unexpected(Some(*token)));
         }
+        self.rest = &self.rest[1..];
+        Ok(*token)
     }
 
     /// Whether the next token is of that kind.
