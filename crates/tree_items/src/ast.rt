@@ -15,13 +15,13 @@ use std::fmt;
 use tree_attributes::{AttributeSet, ItemKind};
 
 /// Writes attributes, one a line.
-fn print_attributes<W: fmt::Write>(
+fn print_attributes<'src, W: fmt::Write>(
+    attributes: &AttributeSet<'src>,
     f: &mut fmt::Formatter<W>,
-    attributes: &AttributeSet,
 ) -> fmt::Result
     ensures { WritesOnOk W.write_str_gives f.old result (attributes_text (shapes_in attributes.now)) f.new }
 {
-    write!(f, "{attributes}")
+    fmt::Display::fmt(attributes, f)
 }
 
 /// An item of a file.
@@ -72,7 +72,7 @@ impl<'src> Item<'src> {
             Item::Set(set) => &set.attributes,
             _ => return Ok(()),
         };
-        print_attributes(f, attributes)
+        print_attributes(attributes, f)
     }
 
     /// Writes the item after its attributes, bodies with this indentation, and no newline at its
@@ -187,10 +187,10 @@ fn blank_lines(count: usize) -> &'static str
 }
 
 /// Writes an item after blank lines, and a newline after it.
-fn print_behind<W: fmt::Write>(
+fn print_behind<'src, W: fmt::Write>(
+    item: &Item<'src>,
     f: &mut fmt::Formatter<W>,
     blank: usize,
-    item: &Item,
     indentation: &str,
 ) -> fmt::Result
     ensures { WritesOnOk W.write_str_gives f.old result (spec.text_behind indentation.now blank (spec.item_shape item.now)) f.new }
@@ -211,7 +211,7 @@ impl Ast<'_> {
             if is_blank(item) {
                 blank += 1;
             } else {
-                print_behind(f, blank, item, indentation)?;
+                print_behind(item, f, blank, indentation)?;
                 blank = 0;
             }
         }

@@ -11,7 +11,7 @@ use std::fmt;
 
 /// A path's names with `::` between two.
 #[derive(Clone, Copy)]
-pub struct Path<'a, 'src>(pub &'a Namepath<'src>);
+pub struct Path<'src, 'a>(pub &'a Namepath<'src>);
 
 impl fmt::Display for Path<'_, '_> {
     ghost use Rattle.just_text.specs.Names.{joined_names};
@@ -27,7 +27,7 @@ impl fmt::Display for Path<'_, '_> {
 
 /// Parameters, each after a space.
 #[derive(Clone, Copy)]
-pub struct Parameters<'a, 'src>(pub &'a [Parameter<'src>]);
+pub struct Parameters<'src, 'a>(pub &'a [Parameter<'src>]);
 
 impl fmt::Display for Parameters<'_, '_> {
     ghost output = { λ row. Some (spec.parameters_text (spec.parameter_shapes row.0.now)) };
@@ -43,7 +43,7 @@ impl fmt::Display for Parameters<'_, '_> {
 
 /// Arguments of a dependency, each after a space.
 #[derive(Clone, Copy)]
-pub struct Arguments<'a, 'src>(pub &'a [DependencyArgument<'src>]);
+pub struct Arguments<'src, 'a>(pub &'a [DependencyArgument<'src>]);
 
 impl fmt::Display for Arguments<'_, '_> {
     ghost output = { λ row. Some (spec.arguments_text (spec.argument_shapes row.0.now)) };
@@ -59,7 +59,7 @@ impl fmt::Display for Arguments<'_, '_> {
 
 /// Dependencies, each after a space.
 #[derive(Clone, Copy)]
-pub struct Dependencies<'a, 'src>(pub &'a [UnresolvedDependency<'src>]);
+pub struct Dependencies<'src, 'a>(pub &'a [UnresolvedDependency<'src>]);
 
 impl fmt::Display for Dependencies<'_, '_> {
     ghost output = { λ row. Some (spec.dependencies_text (spec.dependency_shapes row.0.now)) };
@@ -75,7 +75,7 @@ impl fmt::Display for Dependencies<'_, '_> {
 
 /// The dependencies after a recipe's body, after ` &&` if there are any.
 #[derive(Clone, Copy)]
-pub struct Subsequents<'a, 'src>(pub &'a [UnresolvedDependency<'src>]);
+pub struct Subsequents<'src, 'a>(pub &'a [UnresolvedDependency<'src>]);
 
 impl fmt::Display for Subsequents<'_, '_> {
     ghost output = { λ row. Some (spec.subsequents_text (spec.dependency_shapes row.0.now)) };
@@ -91,7 +91,7 @@ impl fmt::Display for Subsequents<'_, '_> {
 
 /// A line of a body after the indentation; a blank line is empty.
 #[derive(Clone, Copy)]
-pub struct Indented<'a, 'src> {
+pub struct Indented<'src, 'a> {
     pub indentation: &'a str,
     pub line: &'a Line<'src>,
 }
@@ -113,7 +113,7 @@ impl fmt::Display for Indented<'_, '_> {
 
 /// A body, each line after a newline.
 #[derive(Clone, Copy)]
-pub struct Body<'a, 'src> {
+pub struct Body<'src, 'a> {
     pub indentation: &'a str,
     pub lines: &'a [Line<'src>],
 }
@@ -134,7 +134,7 @@ impl fmt::Display for Body<'_, '_> {
 
 /// Names of parameters, with a comma and a space between two.
 #[derive(Clone, Copy)]
-pub struct Names<'a, 'src>(pub &'a [FunctionParameter<'src>]);
+pub struct Names<'src, 'a>(pub &'a [FunctionParameter<'src>]);
 
 impl fmt::Display for Names<'_, '_> {
     ghost output = { λ row. Some (items.names_text (items.names_of row.0.now)) };
