@@ -20,9 +20,9 @@ pub data GoAlike {Rule : Type 0} (old new old' new' : List Entry) (t t' : Tally)
 
 -- whatever faults kept two runs from getting past their opening, they go alike
 abbrev pub RefusedGoAlike : Type 0 → Type 0
-RefusedGoAlike Rule = (old new old' new' : List Entry) (t t' : Tally) (fault fault' : OpeningFailure) → GoAlike old new old' new' t t' (not_opened {Rule} fault) (not_opened {Rule} fault')
+RefusedGoAlike Rule = (old new old' new' : List Entry) (t t' : Tally) (fault fault' : OpeningFailure) → GoAlike {Rule = Rule} old new old' new' t t' (not_opened fault) (not_opened fault')
 
 -- two runs with the same events, as many calls and the same end go alike, whatever else they recorded
 abbrev pub EqualEventsGoAlike : Type 0 → Type 0
 EqualEventsGoAlike Rule = (old piece old' piece' : List Entry) (t : Tally) (failure : Option Failure) → events_of is_event piece ≡ events_of is_event piece'
-    → GoAlike old (old ++ piece) old' (old' ++ piece') t t (outcome_of {Rule} failure) (outcome_of {Rule} failure)
+    → GoAlike {Rule = Rule} old (old ++ piece) old' (old' ++ piece') t t (outcome_of failure) (outcome_of failure)
