@@ -1,5 +1,6 @@
 pub mod Printed
 pub mod TextsInRow
+mod Compared
 mod Braces
 pub mod Cuts
 mod Lines

@@ -1,4 +1,5 @@
 pub mod Operators
+pub mod Order
 pub mod Shape
 pub mod Printing
 pub mod Layouts

@@ -11,7 +11,7 @@ use std::alloc::Global;
 const MAX_DIGITS: u32 = 6;
 
 /// How far an escape is read.
-#[derive(Clone, Copy, Debug, PartialEq, Eq)]
+#[derive(Clone, Copy, PartialEq, Eq)]
 pub enum Escape {
     Outside,
     /// After a backslash.
@@ -23,7 +23,7 @@ pub enum Escape {
 }
 
 /// What a character does.
-#[derive(Clone, Copy, Debug, PartialEq, Eq)]
+#[derive(Clone, Copy, PartialEq, Eq)]
 pub enum Step {
     /// It is this character, or ends an escape of it.
     Adds(char),

@@ -12,7 +12,6 @@ pub use numbering::VariableNumbers;
 use std::fmt;
 
 /// An expression as it is written. Its order and equality are by all that it holds, places in the file included.
-#[derive(PartialEq, Eq, PartialOrd, Ord)]
 pub enum Expression<'src> {
     /// `lhs && rhs`
     And {

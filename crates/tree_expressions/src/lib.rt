@@ -10,6 +10,7 @@ mod format_part;
 mod indentation;
 pub mod law;
 mod operator;
+mod order;
 mod printing;
 mod string_kind;
 mod string_literal;

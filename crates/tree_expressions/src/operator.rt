@@ -5,7 +5,7 @@ ghost use Rattle.tree_expressions.specs.Operators.{comparison_mark, list_mark, l
 use std::fmt;
 
 /// An operator that compares two values.
-#[derive(Clone, Copy, Debug, PartialEq, Eq, PartialOrd, Ord)]
+#[derive(Clone, Copy, Debug)]
 pub enum ConditionalOperator {
     Equality,
     Inequality,
@@ -36,7 +36,7 @@ impl fmt::Display for ConditionalOperator {
 }
 
 /// An operator that joins two lists element by element.
-#[derive(Clone, Copy, Debug, PartialEq, Eq, PartialOrd, Ord)]
+#[derive(Clone, Copy, Debug)]
 pub enum ListOperator {
     Concatenate,
     Join,

@@ -7,14 +7,14 @@ ghost use Rattle.tree_expressions.specs.declared.string_kind.StringDelimiter.The
 use crate::cut;
 
 /// The quotes of a string.
-#[derive(Clone, Copy, Debug, PartialEq, Eq, PartialOrd, Ord)]
+#[derive(Clone, Copy)]
 pub enum StringDelimiter {
     QuoteSingle,
     QuoteDouble,
 }
 
 /// What stands before the quotes of a string.
-#[derive(Clone, Copy, Debug, PartialEq, Eq, PartialOrd, Ord)]
+#[derive(Clone, Copy, PartialEq, Eq)]
 pub enum StringPrefix {
     Absent,
     /// `x`: the text is expanded.
@@ -24,7 +24,7 @@ pub enum StringPrefix {
 }
 
 /// The form of a string.
-#[derive(Clone, Copy, Debug, PartialEq, Eq, PartialOrd, Ord)]
+#[derive(Clone, Copy)]
 pub struct StringKind {
     pub delimiter: StringDelimiter,
     pub prefix: StringPrefix,

@@ -13,7 +13,7 @@ use std::alloc::{AllocError, Global};
 use std::fmt;
 
 /// A string of a justfile. It prints as it is written.
-#[derive(Debug, Drop, PartialEq, Eq, PartialOrd, Ord)]
+#[derive(Drop)]
 pub struct StringLiteral<'src> {
     /// The text that it stands for.
     pub cooked: Text,
