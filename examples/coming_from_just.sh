@@ -4,9 +4,10 @@
 # standard error that begins with `just: ` says why, the status is 2, and nothing ran. As in just, switches stand before
 # all other words, and what stands behind the first recipe belongs to the recipes.
 #
-# - A dry run wins: beside `-n` may stand a run, `--list`, `--dump`, `--show`, `--summary` and `--fmt --check`, which
-#   run and write nothing; any other action is refused. `--yes` answers by `y` what a run asks, and a dry run; the other
-#   actions ask nothing, and it has no effect on them, as in just.
+# - A dry run wins, which `-n` or a variable JUST_DRY_RUN asks for: a run shows what it would do; `--list`, `--dump`,
+#   `--show`, `--summary` and `--fmt --check` run and write nothing, and go on; any other action is refused. `--yes`
+#   answers by `y` what a run asks, and a dry run; the other actions ask nothing, and it has no effect on them, as in
+#   just.
 # - The justfile is sought in the folders above too, upwards from the folder in front of the recipe, if there is one.
 #   `-f FILE` and `-d FOLDER` say where it is; together they have to name the same place.
 # - Under `dotenv-load`, `dotenv-override`, `dotenv-filename` and `dotenv-path`, of the justfile and of what it imports,
@@ -309,12 +310,10 @@ TEXT
             END {
                 end_item()
                 if (wanted != "show") exit
-                if (("alias", shown) in texts) {
-                    printf "%s", texts["alias", shown]
-                    shown = targets[shown]
-                }
+                alias = texts["alias", shown]
+                if (alias != "") shown = targets[shown]
                 if (!(("recipe", shown) in texts)) exit 1
-                printf "%s", texts["recipe", shown]
+                printf "%s%s", alias, texts["recipe", shown]
             }'
     }
 
@@ -451,7 +450,7 @@ TEXT
         done < <(items all < "$1")
     }
 
-    # Writes the path of the file of the module $2, which a file in the folder $1 names with the path $3, or without one.
+    # Writes the path of the file of the module $2, which a file in the folder $1 names with the path $3 or without any.
     module_file() {
         local path=$1${3:-$2} name
         if [[ $3 && -f $path ]]; then
