@@ -2,10 +2,10 @@
  *
  * Loaded before a program (LD_PRELOAD). REFUSE_STEP names the step: `create` refuses to make a new file, `write` to write
  * into one, `rest` lets one byte be written and then nothing more, `owner` refuses another owner or group, `mode` another
- * mode, `sync` to bring it to the disk, `rename` to rename it. The refused call sets
- * ENOSPC. Only files whose name has `.just-format-` in it are meant. For each refusal a byte goes to the file
- * descriptor 9, so that the caller knows whether there was one. A new file that others than its owner may read, write or run
- * from the start is refused at every step.
+ * mode, `sync` to bring it to the disk, `rename` to rename it; `edit` refuses nothing, but puts `EDITED` at the front of the
+ * old file before the new one is brought to the disk. The refused call sets ENOSPC. Only files whose name has
+ * `.just-format` in it are meant. For each refusal a byte goes to the file descriptor 9, so that the caller knows whether
+ * there was one. A new file that others than its owner may read, write or run from the start is refused at every step.
  */
 #define _GNU_SOURCE
 #include <dlfcn.h>
@@ -40,7 +40,7 @@ static int refuse(void)
 
 static int is_new(const char *path, int flags)
 {
-    return (flags & O_CREAT) != 0 && strstr(path, ".just-format-") != NULL;
+    return (flags & O_CREAT) != 0 && strstr(path, ".just-format") != NULL;
 }
 
 int openat(int folder, const char *path, int flags, ...)
@@ -88,14 +88,14 @@ ssize_t write(int file, const void *bytes, size_t count)
     return next(file, bytes, count);
 }
 
-int lchown(const char *path, uid_t owner, gid_t group)
+int fchown(int file, uid_t owner, gid_t group)
 {
-    static int (*next)(const char *, uid_t, gid_t);
+    static int (*next)(int, uid_t, gid_t);
     if (next == NULL)
-        *(void **)&next = dlsym(RTLD_NEXT, "lchown");
-    if (is_step("owner"))
+        *(void **)&next = dlsym(RTLD_NEXT, "fchown");
+    if (file == new_file && is_step("owner"))
         return refuse();
-    return next(path, owner, group);
+    return next(file, owner, group);
 }
 
 int fchmod(int file, mode_t mode)
@@ -108,6 +108,17 @@ int fchmod(int file, mode_t mode)
     return next(file, mode);
 }
 
+static void edit(void)
+{
+    static int (*next_openat)(int, const char *, int, ...);
+    static ssize_t (*next_write)(int, const void *, size_t);
+    *(void **)&next_openat = dlsym(RTLD_NEXT, "openat");
+    *(void **)&next_write = dlsym(RTLD_NEXT, "write");
+    int old = next_openat(AT_FDCWD, "justfile", O_WRONLY);
+    (void)!next_write(old, "EDITED", 6);
+    (void)close(old);
+}
+
 int fsync(int file)
 {
     static int (*next)(int);
@@ -115,6 +126,8 @@ int fsync(int file)
         *(void **)&next = dlsym(RTLD_NEXT, "fsync");
     if (file == new_file && is_step("sync"))
         return refuse();
+    if (file == new_file && is_step("edit"))
+        edit();
     return next(file);
 }
 

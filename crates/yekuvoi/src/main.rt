@@ -11,7 +11,7 @@ use just_value::Positional;
 use justfile_syntax::{Os, Text};
 use program_loader::{base_folder, clean_folder, find_root, load};
 use program_system::{Environment, Shell};
-use replace::replace;
+use replace::{Change, NEW_NAME, Replaced, replace};
 use semver::Version;
 use std::alloc::{AllocError, Global};
 use std::collections::BTreeMap;
@@ -32,11 +32,11 @@ struct Project {
 }
 
 impl Project {
-    /// Whether the file at the path has this text.
-    fn has_text(&self, path: &str, text: &str) -> bool {
+    /// The text of the file at the path, as it was read; nothing where it has none.
+    fn text(&self, path: &str) -> &str {
         match self.sources.get(path) {
-            Some(old) => old.as_str() == text,
-            None => false,
+            Some(text) => text.as_str(),
+            None => "",
         }
     }
 }
@@ -142,18 +142,29 @@ fn report<W: Write>(shown: &mut W, fault: &Fault) -> u8 {
     fault.status()
 }
 
+/// Tells why the file is as it was, if it is.
+fn ensure_replaced(replaced: Replaced, path: &str) -> Result<()> {
+    match replaced {
+        Replaced::Whole => Ok(()),
+        Replaced::Taken => bail!("`{NEW_NAME}` is there: another run makes it, or left it"),
+        Replaced::Changed => bail!("`{path}` was changed during the run"),
+    }
+}
+
 /// Puts the formatted text in the place of the root file, if it is another one.
 fn rewrite(rt: &HostRuntime, project: &Project, outcome: Outcome) -> Result<()> {
     let Outcome::Formatted { path, text } = outcome else {
         return Ok(());
     };
-    if project.has_text(path.as_str(), text.as_str()) {
+    let change = Change {
+        before: project.text(path.as_str()),
+        after: text.as_str(),
+    };
+    if change.before == change.after {
         return Ok(());
     }
-    if !replace(rt, project.base.as_str(), path.as_str(), text.as_str())? {
-        bail!("no free name");
-    }
-    Ok(())
+    let replaced = replace(rt, project.base.as_str(), path.as_str(), change)?;
+    ensure_replaced(replaced, path.as_str())
 }
 
 /// Drives the project by the words, and gives the status to end with.

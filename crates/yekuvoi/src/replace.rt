@@ -1,13 +1,14 @@
 //! A file's text anew.
 use std::alloc::{AllocError, Global};
 use std::fs::{Metadata, OpenFile, OpenOptions, Permissions};
-use std::io::Write;
-use std::os::unix::fs::{MetadataExt, OpenOptionsExt, PermissionsExt, lchown};
+use std::io::{Read, Write};
+use std::os::fd::AsFd;
+use std::os::unix::fs::{MetadataExt, OpenOptionsExt, PermissionsExt, fchown};
 use std::rt::Files;
 use std::{fs, io};
 
-/// So many names are tried.
-const NAME_COUNT: u32 = 10_000;
+/// The name of the new file, before it is put in the old one's place.
+pub const NEW_NAME: &str = ".just-format";
 
 /// A new file is made so: its owner alone reads and writes it.
 const NEW_MODE: u32 = 0o600;
@@ -15,16 +16,29 @@ const NEW_MODE: u32 = 0o600;
 /// The bits of a mode that say who may read, write and run a file.
 const ACCESS: u32 = 0o777;
 
+/// What a file says, and what it is to say.
+#[derive(Clone, Copy)]
+pub struct Change<'a> {
+    pub before: &'a str,
+    pub after: &'a str,
+}
+
+/// What became of a file that was to have another text.
+#[derive(Clone, Copy, Debug, PartialEq, Eq)]
+pub enum Replaced {
+    /// It has the other text.
+    Whole,
+    /// It is as it was, since there is a file that has the new one's name.
+    Taken,
+    /// It is as it was, since it no longer said what was expected.
+    Changed,
+}
+
 /// The file that is replaced.
 #[derive(Drop)]
 struct Old {
     path: String,
     found: Metadata,
-}
-
-/// The path of the new file of this number in the folder.
-fn new_path(alloc: Global, folder: &str, number: u32) -> Result<String, AllocError> {
-    format!(in alloc; "{folder}/.just-format-{number}")
 }
 
 /// A new file at the path, or the fault.
@@ -47,8 +61,8 @@ fn mode_for(old: u32, has_group: bool) -> u32 {
 }
 
 /// Whether the new file has the old one's group, which it is given if the system lets it.
-fn takes_group<R: Files>(rt: &R, path: &str, new: &Metadata, old: &Metadata) -> bool {
-    new.gid() == old.gid() || lchown(rt, path, None, Some(old.gid())).is_ok()
+fn takes_group<F: AsFd + Drop>(file: &F, new: &Metadata, old: &Metadata) -> bool {
+    new.gid() == old.gid() || fchown(file, None, Some(old.gid())).is_ok()
 }
 
 /// Gives the new file the mode.
@@ -60,77 +74,122 @@ fn give_mode<F: OpenFile>(file: &F, new: &Metadata, mode: u32) -> io::Result<()>
 }
 
 /// Gives the new file the old one's owner, if the system lets it.
-fn give_owner<R: Files>(rt: &R, path: &str, new: &Metadata, old: &Metadata) {
+fn give_owner<F: AsFd + Drop>(file: &F, new: &Metadata, old: &Metadata) {
     if new.uid() != old.uid() {
-        let _ = lchown(rt, path, Some(old.uid()), None);
+        let _ = fchown(file, Some(old.uid()), None);
     }
 }
 
 /// Gives the new file the old one's group, mode and owner.
-fn liken<R: Files>(rt: &R, path: &str, file: &R::File, old: &Metadata) -> io::Result<()> {
+fn liken<F: OpenFile + AsFd + Drop>(file: &F, old: &Metadata) -> io::Result<()> {
     let new = file.metadata()?;
-    let has_group = takes_group(rt, path, &new, old);
+    let has_group = takes_group(file, &new, old);
     give_mode(file, &new, mode_for(old.mode(), has_group))?;
-    give_owner(rt, path, &new, old);
+    give_owner(file, &new, old);
     Ok(())
 }
 
 /// Writes the text into the new file, which is then as the old one is, and on the disk.
-fn write<R: Files>(
-    rt: &R,
-    path: &str,
-    mut file: R::File,
+fn write<F: Write + OpenFile + AsFd + Drop>(
+    mut file: F,
     text: &str,
     old: &Metadata,
 ) -> io::Result<()> {
     file.write_all(text.as_bytes())?;
-    liken(rt, path, &file, old)?;
+    liken(&file, old)?;
     file.sync_all()
 }
 
-/// The answer; the new file is gone again where a step failed.
-fn kept<R: Files>(rt: &R, new: &str, answer: io::Result<()>) -> io::Result<()> {
-    if answer.is_err() {
+/// The bytes of the file at the path, as far as one more than so many.
+fn bytes_of<R: Files + Alloc<A = Global>>(rt: &R, path: &str, length: u64) -> io::Result<Vec<u8>> {
+    let mut bytes = Vec::new(rt.alloc());
+    let file = fs::open(rt, path)?;
+    file.take(length.saturating_add(1)).read_to_end(&mut bytes)?;
+    Ok(bytes)
+}
+
+/// Whether the path is that of a regular file, which a link is not, that has this text.
+fn has_text<R: Files + Alloc<A = Global>>(rt: &R, path: &str, text: &str) -> io::Result<bool> {
+    let length = text.len() as u64;
+    let found = fs::symlink_metadata(rt, path)?;
+    if !found.is_file() || found.len() != length {
+        return Ok(false);
+    }
+    let bytes = bytes_of(rt, path, length)?;
+    Ok(bytes.as_slice() == text.as_bytes())
+}
+
+/// Writes the new file, and puts it in the old one's place where that has the text that it had.
+fn put<R: Files + Alloc<A = Global>>(
+    rt: &R,
+    new: &str,
+    file: R::File,
+    old: &Old,
+    change: Change<'_>,
+) -> io::Result<Replaced>
+where
+    R::File: AsFd,
+{
+    write(file, change.after, &old.found)?;
+    if !has_text(rt, old.path.as_str(), change.before)? {
+        return Ok(Replaced::Changed);
+    }
+    fs::rename(rt, new, old.path.as_str())?;
+    Ok(Replaced::Whole)
+}
+
+/// What became of the file; the new one is gone again where it was not put in the old one's place.
+fn kept<R: Files>(rt: &R, new: &str, answer: io::Result<Replaced>) -> io::Result<Replaced> {
+    if !matches!(answer, Ok(Replaced::Whole)) {
         let _ = fs::remove_file(rt, new);
     }
     answer
 }
 
-/// Puts a new file at the path in the old one's place. `Ok(false)` where there is a file of that name.
-fn replace_by<R: Files>(rt: &R, new: &str, text: &str, old: &Old) -> io::Result<bool> {
-    let file = match create(rt, new) {
-        Ok(file) => file,
-        Err(fault) if fault.kind() == io::ErrorKind::AlreadyExists => return Ok(false),
-        Err(fault) => return Err(fault),
-    };
-    kept(rt, new, write(rt, new, file, text, &old.found))?;
-    kept(rt, new, fs::rename(rt, new, old.path.as_str()))?;
-    Ok(true)
+/// Puts a new file at the path in the old one's place, unless there is a file of that name.
+fn replace_by<R: Files + Alloc<A = Global>>(
+    rt: &R,
+    new: &str,
+    old: &Old,
+    change: Change<'_>,
+) -> io::Result<Replaced>
+where
+    R::File: AsFd,
+{
+    match create(rt, new) {
+        Ok(file) => kept(rt, new, put(rt, new, file, old, change)),
+        Err(fault) if fault.kind() == io::ErrorKind::AlreadyExists => Ok(Replaced::Taken),
+        Err(fault) => Err(fault),
+    }
+}
+
+/// The path of the file of this name in the folder.
+fn path_in(alloc: Global, folder: &str, name: &str) -> Result<String, AllocError> {
+    format!(in alloc; "{folder}/{name}")
 }
 
 /// The file of this name in the folder.
 fn old_file<R: Files + Alloc<A = Global>>(rt: &R, folder: &str, name: &str) -> io::Result<Old> {
-    let path = format!(in rt.alloc(); "{folder}/{name}")?;
+    let path = path_in(rt.alloc(), folder, name)?;
     let found = fs::symlink_metadata(rt, path.as_str())?;
     Ok(Old { path, found })
 }
 
-/// Writes the text into the first new file of the folder whose name is free, and puts it in the place of the file of this
-/// name there. The new file belongs to its owner alone until it has the old one's group, mode and owner, the group and the
-/// owner where the system lets it, and it is on the disk before it is put there. Where a step fails the old file is as it
-/// was, and no new one is left. `Ok(false)` where no name is free.
+/// Writes the text after the change into a new file of the folder, named `.just-format`, and puts it in the place of the
+/// file of this name there. The new file belongs to its owner alone until it has the old one's group, mode and owner, the
+/// group and the owner where the system lets it, and it is on the disk before it is put there. Right before that the old
+/// one is read again. Where a step fails, where there is a file of the new one's name, and where the old one no longer has
+/// the text before the change, the old file is as it was, and the new one is not left.
 pub fn replace<R: Files + Alloc<A = Global>>(
     rt: &R,
     folder: &str,
     name: &str,
-    text: &str,
-) -> io::Result<bool> {
+    change: Change<'_>,
+) -> io::Result<Replaced>
+where
+    R::File: AsFd,
+{
     let old = old_file(rt, folder, name)?;
-    for number in 0..NAME_COUNT {
-        let new = new_path(rt.alloc(), folder, number)?;
-        if replace_by(rt, new.as_str(), text, &old)? {
-            return Ok(true);
-        }
-    }
-    Ok(false)
+    let new = path_in(rt.alloc(), folder, NEW_NAME)?;
+    replace_by(rt, new.as_str(), &old, change)
 }
