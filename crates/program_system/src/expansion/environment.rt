@@ -5,7 +5,11 @@ ghost use Rattle.program_system.specs.Expanded.{value};
 use std::alloc::{AllocError, Global};
 use std::collections::BTreeMap;
 use std::env::FillError;
-use std::rt::Env;
+use std::rt::{Env, Files};
+use std::{fs, io};
+
+/// The file that shows the entries that the process was started with, each ended by a NUL byte.
+const ENTRIES: &str = "/proc/self/environ";
 
 /// A variable is at most so many bytes long with its name, since the system takes no longer one.
 const ENTRY_SIZE: usize = 131_072;
@@ -53,8 +57,18 @@ impl Environment {
         }
     }
 
-    /// The variables of the process, of which the first of a name counts.
-    pub fn read<R: Env + Alloc<A = Global>>(rt: &R) -> Result<Environment, AllocError> {
+    /// The variables of these entries, each ended by a NUL byte, of which the first of a name counts.
+    fn from_entries(alloc: Global, entries: &[u8]) -> Result<Environment, AllocError> {
+        let mut environment = Environment::new(alloc);
+        for entry in entries.split(|byte| *byte == 0) {
+            environment.take(alloc, entry)?;
+        }
+        Ok(environment)
+    }
+
+    /// The variables of the process by the places of their entries, of which the first of a name counts. The system goes
+    /// to each entry from the first.
+    fn read_by_place<R: Env + Alloc<A = Global>>(rt: &R) -> Result<Environment, AllocError> {
         let alloc = rt.alloc();
         let mut environment = Environment::new(alloc);
         let mut entry = vec![in alloc; 0u8; ENTRY_SIZE]?;
@@ -66,5 +80,15 @@ impl Environment {
             }
         }
         Ok(environment)
+    }
+
+    /// The variables that the process was started with, of which the first of a name counts: those that the system shows
+    /// in a file, and where that can't be read, those at each place.
+    pub fn read<R: Env + Files + Alloc<A = Global>>(rt: &R) -> Result<Environment, AllocError> {
+        match fs::read(rt, ENTRIES) {
+            Ok(entries) => Environment::from_entries(rt.alloc(), entries.as_slice()),
+            Err(fault) if fault.kind() == io::ErrorKind::OutOfMemory => Err(AllocError),
+            Err(_) => Environment::read_by_place(rt),
+        }
     }
 }
