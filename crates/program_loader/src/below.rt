@@ -1,7 +1,8 @@
 //! Files and folders at paths below a folder.
+use crate::reach::Reach;
 use crate::readable::readable;
 use crate::root_name::is_root_name;
-use crate::walk::{GIT, names_in};
+use crate::walk::names_in;
 use std::alloc::{AllocError, Global};
 use std::fs;
 use std::rt::Files;
@@ -15,57 +16,24 @@ pub fn is_regular<R: Files>(rt: &R, path: &str) -> Result<bool, AllocError> {
 }
 
 /// Whether the path is that of a folder, which a link is not.
-fn is_folder<R: Files>(rt: &R, path: &str) -> Result<bool, AllocError> {
+pub fn is_folder<R: Files>(rt: &R, path: &str) -> Result<bool, AllocError> {
     match readable(fs::symlink_metadata(rt, path))? {
         Some(found) => Ok(found.is_dir()),
         None => Ok(false),
     }
 }
 
-/// Whether a folder of this name may be entered.
-fn may_be_entered(name: &str) -> bool {
-    !name.is_empty() && name != GIT
-}
-
-/// Whether each of these names, with `/` between two, is that of a folder in the one before, the first in `folder`.
-fn leads_on<R: Files + Alloc<A = Global>>(
-    rt: &R,
-    folder: &str,
-    names: &str,
-) -> Result<bool, AllocError> {
-    let mut path = String::from_str(rt.alloc(), folder)?;
-    for name in names.split('/') {
-        path.push('/')?;
-        path.push_str(name)?;
-        if !may_be_entered(name) || !is_folder(rt, path.as_str())? {
-            return Ok(false);
-        }
-    }
-    Ok(true)
-}
-
-/// Whether what stands before the last name of the path leads on from the folder by folders that are entered.
-fn is_in_reach<R: Files + Alloc<A = Global>>(
-    rt: &R,
-    folder: &str,
-    path: &str,
-) -> Result<bool, AllocError> {
-    match path.rsplit_once('/') {
-        Some((names, _)) => leads_on(rt, folder, names),
-        None => Ok(true),
-    }
-}
-
-/// Whether the path below the folder is that of a regular file; none after a link or in a folder named `.git` is. Refused only
-/// where memory is.
+/// Whether the path below the folder of what is reached is that of a regular file; none after a link or in a folder named
+/// `.git` is. Refused only where memory is.
 pub fn is_file_below<R: Files + Alloc<A = Global>>(
     rt: &R,
-    folder: &str,
+    reach: &mut Reach<'_>,
     path: &str,
 ) -> Result<bool, AllocError> {
-    if !is_in_reach(rt, folder, path)? {
+    if !reach.leads_to(rt, path)? {
         return Ok(false);
     }
+    let folder = reach.folder();
     let path = format!(in rt.alloc(); "{folder}/{path}")?;
     is_regular(rt, path.as_str())
 }
@@ -80,14 +48,15 @@ fn is_module_file(name: &str) -> bool {
 /// only where memory is.
 pub fn module_files<R: Files + Alloc<A = Global> + Clone + Drop>(
     rt: &R,
-    folder: &str,
+    reach: &mut Reach<'_>,
     path: &str,
 ) -> Result<Vec<String>, AllocError> {
     let alloc = rt.alloc();
     let mut files = Vec::new(alloc);
-    if !is_in_reach(rt, folder, path)? {
+    if !reach.leads_to(rt, path)? {
         return Ok(files);
     }
+    let folder = reach.folder();
     let whole = format!(in alloc; "{folder}/{path}")?;
     for name in names_in(rt, whole.as_str())? {
         if is_module_file(name.as_str()) {

@@ -5,6 +5,7 @@ pub mod base;
 pub mod below;
 pub mod clean;
 pub mod naming;
+pub mod reach;
 pub mod readable;
 pub mod root;
 pub mod root_name;

@@ -1,4 +1,5 @@
-//! What the lines of a justfile may name.
+//! What the lines and the tokens of a justfile may name.
+use just_text::{Token, TokenKind};
 
 /// What a part of a line may name.
 #[derive(Clone, Copy)]
@@ -64,7 +65,7 @@ fn quoted(quote: char, text: &str) -> Literal<'_> {
     };
     let is_tripled = path.is_empty() && more.starts_with(quote);
     let is_escaped = quote == '"' && path.contains('\\');
-    if is_tripled || is_escaped {
+    if is_tripled || is_escaped || path.contains('\n') {
         return Literal::Any;
     }
     Literal::Path(path)
@@ -122,5 +123,65 @@ pub fn part_naming(part: &str) -> Naming<'_> {
     match behind(item, "mod") {
         Some(rest) => module_naming(rest),
         None => Naming::Nothing,
+    }
+}
+
+/// Whether an item may begin after a token of this kind, white space left out.
+pub fn may_precede_item(kind: TokenKind) -> bool {
+    matches!(
+        kind,
+        TokenKind::ByteOrderMark | TokenKind::Eol | TokenKind::Dedent | TokenKind::BracketR
+    )
+}
+
+/// Whether the token stands for itself in an import or a module: white space and question marks say nothing of the path.
+fn is_word(token: &Token) -> bool {
+    token.kind != TokenKind::Whitespace && token.kind != TokenKind::QuestionMark
+}
+
+/// What the token says as a string; `None` where it is no string. The text of a string after `x` may be anything.
+fn token_literal<'src>(token: Option<&Token<'src>>) -> Option<Literal<'src>> {
+    let token = token?;
+    if token.kind != TokenKind::StringToken {
+        return None;
+    }
+    Some(string_at_front(token.lexeme()).unwrap_or(Literal::Any))
+}
+
+/// What an import names whose word this token comes after.
+fn import_after<'src>(token: Option<&Token<'src>>) -> Naming<'src> {
+    match token_literal(token) {
+        Some(Literal::Path(path)) => Naming::Import(path),
+        Some(Literal::Any) => Naming::Any,
+        None => Naming::Nothing,
+    }
+}
+
+/// What a submodule names whose name and the token after it these are.
+fn module_after<'src>(name: Option<&Token<'src>>, token: Option<&Token<'src>>) -> Naming<'src> {
+    let Some(name) = name else {
+        return Naming::Nothing;
+    };
+    match token_literal(token) {
+        Some(Literal::Path(path)) => Naming::ModuleAt(path),
+        Some(Literal::Any) => Naming::Any,
+        None if name.kind == TokenKind::Identifier => Naming::Module(name.lexeme()),
+        None => Naming::Nothing,
+    }
+}
+
+/// What an import or a module names that begins with these tokens.
+pub fn item_naming<'src>(tokens: &[Token<'src>]) -> Naming<'src> {
+    let mut words = tokens.iter().filter(|token| is_word(token));
+    let Some(first) = words.next() else {
+        return Naming::Nothing;
+    };
+    if first.kind != TokenKind::Identifier {
+        return Naming::Nothing;
+    }
+    match first.lexeme() {
+        "import" => import_after(words.next()),
+        "mod" => module_after(words.next(), words.next()),
+        _ => Naming::Nothing,
     }
 }

@@ -1,6 +1,8 @@
 //! The files and the folders that texts name.
 
-use crate::naming::{Naming, part_naming};
+use crate::naming::{Naming, item_naming, may_precede_item, part_naming};
+use just_lexer::Lexer;
+use just_text::{CompileErrorKind, Token, TokenKind};
 use memchr::memmem;
 use modules_compilation::{folder_from, key_from};
 use std::alloc::{AllocError, Global};
@@ -81,22 +83,56 @@ impl Search {
         Ok(())
     }
 
-    /// Takes in what the text of the file names. A text that has neither word names nothing, and its
-    /// lines are not looked at.
+    /// Takes in what the text of the file names. A text that has neither word names nothing, and its lines are not looked
+    /// at. What its lines name is taken where they tell it: else its tokens do.
     pub fn see_text(&mut self, file: &str, text: &str) -> Result<(), AllocError> {
         if !has_word(text, "import") && !has_word(text, "mod") {
             return Ok(());
         }
         for line in text.lines() {
-            self.see_line(file, line)?;
+            if !self.see_line(file, line)? {
+                return self.see_items(file, text);
+            }
         }
         Ok(())
     }
 
-    /// Takes in what the parts of the line name.
-    fn see_line(&mut self, file: &str, line: &str) -> Result<(), AllocError> {
+    /// Takes in what the parts of the line name, and tells whether the line says it: not where it is indented, as the lines
+    /// of a body are, or where any file may be named.
+    fn see_line(&mut self, file: &str, line: &str) -> Result<bool, AllocError> {
+        let is_indented = line.starts_with(|c: char| c.is_whitespace());
         for part in line.split(']') {
-            self.see(file, part_naming(part))?;
+            match part_naming(part) {
+                Naming::Nothing => {}
+                Naming::Any => return Ok(false),
+                _ if is_indented => return Ok(false),
+                naming => self.see(file, naming)?,
+            }
+        }
+        Ok(true)
+    }
+
+    /// Takes in what the items of the text name. A text that has no tokens has no items.
+    fn see_items(&mut self, file: &str, text: &str) -> Result<(), AllocError> {
+        match Lexer::lex(self.alloc, file, text) {
+            Ok(tokens) => self.see_tokens(file, tokens.as_slice()),
+            Err(error) => match error.kind {
+                CompileErrorKind::OutOfMemory => Err(AllocError),
+                _ => Ok(()),
+            },
+        }
+    }
+
+    /// Takes in what the items name that these tokens have: one begins with the text or with its line, or after an attribute.
+    fn see_tokens(&mut self, file: &str, tokens: &[Token]) -> Result<(), AllocError> {
+        let mut may_begin = true;
+        for (place, token) in tokens.iter().enumerate() {
+            if token.kind != TokenKind::Whitespace {
+                if may_begin {
+                    self.see(file, item_naming(&tokens[place..]))?;
+                }
+                may_begin = may_precede_item(token.kind);
+            }
         }
         Ok(())
     }

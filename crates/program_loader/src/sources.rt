@@ -1,5 +1,6 @@
 //! The texts of a project.
 use crate::below::{is_file_below, module_files};
+use crate::reach::Reach;
 use crate::search::{Named, Search};
 use crate::text::text_of;
 use crate::walk::{ENTRY_LIMIT, files_below};
@@ -12,6 +13,8 @@ use std::rt::Files;
 struct Sources<'a> {
     /// The folder's path.
     folder: &'a str,
+    /// Which folders below it are entered.
+    reach: Reach<'a>,
     /// The texts by the paths of their files below the folder.
     texts: BTreeMap<String, String>,
 }
@@ -50,7 +53,7 @@ impl<'a> Sources<'a> {
         search: &mut Search,
         file: &str,
     ) -> Result<(), AllocError> {
-        if !is_file_below(rt, self.folder, file)? {
+        if !is_file_below(rt, &mut self.reach, file)? {
             return Ok(());
         }
         let Some(text) = self.new_text(rt, file)? else {
@@ -62,12 +65,12 @@ impl<'a> Sources<'a> {
 
     /// Takes in the files of the folder that a submodule may have.
     fn look_into<R: Files + Alloc<A = Global> + Clone + Drop>(
-        &self,
+        &mut self,
         rt: &R,
         search: &mut Search,
         folder: &str,
     ) -> Result<(), AllocError> {
-        for file in module_files(rt, self.folder, folder)? {
+        for file in module_files(rt, &mut self.reach, folder)? {
             search.add_file(file)?;
         }
         Ok(())
@@ -147,10 +150,11 @@ impl<'a> Sources<'a> {
 /// The texts that the justfile of this name in the folder may reach, by their paths below the folder: its own, and those of
 /// the regular UTF-8 files of at most 1 MiB below the folder that it names, or a file that it reaches; all files below the
 /// folder are read where a path is written so that its text is another one. A file is named by the path of an import or a
-/// submodule, or as the file that a submodule without a path may have. Of folders only those are entered that lead to what
-/// is named, and of these none that is a link or named `.git`. No more than 100,000 of the files and folders that are named
-/// are looked at, in the order in which they are, and where all files are read no more than 100,000 entries more: those of a
-/// folder in byte order, and parents before what lies in them. What can't be read is left out.
+/// submodule, or as the file that a submodule without a path may have; what stands in the body of a recipe names none. Of
+/// folders only those are entered that lead to what is named, and of these none that is a link or named `.git`. No more than
+/// 100,000 of the files and folders that are named are looked at, in the order in which they are, and where all files are
+/// read no more than 100,000 entries more: those of a folder in byte order, and parents before what lies in them. What can't
+/// be read is left out.
 pub fn load<R: Files + Alloc<A = Global> + Clone + Drop>(
     rt: &R,
     folder: &str,
@@ -159,6 +163,7 @@ pub fn load<R: Files + Alloc<A = Global> + Clone + Drop>(
     let alloc = rt.alloc();
     let mut sources = Sources {
         folder,
+        reach: Reach::new(alloc, folder),
         texts: BTreeMap::new(alloc),
     };
     let Some(text) = sources.new_text(rt, name)? else {
