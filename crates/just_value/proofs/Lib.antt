@@ -9,3 +9,4 @@ pub mod PathParts
 pub mod PlainPaths
 pub mod EscapedBytes
 pub mod Pairs
+pub mod InBlocks

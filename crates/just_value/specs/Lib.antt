@@ -8,3 +8,5 @@ pub mod Uris
 pub mod Constants
 pub mod Frames
 pub mod Searches
+pub mod Blocks
+pub mod Rows

@@ -1,23 +1,22 @@
 //! Frames: bindings by their numbers.
-ghost use Rattle.std.specs.Prelude.{◌≡◌, ◌+◌, ◌≤◌, [], OnOk, IfErr, if◌then◌else◌, is_ok, length, map};
-ghost use Rattle.std.specs.List.{insert};
+ghost use Rattle.std.specs.Prelude.{◌≡◌, ◌+◌, ◌≤◌, [], OnOk, IfErr, length, map};
 ghost use Rattle.std.specs.Option.{option_map};
 ghost use Rattle.std.specs.Ordering.{nat_cmp};
 ghost use Rattle.just_value.specs.Frames.{Rebinds, ByNumber, bound_in, bound_of};
 ghost use Rattle.just_value.specs.Searches.{IsPlace, digits};
 
 use crate::bound::Bound;
+use crate::row::Row;
 use crate::steps::Steps;
 use just_text::Number;
 use std::alloc::{AllocFailed, Global};
 use std::cmp::Ordering;
 use std::marker::Model;
-use std::slice::Iter;
 
 /// Bindings, at most one of each number.
 #[derive(Drop)]
 pub struct Frame<'src> {
-    bindings: Vec<Bound<'src>>,
+    bindings: Row<Bound<'src>>,
 }
 
 impl<'src> Model for Frame<'src> {
@@ -26,9 +25,9 @@ impl<'src> Model for Frame<'src> {
 
     ghost Value = { List BoundRow };
 
-    ghost view = { λ f. map bound_of f.bindings.items };
+    ghost view = { λ f. map bound_of f.bindings };
 
-    ghost invariant = { λ f. ByNumber (map bound_of f.bindings.items) };
+    ghost invariant = { λ f. ByNumber (map bound_of f.bindings) };
 }
 
 impl<'src> Frame<'src> {
@@ -37,7 +36,7 @@ impl<'src> Frame<'src> {
         ensures { result ≡ [] }
     {
         Frame {
-            bindings: Vec::new(alloc),
+            bindings: Row::new(alloc),
         }
     }
 
@@ -51,10 +50,10 @@ impl<'src> Frame<'src> {
         let mut steps = Steps { taken: 0 };
         match self.position(binding.number, &mut steps) {
             Ok(place) => {
-                self.bindings[place] = binding;
+                self.bindings.set(place, binding);
                 Ok(())
             }
-            Err(place) => put_in(&mut self.bindings, place, binding),
+            Err(place) => self.bindings.insert(place, binding),
         }
     }
 
@@ -64,7 +63,7 @@ impl<'src> Frame<'src> {
     {
         let mut steps = Steps { taken: 0 };
         match self.position(number, &mut steps) {
-            Ok(place) => Some(&self.bindings[place]),
+            Ok(place) => Some(self.bindings.get(place)),
             Err(_) => None,
         }
     }
@@ -80,7 +79,7 @@ impl<'src> Frame<'src> {
         let mut high = self.bindings.len();
         while low < high {
             let middle = low + (high - low) / 2;
-            match steps.compare(&number, &self.bindings[middle].number) {
+            match steps.compare(&number, &self.bindings.get(middle).number) {
                 Ordering::Less => high = middle,
                 Ordering::Equal => return Ok(middle),
                 Ordering::Greater => low = middle + 1,
@@ -95,44 +94,27 @@ impl<'src> Frame<'src> {
         ensures sorted { ByNumber self.now }
     {
         Bindings {
-            bindings: self.bindings.iter(),
+            bindings: &self.bindings,
+            next: 0,
         }
     }
-}
-
-/// Puts the binding in at the place. A refused growth changes nothing and gives the binding back. Most
-/// frames are small, so a full vector grows by no more than a sixteenth and one.
-fn put_in<'src>(
-    bindings: &mut Vec<Bound<'src>>,
-    place: usize,
-    binding: Bound<'src>,
-) -> Result<(), AllocFailed<Bound<'src>>>
-    requires { place ≤ length bindings.old.items }
-    ensures items { bindings.new.items ≡ (if is_ok result then insert bindings.old.items place binding.entry else bindings.old.items) }
-    ensures returned { IfErr result (λ e. e.value ≡ binding.entry) }
-{
-    if bindings.len() == bindings.capacity() {
-        let more = bindings.len() / 16 + 1;
-        if bindings.try_reserve_exact(more).is_err() {
-            return Err(AllocFailed { value: binding });
-        }
-    }
-    bindings.insert(place, binding)
 }
 
 /// The bindings of a frame, by their numbers. Contracts see it as those that are left.
 #[derive(Drop)]
 pub struct Bindings<'a, B> {
-    bindings: Iter<'a, B>,
+    bindings: &'a Row<B>,
+    next: usize,
 }
 
 impl<'a, B> Model for Bindings<'a, B> {
-    ghost use Rattle.std.specs.Prelude.{List};
-    ghost use Rattle.std.specs.Slice.Iter.{iter_rest};
+    ghost use Rattle.std.specs.Prelude.{◌≤◌, List, drop, length};
 
     ghost Value = { List B };
 
-    ghost view = { λ b. iter_rest b.bindings };
+    ghost view = { λ b. drop b.next b.bindings.now };
+
+    ghost invariant = { λ b. b.next ≤ length b.bindings.now };
 }
 
 impl<'a, B> Iterator for Bindings<'a, B> {
@@ -147,10 +129,16 @@ impl<'a, B> Iterator for Bindings<'a, B> {
     ghost remaining = { λ s. at_most (length s) };
 
     fn next(&mut self) -> Option<&'a B> {
-        self.bindings.next()
+        if self.next < self.bindings.len() {
+            let binding = self.bindings.get(self.next);
+            self.next += 1;
+            return Some(binding);
+        }
+        None
     }
 
     fn size_hint(&self) -> (usize, Option<usize>) {
-        self.bindings.size_hint()
+        let left = self.bindings.len() - self.next;
+        (left, Some(left))
     }
 }

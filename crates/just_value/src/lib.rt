@@ -1,6 +1,7 @@
 //! Values of justfiles: lists of texts, and the words that a call is given.
 #![tactic(auto)]
 
+mod blocks;
 pub mod bound;
 mod combine;
 pub mod constant;
@@ -11,6 +12,7 @@ pub mod law;
 pub mod list;
 pub mod path;
 pub mod positional;
+mod row;
 pub mod scope;
 pub mod steps;
 pub mod uri;
