@@ -7,5 +7,6 @@ pub mod Keeping
 pub mod Docs
 pub mod Compiled
 pub mod Laws
+pub mod Inhabited
 pub mod Views
 pub mod Reformatted

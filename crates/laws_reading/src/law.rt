@@ -1,0 +1,4 @@
+//! Laws, by what they are about.
+pub mod tokens;
+pub mod words;
+pub mod worlds;
