@@ -15,3 +15,7 @@ pub mod Configured
 pub mod Determined
 pub mod Known
 pub mod Certain
+pub mod Naively
+pub mod Clear
+pub mod Planned
+pub mod Laws

@@ -33,6 +33,10 @@ abbrev pub values_at : List (List ℕ) → List Opened → List Held
 values_at path [] = []
 values_at path (o ∷ os) = cond (same_path o.path path) o.values (values_at path os)
 
+-- the recipes of calls
+abbrev pub recipes_of : List Call → List RecipeName
+recipes_of calls = map (λ call. call.recipe) calls
+
 module _ (c : Configuration) (defined : Definitions) where
   abbrev pub ground_of : List Opened → Ground
   ground_of opened = record { configuration = c; defined = defined; dotenv = λ path. pairs_at path opened; exported = λ path. by_name (pairs_of defined path (values_at path opened)) }

@@ -4,6 +4,7 @@ ghost use Rattle.just_meaning.specs.Actions.{command_task};
 ghost use Rattle.just_meaning.specs.Agreement.{AgreesRun};
 ghost use Rattle.just_meaning.specs.Determined.{EqualEventsGoAlike, RefusedGoAlike};
 ghost use Rattle.just_meaning.specs.Driving.{CallGoes};
+ghost use Rattle.just_meaning.specs.Laws.{GivenFaultsRefuse, PlansTellEvents, PlansTellNaively, RefusedExactly};
 ghost use Rattle.just_meaning.specs.Meanings.{IsNaive};
 ghost use Rattle.just_meaning.specs.Menus.{menu_of};
 ghost use Rattle.just_meaning.specs.Opening.{OpensAll};

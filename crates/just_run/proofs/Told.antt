@@ -65,8 +65,8 @@ use Rattle.meaning_rules.specs.Worlds.Given.{Given, Overrides, Text, World}
 use Rattle.meaning_rules.proofs.Worlds.Places.{contains_cases, contains_none}
 use Rattle.laws_agreement.proofs.Certain.Actions.{commands_end_certainly, evaluations_end_certainly}
 use Rattle.laws_agreement.proofs.Certain.Runs.{runs_end_certainly}
-use Rattle.laws_agreement.specs.Known.Known.{BreaksNoRule, HasRecipe}
-use Rattle.just_meaning.specs.Known.{HaveRows, IsRead}
+use Rattle.laws_agreement.specs.Known.Known.{HasRecipe}
+use Rattle.just_meaning.specs.Known.{BreaksNoRule, HaveRows, IsRead}
 use Rattle.laws_agreement.proofs.Known.Invoked.{invoked_are_known}
 use Rattle.laws_agreement.proofs.Known.Known.{defined_are_known, kept_are_known}
 use Rattle.laws_agreement.proofs.Known.Ordered.{worlds_are_in_order}

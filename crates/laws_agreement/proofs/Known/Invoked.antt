@@ -17,8 +17,8 @@ use Rattle.meaning_evaluation.specs.Named.{RecipeName, RecipeRow, ModuleRow, Def
 use Rattle.meaning_evaluation.specs.Groups.{parameters_of}
 use Rattle.just_meaning.specs.Menus.{slot_of, slots_in, meant_by, meaning_in, menu_of}
 use Rattle.just_meaning.specs.Defining.{named_from, IsDefault, by_attribute, by_place, AreDefined}
-use Rattle.laws_agreement.specs.Known.Known.{BreaksNoRule, HasRecipe, InvokedAreKnown}
-use Rattle.just_meaning.specs.Known.{IsRead}
+use Rattle.laws_agreement.specs.Known.Known.{HasRecipe, InvokedAreKnown}
+use Rattle.just_meaning.specs.Known.{BreaksNoRule, IsRead}
 use Rattle.laws_agreement.proofs.Known.Lists.{is_there}
 use Rattle.laws_agreement.proofs.Known.Kept.{alias_named}
 use Rattle.laws_agreement.proofs.Known.Rows.{none_breaks, no_path, recipe_at, recipe_there}

@@ -17,8 +17,8 @@ use Rattle.just_meaning.specs.Actions.{IsKept}
 use Rattle.just_meaning.specs.Defining.{named_from, AreDefined, IsVariableRow}
 use Rattle.laws_agreement.specs.Agreement.Opened.{AreListed}
 use Rattle.laws_agreement.specs.Certain.Certain.{AreCertain, AreCertainVariables}
-use Rattle.laws_agreement.specs.Known.Known.{BreaksNoRule, AreInOrder, HasRecipe, DefinedAreKnown, KeptAreKnown}
-use Rattle.just_meaning.specs.Known.{IsRead, HaveRows}
+use Rattle.laws_agreement.specs.Known.Known.{HasRecipe, DefinedAreKnown, KeptAreKnown}
+use Rattle.just_meaning.specs.Known.{BreaksNoRule, IsRead, AreInOrder, HaveRows}
 use Rattle.laws_agreement.proofs.Known.Lists.{contains_mapped, is_there}
 use Rattle.laws_agreement.proofs.Known.Kept.{recipe_named}
 use Rattle.laws_agreement.proofs.Known.Rows.{none_breaks, no_path}

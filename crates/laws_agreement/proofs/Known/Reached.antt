@@ -29,8 +29,7 @@ use Rattle.just_meaning.specs.Opening.{named, text_named}
 use Rattle.just_meaning.specs.Defining.{named_from, AreDefined, IsRecipeRow}
 use Rattle.laws_agreement.specs.Agreement.Opened.{StandsFor, a_variable, a_constant}
 use Rattle.laws_agreement.proofs.Agreement.Names.{contains_any}
-use Rattle.laws_agreement.specs.Known.Known.{BreaksNoRule, AreInOrder}
-use Rattle.just_meaning.specs.Known.{IsRead}
+use Rattle.just_meaning.specs.Known.{BreaksNoRule, IsRead, AreInOrder}
 use Rattle.laws_agreement.proofs.Known.Lists.{is_there, same_or_not}
 use Rattle.laws_agreement.proofs.Known.Parts.{to_parts}
 use Rattle.laws_agreement.proofs.Known.Rows.{function_in, function_there, none_breaks, variable_there}

@@ -17,8 +17,7 @@ use Rattle.just_meaning.specs.Rows.{recipe_row}
 use Rattle.just_meaning.specs.Reading.{function_row}
 use Rattle.just_meaning.specs.Opening.{named}
 use Rattle.just_meaning.specs.Defining.{last_name, names_before, named_from, is_private, AreDefined}
-use Rattle.laws_agreement.specs.Known.Known.{BreaksNoRule}
-use Rattle.just_meaning.specs.Known.{IsRead}
+use Rattle.just_meaning.specs.Known.{BreaksNoRule, IsRead}
 use Rattle.laws_agreement.proofs.Known.Kept.{is_item, none_defined}
 use Rattle.laws_agreement.proofs.Known.Settings.{on_or_not}
 

@@ -19,8 +19,8 @@ use Rattle.laws_agreement.specs.Certain.Certain.{AreCertainVariables}
 use Rattle.just_meaning.specs.Determined.{GoAlike, nothing}
 use Rattle.laws_agreement.specs.Determined.Fit.{AreFit}
 use Rattle.laws_agreement.proofs.Determined.Runs.{runs_are_determined}
-use Rattle.laws_agreement.specs.Known.Known.{AreInOrder, BreaksNoRule, HasRecipe}
-use Rattle.just_meaning.specs.Known.{HaveRows, IsRead}
+use Rattle.laws_agreement.specs.Known.Known.{HasRecipe}
+use Rattle.just_meaning.specs.Known.{AreInOrder, BreaksNoRule, HaveRows, IsRead}
 use Rattle.laws_agreement.proofs.Known.Invoked.{invoked_are_known}
 use Rattle.laws_agreement.proofs.Known.Known.{defined_are_known}
 use Rattle.laws_agreement.proofs.Unique.Unique.{definitions_are_one}

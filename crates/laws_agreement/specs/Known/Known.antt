@@ -1,14 +1,8 @@
 -- What a world that breaks no rule says of what is defined by name: each name that is read or called is known, and words invoke recipes that are there.
-use Rattle.std.specs.Prelude.{◌≡◌, ℕ, Bool, List, Some, length, Contains}
+use Rattle.std.specs.Prelude.{◌≡◌, Bool, List, Some, length, Contains}
 use Rattle.std.specs.List.{AllByRecursion}
-use Rattle.tree_attributes.specs.Attributes.{AttributeShape}
-use Rattle.tree_attributes.specs.Sets.Order.{in_order}
-use Rattle.tree_items.specs.Files.{recipe_item}
-use Rattle.tree_items.specs.Recipes.{RecipeShape}
 use Rattle.meaning_rules.specs.Worlds.Given.{Given, Text, World, Overrides}
-use Rattle.meaning_rules.specs.Worlds.Sources.{Has, Reached}
 use Rattle.meaning_rules.specs.Worlds.Standing.{StandsFor}
-use Rattle.meaning_rules.specs.Rules.{Rule, Broken}
 use Rattle.meaning_runs.specs.Invokes.{Invoke}
 use Rattle.meaning_evaluation.specs.Named.{RecipeName, RecipeRow, ModuleRow, Definitions, paths_of}
 use Rattle.meaning_evaluation.specs.Groups.{parameters_of}
@@ -18,15 +12,7 @@ use Rattle.just_meaning.specs.Menus.{menu_of}
 use Rattle.just_meaning.specs.Opening.{IsReached, IsOpened}
 use Rattle.laws_agreement.specs.Agreement.Opened.{AreListed}
 use Rattle.laws_agreement.specs.Certain.Certain.{AreCertain, AreCertainVariables}
-use Rattle.just_meaning.specs.Known.{IsRead, HaveRows}
-
--- the world breaks no rule, with these overrides
-abbrev pub BreaksNoRule : World → Overrides → Type 0
-BreaksNoRule w o = (rule : Rule) → Broken w o rule → ⊥
-
--- the attributes of each recipe stand in their order
-abbrev pub AreInOrder : World → Type 0
-AreInOrder w = (key : Text) (place : ℕ) (attributes : List AttributeShape) (r : RecipeShape) → Reached w key → Has w key place (recipe_item attributes r) → in_order attributes ≡ attributes
+use Rattle.just_meaning.specs.Known.{IsRead, HaveRows, BreaksNoRule, AreInOrder}
 
 -- a recipe of the name is there
 abbrev pub HasRecipe : Definitions → RecipeName → Type 0

@@ -12,8 +12,7 @@ use Rattle.just_meaning.specs.Defining.{AreDefined}
 use Rattle.just_meaning.specs.Menus.{menu_of}
 use Rattle.just_meaning.specs.Runs.{Outcome, Runs, call_in}
 use Rattle.just_meaning.specs.Determined.{GoAlike, nothing}
-use Rattle.laws_agreement.specs.Known.Known.{AreInOrder, BreaksNoRule}
-use Rattle.just_meaning.specs.Known.{HaveRows, IsRead}
+use Rattle.just_meaning.specs.Known.{AreInOrder, BreaksNoRule, HaveRows, IsRead}
 
 -- what words invoke
 abbrev pub Invoked : Type 0

@@ -1,0 +1,3 @@
+pub mod Answering
+pub mod Decided
+pub mod Tagged

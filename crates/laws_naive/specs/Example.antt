@@ -1,0 +1,2 @@
+pub mod Justfile
+pub mod Laws

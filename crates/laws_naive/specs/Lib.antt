@@ -1,0 +1,6 @@
+pub mod Agreeing
+pub mod Example
+pub mod Naive
+pub mod Inputs
+pub mod Plans
+pub mod Reach
