@@ -1,0 +1,12 @@
+pub mod Indented
+pub mod Blanks
+pub mod Said
+pub mod Sorted
+pub mod Recipes
+pub mod Submodules
+pub mod Listings
+pub mod Roots
+pub mod Alike
+pub mod Answered
+pub mod Read
+pub mod Numbered
