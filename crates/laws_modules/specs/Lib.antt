@@ -5,3 +5,4 @@ pub mod Modules
 pub mod Names
 pub mod References
 pub mod Submodules
+pub mod Matching

@@ -2,6 +2,7 @@
 pub mod compiled;
 pub mod definitions;
 pub mod files;
+pub mod matching;
 pub mod modules;
 pub mod names;
 pub mod references;

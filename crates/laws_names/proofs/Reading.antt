@@ -20,3 +20,4 @@ pub mod Cycles
 pub mod Cooked
 pub mod Attributes
 pub mod Carried
+pub mod Matching

@@ -5,3 +5,4 @@ pub mod Told
 pub mod Clear
 pub mod Cycles
 pub mod Carried
+pub mod Matching

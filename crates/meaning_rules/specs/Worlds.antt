@@ -10,3 +10,4 @@ pub mod Laws
 pub mod Inhabited
 pub mod Views
 pub mod Reformatted
+pub mod Matching

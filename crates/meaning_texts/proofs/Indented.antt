@@ -23,7 +23,7 @@ use Rattle.parse_expressions.specs.Literals.{Expansion, text_or_none}
 use Rattle.parse_items.specs.Names.{setting_name}
 use Rattle.meaning_rules.specs.Worlds.Sources.{enabled}
 use Rattle.meaning_rules.proofs.Worlds.Places.{contains_first, contains_later}
-use Rattle.meaning_texts.specs.Laws.{HasIndentationText, HoldsTexts}
+use Rattle.meaning_rules.specs.Worlds.Matching.{HasIndentationText, HoldsTexts}
 use Rattle.meaning_texts.specs.Texts.{indentation_said, string_said}
 
 pub any_mapped : {A B : Type 0} (p : B → Bool) (f : A → B) (xs : List A) → list_any p (map f xs) ≡ list_any (λ x. p (f x)) xs

@@ -8,5 +8,3 @@ pub mod Listings
 pub mod Roots
 pub mod Alike
 pub mod Answered
-pub mod Read
-pub mod Numbered

@@ -39,7 +39,8 @@ use Rattle.laws_runs.proofs.Resolved.Recipes.{recipe_list}
 use Rattle.just_meaning.specs.Defining.{is_private as private_said}
 use Rattle.justfile_analyzer.specs.Listings.{comment_of, doc, above, said_by}
 use Rattle.justfile_analyzer.specs.Offers.{Written, is_private, offered_at, public_recipe}
-use Rattle.meaning_texts.specs.Laws.{HoldsTexts, IsCompiledFrom}
+use Rattle.meaning_texts.specs.Laws.{IsCompiledFrom}
+use Rattle.meaning_rules.specs.Worlds.Matching.{HoldsTexts}
 use Rattle.meaning_texts.specs.Listings.{AreOffered, IsDoc, IsOffered, OfferedRecipe}
 use Rattle.meaning_texts.proofs.Blanks.{comment_from, comment_is}
 use Rattle.meaning_texts.proofs.Said.{doc_is, private_is}

@@ -21,7 +21,7 @@ use Rattle.meaning_rules.proofs.Worlds.Places.{contains_first, contains_later}
 use Rattle.just_meaning.specs.Defining.{is_private as private_said}
 use Rattle.justfile_analyzer.specs.Listings.{above, comment_of, said_by}
 use Rattle.justfile_analyzer.specs.Offers.{is_private}
-use Rattle.meaning_texts.specs.Laws.{DocText, HasDocText}
+use Rattle.meaning_rules.specs.Worlds.Matching.{DocText, HasDocText}
 use Rattle.meaning_texts.proofs.Indented.{any_mapped}
 
 -- ---- docs

@@ -1,22 +1,8 @@
 -- What the structures of the code give is what the texts say.
-use Rattle.std.specs.Prelude.{◌≡◌, ◌⊎◌, ℕ, if◌then◌else◌, List, [], ◌∷◌, ◌++◌, Contains, Option, Some, None, Ok, codes, slice_get, unwrap_or}
-use Rattle.std.specs.List.{All}
+use Rattle.std.specs.Prelude.{◌≡◌, ◌⊎◌, ℕ, if◌then◌else◌, List, [], ◌∷◌, ◌++◌, Contains, Option, Some, None, codes, slice_get, unwrap_or}
 use Rattle.std.specs.Str.{IsUtf8}
 use Rattle.just_text.specs.declared.os.Os.{Os}
-use Rattle.tree_expressions.specs.Cooking.{cooked}
-use Rattle.tree_expressions.specs.Shape.{written}
-use Rattle.tree_expressions.specs.declared.string_literal.StringLiteral.{StringLiteral}
-use Rattle.tree_attributes.specs.declared.attribute.Attribute.{Attribute}
-use Rattle.tree_attributes.specs.declared.attribute.Attribute.TheVariants.{Doc}
-use Rattle.tree_attributes.specs.declared.setting.Setting.{Setting}
-use Rattle.tree_attributes.specs.declared.setting.Setting.TheVariants.{Indentation}
-use Rattle.tree_attributes.specs.Sets.Sets.{items_of}
-use Rattle.tree_attributes.specs.declared.attribute_item.AttributeItem.{AttributeItem}
 use Rattle.tree_items.specs.declared.ast.Item.{Item}
-use Rattle.tree_items.specs.declared.ast.Item.TheVariants as items
-use Rattle.parse_attributed_items.specs.Held.{IsItemCooked, IsOwnItem}
-use Rattle.parse_expressions.specs.Literals.{Expansion, from_file}
-use Rattle.resolve_analysis.specs.Numbered.{IsNumbered}
 use Rattle.tree_items.specs.FileIndentation.{file_indentation}
 use Rattle.tree_items.specs.Files.{file_text, item_shapes}
 use Rattle.tree_items.specs.Printable.{printable}
@@ -28,47 +14,13 @@ use Rattle.meaning_rules.specs.Worlds.Given.{Given, Overrides, Text, World}
 use Rattle.meaning_rules.specs.Worlds.Modules.{IsModule}
 use Rattle.meaning_evaluation.specs.Named.{Definitions, paths_of}
 use Rattle.just_meaning.specs.Defining.{AreDefined}
-use Rattle.meaning_rules.specs.Worlds.Laws.{IsRead}
 use Rattle.laws_printing.specs.Formatted.Formatted.{PrintsBack}
 use Rattle.laws_modules.specs.Names.Names.{AreSingle, HasNode, IsOfWorld}
 use Rattle.justfile_analyzer.specs.Listings.{listing}
 use Rattle.meaning_rules.specs.Worlds.Reformatted.{FormatsSome, IsFormattedAt, IsReformatted}
 use Rattle.meaning_texts.specs.Listings.{IsListing, IsOfferedModule}
 use Rattle.meaning_texts.specs.Texts.{IsAnswer, IsDump}
-
--- ---- files that say what their sources say, also once variables have their numbers
-
--- a string holds what it stands for
-abbrev pub HasOwnText : Expansion → StringLiteral → Type 0
-HasOwnText expansion s = cooked expansion (written s) ≡ Ok s.cooked
-
--- that of an attribute `doc` does
-abbrev pub DocText : Expansion → Attribute → Type 0
-DocText expansion (Doc (Some s)) = HasOwnText expansion s
-DocText expansion other = Unit {0}
-
-abbrev pub HasDocText : Expansion → AttributeItem → Type 0
-HasDocText expansion item = DocText expansion item.attribute
-
--- that of a setting of the indentation does
-abbrev pub HasIndentationText : Expansion → Setting → Type 0
-HasIndentationText expansion (Indentation s) = HasOwnText expansion s
-HasIndentationText expansion other = Unit {0}
-
-abbrev pub HoldsTexts : Expansion → Item → Type 0
-HoldsTexts expansion (items.Recipe r) = All (HasDocText expansion) (items_of r.attributes)
-HoldsTexts expansion (items.Set s) = HasIndentationText expansion s.value
-HoldsTexts expansion other = Unit {0}
-
--- a file says all that its text says, blank lines too, and its strings hold what they stand for
-pub record MatchesSource (source : Given) (file : File) : Type 0 where
-  pub says : IsRead source file.key.now (item_shapes file.ast.items.items)
-  pub own : All (IsOwnItem source.expansion) file.ast.items.items
-  pub texts : All (HoldsTexts source.expansion) file.ast.items.items
-
--- so does each file of a compilation
-abbrev pub MatchSources : Given → Compilation → Type 0
-MatchSources source compilation = (k : ℕ) (file : File) → slice_get compilation.files.items k ≡ Some file → MatchesSource source file
+use Rattle.meaning_rules.specs.Worlds.Matching.{MatchSources}
 
 -- the compilation of a world, whose files say what their sources say
 pub record IsCompiledFrom (source : Given) (w : World) (compilation : Compilation) : Type 0 where
@@ -78,16 +30,6 @@ pub record IsCompiledFrom (source : Given) (w : World) (compilation : Compilatio
   pub sources : MatchSources source compilation
 
 -- ---- laws
-
--- A file that was read matches its source, where its items are what attributes make of them and its strings are cooked.
-abbrev pub ReadFilesMatch : Type 0
-ReadFilesMatch = (source : Given) (file : File) → IsRead source file.key.now (item_shapes file.ast.items.items) → All (IsOwnItem source.expansion) file.ast.items.items
-    → All (IsItemCooked (from_file file.key.now source.expansion)) file.ast.items.items → MatchesSource source file
-
--- It still does once variables have their numbers, where items stay what attributes make of them.
-abbrev pub NumberedFilesMatch : Type 0
-NumberedFilesMatch = (source : Given) (before after : Compilation) → IsNumbered before after
-    → ((k : ℕ) (file : File) → slice_get after.files.items k ≡ Some file → All (IsOwnItem source.expansion) file.ast.items.items) → MatchSources source before → MatchSources source after
 
 -- the list of a module is what it offers in the world
 abbrev pub ListingsStand : Type 0

@@ -1,5 +1,5 @@
 //! Laws of the texts of the root.
-ghost use Rattle.meaning_texts.specs.Laws.{AnswersAreFormatted, AnswersFormatSome, AnswersStayAlike, DumpsStayAlike, ListingsAreOne, ListingsStand, ListingsStayAlike, NumberedFilesMatch, OfferedModulesAreDefined, ReadFilesMatch, RootTextsStand};
+ghost use Rattle.meaning_texts.specs.Laws.{AnswersAreFormatted, AnswersFormatSome, AnswersStayAlike, DumpsStayAlike, ListingsAreOne, ListingsStand, ListingsStayAlike, OfferedModulesAreDefined, RootTextsStand};
 
 /// The list of a module of a compilation is that of its world, which has one; its submodules are
 /// modules that are defined.
@@ -25,10 +25,4 @@ pub fn texts_stay_alike()
     ensures lists { ListingsStayAlike }
     ensures dumps { DumpsStayAlike }
     ensures answers { AnswersStayAlike }
-{}
-
-/// A file that was read says what its source says, also once variables have their numbers.
-pub fn files_match_sources()
-    ensures read { ReadFilesMatch }
-    ensures numbered { NumberedFilesMatch }
 {}

@@ -5,6 +5,7 @@ ghost use Rattle.laws_names.specs.Reading.Told.{ReadsAreTold, RefusalsAreTold};
 ghost use Rattle.laws_names.specs.Reading.Clear.{ReadsAreClear};
 ghost use Rattle.laws_names.specs.Reading.Cycles.{CyclesAreBroken, OrdersHaveNoCycle};
 ghost use Rattle.laws_names.specs.Reading.Carried.{NumberedAreMeant};
+ghost use Rattle.laws_names.specs.Reading.Matching.{NumberedFilesMatch};
 
 /// The parts of an item are its expressions in order, each with the parameters that it sees.
 pub fn parts_are_seen()
@@ -55,4 +56,9 @@ pub fn orders_have_no_cycle()
 /// so after, with the numbers of its names.
 pub fn numbered_are_meant()
     ensures { NumberedAreMeant }
+{}
+
+/// Files say what their sources say also once variables have their numbers.
+pub fn numbered_files_match()
+    ensures { NumberedFilesMatch }
 {}

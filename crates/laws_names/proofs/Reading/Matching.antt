@@ -27,7 +27,8 @@ use Rattle.resolve_analysis.specs.Numbered.{AreSameItems, FileNames, IsNumbered,
 use Rattle.meaning_rules.specs.Worlds.Given.{Given}
 use Rattle.meaning_rules.specs.Worlds.Laws.{IsRead}
 use Rattle.laws_modules.proofs.Names.Found.{mapped, mapped_at, there_within}
-use Rattle.meaning_texts.specs.Laws.{MatchSources, DocText, HasDocText, HasIndentationText, HoldsTexts, MatchesSource, NumberedFilesMatch}
+use Rattle.meaning_rules.specs.Worlds.Matching.{MatchSources, DocText, HasDocText, HasIndentationText, HoldsTexts, MatchesSource}
+use Rattle.laws_names.specs.Reading.Matching.{NumberedFilesMatch}
 
 module _ (expansion : Expansion) where
   -- the string of a `doc` stands for the text

@@ -17,7 +17,8 @@ use Rattle.parse_items.specs.SettingCooked.{IsCookedSetting}
 use Rattle.modules_compilation.specs.declared.module_node.File.{File}
 use Rattle.meaning_rules.specs.Worlds.Given.{Given}
 use Rattle.meaning_rules.specs.Worlds.Laws.{IsRead}
-use Rattle.meaning_texts.specs.Laws.{DocText, HasDocText, HasIndentationText, HoldsTexts, MatchesSource, ReadFilesMatch}
+use Rattle.meaning_rules.specs.Worlds.Matching.{DocText, HasDocText, HasIndentationText, HoldsTexts, MatchesSource}
+use Rattle.laws_modules.specs.Matching.Laws.{ReadFilesMatch}
 
 module _ (origin : Origin) where
   doc_held : (item : AttributeItem) → IsWholeAttribute origin item → HasDocText origin.expansion item
