@@ -1,10 +1,9 @@
 -- Texts of files of which some stand in their formatted text.
-use Rattle.std.proofs.Common.{◌≡◌, ◌∙◌, ◌⊎◌, inl, inr, ◌==◌, ◌+◌, arith, ap, sym, subst, refl, ℕ, zero, suc, Bool, true, false, not, if◌then◌else◌, List, [], ◌∷◌, ◌++◌, length, take, Option, Some, None, codes}
+use Rattle.std.proofs.Common.{◌≡◌, ◌∙◌, ◌⊎◌, inl, inr, ◌==◌, ◌+◌, arith, ap, sym, subst, refl, ℕ, zero, suc, Bool, true, false, if◌then◌else◌, List, [], ◌∷◌, ◌++◌, Option, Some, None, codes}
 use Rattle.std.specs.Prelude.{slice_get, unwrap_or}
 use Rattle.std.specs.Option.{option_and_then}
-use Rattle.std.specs.Str.{IsUtf8}
 use Rattle.std.proofs.lemmas.Bool.Decides.{eqb_tells}
-use Rattle.std.proofs.lemmas.Option.{none-some, same_Some}
+use Rattle.std.proofs.lemmas.Option.{same_Some}
 use Rattle.just_text.specs.declared.os.Os.{Os}
 use Rattle.tree_attributes.specs.Attributes.{AttributeShape}
 use Rattle.tree_items.specs.FileIndentation.{first_given, known, or_next}
@@ -12,7 +11,6 @@ use Rattle.tree_items.specs.Files.{ItemShape, alias_item, assignment_item, comme
 use Rattle.tree_items.specs.Printable.{printable}
 use Rattle.tree_items.specs.Recipes.{RecipeShape}
 use Rattle.parse_expressions.specs.Literals.{Expansion}
-use Rattle.semver.specs.declared.Version.{Version}
 use Rattle.justfile_syntax.specs.Files.{newlines}
 use Rattle.justfile_syntax.specs.Laws.{SaysAtMostOne}
 use Rattle.justfile_syntax.specs.Reads.{Reads}
@@ -21,11 +19,11 @@ use Rattle.laws_printing.specs.Printing.Normal as printing
 use Rattle.meaning_rules.specs.Worlds.Docs.{comment_above, comment_of, doc_in, or_comment}
 use Rattle.meaning_rules.specs.Worlds.Given.{Given, Text, World, filled}
 use Rattle.meaning_rules.specs.Worlds.Laws.{IsRead}
-use Rattle.meaning_rules.specs.Worlds.Reformatted.{IsFormattedAt, IsReformatted}
+use Rattle.meaning_rules.specs.Worlds.Reformatted.{IsReformatted}
 use Rattle.laws_printing.specs.Formatted.Formatted.{PrintsBack}
 use Rattle.laws_printing.proofs.Printing.Normal.{fills_alike, prints_alike, normal_printable}
 use Rattle.meaning_texts.specs.Laws.{AnswersStayAlike, DumpsStayAlike, ListingsStayAlike}
-use Rattle.meaning_texts.specs.Listings.{AreOffered, IsDoc, IsListing, IsOffered, OfferedRecipe}
+use Rattle.meaning_texts.specs.Listings.{IsDoc, IsListing, IsOffered, OfferedRecipe}
 use Rattle.meaning_texts.specs.Texts.{IsAnswer, IsDump, answer_in, indentation_in, indentation_said, text_in}
 use Rattle.meaning_texts.proofs.Blanks.{comment_from, comment_is, filled_at, from_blank, from_item, pick, place_at, rank}
 

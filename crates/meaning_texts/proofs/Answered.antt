@@ -12,9 +12,9 @@ use Rattle.tree_items.specs.Printable.{printable}
 use Rattle.justfile_syntax.specs.Bodies.{is_indentation}
 use Rattle.justfile_syntax.specs.Reads.{Reads}
 use Rattle.meaning_rules.specs.Worlds.Given.{Given, Text}
-use Rattle.meaning_rules.specs.Worlds.Reformatted.{FormatsSome, IsFormattedAt}
+use Rattle.meaning_rules.specs.Worlds.Reformatted.{IsFormattedAt}
 use Rattle.meaning_texts.specs.Laws.{AnswersAreFormatted, AnswersFormatSome}
-use Rattle.meaning_texts.specs.Texts.{IsAnswer, answer_in, indentation_in, indentation_said, text_in}
+use Rattle.meaning_texts.specs.Texts.{IsAnswer, indentation_in, indentation_said, text_in}
 
 -- ---- bodies are printed with an indentation (these lemmas stand in just_run/proofs/Again, and may move here)
 

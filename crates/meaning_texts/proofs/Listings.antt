@@ -1,6 +1,6 @@
 -- The list of a module of a compilation is that of its world, which has one.
-use Rattle.std.proofs.Common.{◌≡◌, ◌∙◌, ap, sym, subst, refl, ℕ, List, [], ◌∷◌, ◌++◌, map, Some}
-use Rattle.std.specs.Prelude.{Contains, filter, slice_get}
+use Rattle.std.proofs.Common.{◌≡◌, ◌∙◌, ap, sym, refl, ℕ, List, [], ◌∷◌, ◌++◌, map}
+use Rattle.std.specs.Prelude.{filter}
 use Rattle.std.specs.List.{filter_map}
 use Rattle.justfile_syntax.specs.Laws.{SaysAtMostOne}
 use Rattle.modules_compilation.specs.declared.compilation.Compilation.{Compilation}
@@ -10,7 +10,7 @@ use Rattle.meaning_rules.specs.Worlds.Given.{Given, Text, World}
 use Rattle.meaning_rules.specs.Worlds.Modules.{inside}
 use Rattle.laws_modules.specs.Names.Names.{HasNode}
 use Rattle.laws_agreement.proofs.Unique.Lists.{same_rows, same_texts}
-use Rattle.justfile_analyzer.specs.Listings.{Listed, listed_modules, listed_recipe, listed_recipes, listing, listing_text}
+use Rattle.justfile_analyzer.specs.Listings.{listed_modules, listed_recipe, listing, listing_text}
 use Rattle.justfile_analyzer.specs.Offers.{Written, is_public, module_name, offered_at, recipes_of, submodules_of}
 use Rattle.meaning_texts.specs.Laws.{IsCompiledFrom, ListingsAreOne, ListingsStand, OfferedModulesAreDefined}
 use Rattle.meaning_texts.specs.Listings.{IsListing, OfferedRecipe, listed_row}

@@ -1,25 +1,22 @@
 -- The texts of the root's file are those that its text says.
-use Rattle.std.proofs.Common.{◌≡◌, ◌∙◌, ◌<◌, ◌≤◌, ◌-◌, ◌+◌, arith, ap, sym, subst, refl, ℕ, zero, suc, if◌then◌else◌, List, [], ◌∷◌, length, map, take, drop, Option, Some, None, codes}
+use Rattle.std.proofs.Common.{◌≡◌, ◌∙◌, ◌<◌, ◌≤◌, ◌-◌, ◌+◌, arith, ap, sym, subst, refl, ℕ, if◌then◌else◌, [], ◌∷◌, map, Some, None, codes}
 use Rattle.std.specs.Prelude.{slice_get, unwrap_or}
-use Rattle.std.specs.Option.{option_and_then}
-use Rattle.std.proofs.lemmas.Option.{none-some, same_Some}
-use Rattle.just_text.specs.declared.os.Os.{Os}
-use Rattle.tree_items.specs.FileIndentation.{known, first_given}
+use Rattle.std.proofs.lemmas.Option.{same_Some}
 use Rattle.tree_items.specs.Files.{file_text, item_shapes}
 use Rattle.tree_items.specs.Printable.{printable}
 use Rattle.modules_compilation.specs.declared.compilation.Compilation.{Compilation}
 use Rattle.modules_compilation.specs.declared.module_node.File.{File}
 use Rattle.modules_compilation.specs.declared.module_node.ModuleNode.{ModuleNode}
 use Rattle.meaning_rules.specs.Worlds.Compiled.{FileView, NodeView, files_of}
-use Rattle.meaning_rules.specs.Worlds.Given.{Given, Text, World}
+use Rattle.meaning_rules.specs.Worlds.Given.{Given, World}
 use Rattle.meaning_rules.specs.Worlds.Laws.{IsRead}
 use Rattle.meaning_rules.proofs.Worlds.Reached.{compilations_have_root}
 use Rattle.meaning_rules.specs.Worlds.Views.{file_view, node_view}
-use Rattle.laws_modules.specs.Names.Names.{HasNode, nodes, views}
+use Rattle.laws_modules.specs.Names.Names.{nodes, views}
 use Rattle.laws_modules.proofs.Names.Found.{mapped, mapped_at, part_at, there_within}
 use Rattle.laws_modules.proofs.Names.Named.{node_is}
-use Rattle.meaning_texts.specs.Laws.{HasRootTexts, IsCompiledFrom, RootTextsStand, answer_held, text_held}
-use Rattle.meaning_texts.specs.Texts.{answer_in, indentation_said, text_in}
+use Rattle.meaning_texts.specs.Laws.{HasRootTexts, IsCompiledFrom, RootTextsStand, text_held}
+use Rattle.meaning_texts.specs.Texts.{text_in}
 use Rattle.meaning_texts.proofs.Indented.{indentation_is}
 
 module _ (source : Given) (w : World) (compilation : Compilation) (told : IsCompiledFrom source w compilation) where

@@ -1,7 +1,7 @@
 -- What is said of a recipe, and whether an item is private: by attributes as they are held, and by what they say.
 use Rattle.std.proofs.Common.{◌≡◌, ◌∙◌, ◌==◌, ◌&&◌, ◌||◌, ap, sym, refl, inl, inr, ◌-◌, ℕ, zero, suc, Bool, true, false, cond, if◌then◌else◌, List, [], ◌∷◌, map, Option, Some, None, codes, arith}
 use Rattle.std.specs.Prelude.{Contains, find, option_map, slice_get, slice_index}
-use Rattle.std.specs.List.{All, list_any}
+use Rattle.std.specs.List.{All}
 use Rattle.std.proofs.lemmas.Bool.Decides.{eqb_tells}
 use Rattle.std.proofs.lemmas.List.Elements.{All-contains}
 use Rattle.tree_expressions.specs.Cutting.{begins}

@@ -1,5 +1,5 @@
 -- The submodules that a module of a compilation offers are those that its world offers.
-use Rattle.std.proofs.Common.{◌≡◌, ◌≢◌, ◌∙◌, ◌⊎◌, inl, inr, ◌+◌, ◌-◌, ◌<◌, ◌≤◌, ap, sym, subst, refl, arith, true≢false, ℕ, zero, suc, Bool, true, false, not, cond, if◌then◌else◌, List, [], ◌∷◌, map, length, take, drop, Option, Some, None}
+use Rattle.std.proofs.Common.{◌≡◌, ◌≢◌, ◌∙◌, ◌⊎◌, inl, inr, ◌+◌, ◌-◌, ◌<◌, ◌≤◌, ap, sym, subst, refl, arith, true≢false, ℕ, zero, suc, Bool, true, false, not, cond, if◌then◌else◌, List, [], ◌∷◌, map, take, drop, Option, Some, None}
 use Rattle.std.specs.Prelude.{Contains, filter, slice_get}
 use Rattle.std.specs.List.{cons_option, filter_map}
 use Rattle.std.specs.List.Sorted.{IsStrictlySortedBy}
@@ -15,7 +15,7 @@ use Rattle.tree_items.specs.declared.ast.Item.TheVariants as items
 use Rattle.tree_items.specs.declared.item.Module.{Module}
 use Rattle.tree_items.specs.Files.{ItemShape, item_shape, module_item}
 use Rattle.tree_items.specs.Items.{ModuleShape}
-use Rattle.modules_compilation.specs.Places.{item_at, text_of}
+use Rattle.modules_compilation.specs.Places.{text_of}
 use Rattle.modules_compilation.specs.Tables.{text_cmp}
 use Rattle.modules_compilation.specs.declared.compilation.Compilation.{Compilation}
 use Rattle.modules_compilation.specs.declared.module_node.ModuleNode.{ModuleNode}
@@ -23,7 +23,7 @@ use Rattle.modules_compilation.specs.declared.place.Place.{Place}
 use Rattle.resolve_recipes.specs.Named.{module_text, submodule_in}
 use Rattle.meaning_rules.specs.Worlds.Compiled.{FileView, HasItem, IsAt, IsInside, NodeView, files_of}
 use Rattle.meaning_rules.specs.Worlds.Given.{Text, World, filled}
-use Rattle.meaning_rules.specs.Worlds.Keeping.{Defines, IsTwice, Kind, MayBoth, a_submodule, both_recipes, both_variables, defined_by}
+use Rattle.meaning_rules.specs.Worlds.Keeping.{Defines, IsTwice, Kind, MayBoth, a_submodule, both_recipes, both_variables}
 use Rattle.meaning_rules.specs.Worlds.Sources.{Has, IsFileOf, IsSubmodule, MayMean, enabled}
 use Rattle.meaning_rules.proofs.Worlds.Places.{contains_at, contains_cases, contains_first, contains_later, contains_none, place_of}
 use Rattle.meaning_rules.proofs.Worlds.Reading.{orders_have_reached}

@@ -15,7 +15,7 @@ use Rattle.meaning_evaluation.specs.Calling.{acts}
 use Rattle.meaning_evaluation.specs.Requests.{OpeningFailure, Requests, unasked, told as request_answered, refused as request_refused}
 use Rattle.just_meaning.specs.Agreement.{AgreesFrom, AgreesBehind, AgreesFills, AgreesOne, AgreesAll}
 use Rattle.just_meaning.specs.Opening.{Held, Opened, exported_names, reading_in, side_dialogue, scene_in, pairs_of, Fills, all, has_value, has_none, OpensOne, not_told, opened, refused, OpensAll, none_left, one_more, fault_here, fault_later, IsOpened}
-use Rattle.just_meaning.specs.Runs.{Runs, ground_of, reading_at}
+use Rattle.just_meaning.specs.Runs.{ground_of, reading_at}
 use Rattle.just_meaning.specs.Runs as runs
 use Rattle.laws_agreement.proofs.Agreement.Lists.{all_append}
 use Rattle.laws_agreement.proofs.Determined.Passing.{passed}

@@ -8,7 +8,7 @@ use Rattle.std.proofs.lemmas.Slice.Eq.{bytes_eq-Decides}
 use Rattle.tree_attributes.specs.Sets.Order.{sorted}
 use Rattle.meaning_rules.specs.Worlds.Given.{Text}
 use Rattle.meaning_rules.proofs.Worlds.Places.{contains_cases, contains_first, contains_none}
-use Rattle.meaning_evaluation.specs.Named.{Definitions, RecipeName, RecipeRow, VariableName, VariableRow}
+use Rattle.meaning_evaluation.specs.Named.{RecipeName, RecipeRow, VariableName, VariableRow}
 use Rattle.just_meaning.specs.Opening.{IsOpened, IsReached, by_words, by_recipe, not_lazy, named}
 use Rattle.just_meaning.specs.Reach.{AgreeOnReach, SameVariable, neither, both}
 use Rattle.just_meaning.specs.Agreement.{AgreesRun}

@@ -30,7 +30,7 @@ use Rattle.meaning_evaluation.proofs.Calls.{calls_decide}
 use Rattle.std.proofs.lemmas.Bool.Decides.{same_from_decides}
 use Rattle.just_meaning.specs.Agreement.{AgreesRun}
 use Rattle.just_meaning.specs.Opening.{Held, Opened, all, has_value, has_none, IsOpened, IsOrder, not_lazy, OpensAll, opened, refused, none_left, one_more, fault_here, named}
-use Rattle.just_meaning.specs.Runs.{HasRun, Opens, Outcome, Runs, ran, not_opened, steps}
+use Rattle.just_meaning.specs.Runs.{HasRun, Runs, ran, not_opened, steps}
 use Rattle.just_meaning.specs.Runs as runs
 use Rattle.just_meaning.specs.Determined.{nothing}
 use Rattle.laws_naive.specs.Example.Justfile.{a, answers, call, configuration, defined, failed, of_root, question, settings, told, variable}

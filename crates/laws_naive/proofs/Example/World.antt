@@ -27,7 +27,7 @@ use Rattle.meaning_rules.specs.Fixed.{value_of}
 use Rattle.meaning_rules.specs.Reading.{PartReads, VariableWalk, named, called}
 use Rattle.meaning_rules.specs.Constants.{BreaksConstants, IsReadBySettings, directly, through}
 use Rattle.meaning_rules.specs.Depending.{RecipeWalk}
-use Rattle.meaning_rules.specs.Rules.{Rule, Broken, Breaks, BreaksDependency, of_kept, of_disabled, Excludes, by_folder, by_script, by_message, HasAlias, HasLine, HasPart, looked, InModule, IsBodyFault, IsLooked, IsRound, Stands, UsesList, in_part, by_star, UsesUnstable, defining, caching, setting_lists, lists_in, has_star, is_of_files}
+use Rattle.meaning_rules.specs.Rules.{Rule, Breaks, BreaksDependency, of_kept, of_disabled, Excludes, by_folder, by_script, by_message, HasAlias, HasLine, HasPart, looked, IsBodyFault, IsLooked, IsRound, UsesList, in_part, by_star, UsesUnstable, defining, caching, setting_lists, lists_in, has_star}
 use Rattle.meaning_rules.specs.Rules as rules
 use Rattle.just_meaning.specs.Known.{BreaksNoRule}
 use Rattle.laws_naive.specs.Example.Justfile.{assignment, items, recipe, root, world}

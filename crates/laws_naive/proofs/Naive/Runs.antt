@@ -1,6 +1,5 @@
 -- Runs that agree with answers go as they mean.
 use Rattle.std.proofs.Common.{◌≡◌, ◌<◌, ◌+◌, ◌-◌, ℕ, suc, List, [], ◌∷◌, ◌++◌, Option, Ok, Err, refl, sym, ap, ◌∙◌, arith}
-use Rattle.std.specs.Prelude.{Contains}
 use Rattle.std.specs.List.{AllByRecursion}
 use Rattle.just_host.specs.declared.entry.Entry.{Entry}
 use Rattle.meaning_runs.specs.Failures.{Failure}
@@ -26,7 +25,7 @@ use Rattle.laws_agreement.proofs.Agreement.Steady.{calls_steady}
 use Rattle.just_meaning.specs.Meanings.{meant_ground, variables_at}
 use Rattle.just_meaning.specs.Determined.{nothing}
 use Rattle.laws_agreement.proofs.Determined.Openings.{all_quiet}
-use Rattle.just_meaning.specs.Naively.{IsRefused, AreAllSteady, HandsOver, IsQuiet, GoesNaively}
+use Rattle.just_meaning.specs.Naively.{AreAllSteady}
 use Rattle.laws_naive.specs.Naive.Laws.{AreMeaningful, RunsGoNaively, WrittenSteady}
 use Rattle.just_meaning.specs.Runs.{recipes_of}
 use Rattle.just_meaning.specs.Naively as naively

@@ -1,5 +1,5 @@
 -- Steady justfiles' runs are naive runs.
-use Rattle.std.proofs.Common.{◌≡◌, List, ◌++◌, map, Option, Some, None, refl, sym, ap, ap₂, ◌∙◌, subst}
+use Rattle.std.proofs.Common.{◌≡◌, List, ◌++◌, map, Option, Some, None, refl, sym, ap, ◌∙◌, subst}
 use Rattle.std.proofs.lemmas.List.{append_cancel_left}
 use Rattle.just_host.specs.declared.entry.Entry.{Entry}
 use Rattle.meaning_runs.specs.Failures.{Failure}

@@ -13,7 +13,7 @@ use Rattle.just_meaning.specs.Opening.{IsOpened}
 use Rattle.just_meaning.specs.Runs as runs
 use Rattle.laws_agreement.proofs.Agreement.Lists.{all_append}
 use Rattle.laws_agreement.proofs.Determined.Openings.{all_quiet}
-use Rattle.just_meaning.specs.Naively.{GoesNaively, HoldEverywhere}
+use Rattle.just_meaning.specs.Naively.{HoldEverywhere}
 use Rattle.just_meaning.specs.Runs.{recipes_of}
 use Rattle.just_meaning.specs.Naively as naively
 use Rattle.laws_naive.proofs.Naive.Ranks.{dependencies_fall}
@@ -21,8 +21,6 @@ use Rattle.laws_naive.proofs.Naive.Records.{records_agree}
 use Rattle.laws_naive.proofs.Naive.Worlds.{invoked_go_naively}
 use Rattle.just_meaning.proofs.Naively.{plans_tell_naively}
 use Rattle.run_plan.specs.Answered.{AreWellAnswered}
-use Rattle.run_plan.specs.Plans.{plan_text}
-use Rattle.just_meaning.specs.Planned.{IsNaivePlan, WritesNaively}
 use Rattle.laws_naive.specs.Plans.Laws.{AgreeingAnswerWell, AnswersWell, PlansAgree, PlansAreNaive, ReachedPlansAreNaive}
 use Rattle.just_meaning.specs.Planned as planned
 use Rattle.laws_naive.proofs.Inputs.Reached.{reached_go_naively}

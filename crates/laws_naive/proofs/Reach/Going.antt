@@ -11,7 +11,7 @@ use Rattle.meaning_runs.specs.Failures.{Failure}
 use Rattle.meaning_runs.specs.Goes.{Goes, over, again, entered, not_begun, prior_failed, not_ended, subsequent_failed}
 use Rattle.meaning_runs.specs.Parts.{Parts, Joins}
 use Rattle.meaning_runs.specs.Tallies.{Tally}
-use Rattle.meaning_runs.specs.Task.{Task, TaskLeads, ends, lift}
+use Rattle.meaning_runs.specs.Task.{TaskLeads, ends, lift}
 use Rattle.meaning_runs.specs.Task as tasks
 use Rattle.meaning_runs.proofs.Counted.{few}
 use Rattle.meaning_runs.proofs.Restricted.{AreClosed}

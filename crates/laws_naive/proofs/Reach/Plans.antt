@@ -1,8 +1,5 @@
 -- Plans of runs that go alike have the same text.
-use Rattle.std.proofs.Common.{◌≡◌, refl, sym, ap, ◌∙◌, subst, List, [], ◌∷◌, ◌++◌, Option, Some, None, Err}
-use Rattle.just_host.specs.declared.entry.Entry.{Entry}
-use Rattle.meaning_runs.specs.Laws.{events_of}
-use Rattle.meaning_runs.specs.Meant.{is_event}
+use Rattle.std.proofs.Common.{◌≡◌, refl, sym, ap, ◌∙◌, subst, [], ◌∷◌, ◌++◌, Option, Some, None, Err}
 use Rattle.run_plan.specs.Plans.{plan_text}
 use Rattle.meaning_runs.specs.Failures.{Failure}
 use Rattle.meaning_runs.specs.Tallies.{Tally}

@@ -12,7 +12,7 @@ use Rattle.meaning_evaluation.specs.Calling.{Ground}
 use Rattle.meaning_evaluation.specs.Named.{Call, Definitions, paths_of}
 use Rattle.meaning_evaluation.specs.Scopes.{Configuration}
 use Rattle.just_meaning.specs.Opening.{Opened, IsReached, by_words, pairs_of}
-use Rattle.just_meaning.specs.Runs.{Outcome, Runs, HasRun, ground_of, reading_at, pairs_at, values_at}
+use Rattle.just_meaning.specs.Runs.{HasRun, ground_of, reading_at, pairs_at, values_at}
 use Rattle.just_meaning.specs.Runs as runs
 use Rattle.laws_agreement.proofs.Agreement.Closed.{reached_closed}
 use Rattle.laws_agreement.proofs.Agreement.Lists.{all_more, all_contained, contains_map}

@@ -1,5 +1,5 @@
 -- Runs by two inputs that agree on what the runs reach.
-use Rattle.std.specs.Prelude.{◌≡◌, ◌↔◌, ℕ, List, map, Bool, Ok}
+use Rattle.std.specs.Prelude.{◌≡◌, ◌↔◌, ℕ, List, Bool, Ok}
 use Rattle.just_host.specs.declared.entry.Entry.{Entry}
 use Rattle.meaning_runs.specs.Tallies.{Tally}
 use Rattle.meaning_runs.specs.Told.{Answers}
