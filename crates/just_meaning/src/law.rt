@@ -28,3 +28,23 @@ pub fn runs_go_alike<Rule>()
     ensures refused { RefusedGoAlike Rule }
     ensures events { EqualEventsGoAlike Rule }
 {}
+
+/// A fault that the answers give as that of an opening refuses it.
+pub fn given_faults_refuse()
+    ensures { GivenFaultsRefuse }
+{}
+
+/// What goes naively is refused before any recipe exactly where the answers refuse the opening.
+pub fn refused_exactly<Rule>()
+    ensures { RefusedExactly Rule }
+{}
+
+/// The text of a plan is that of the events alone.
+pub fn plans_tell_events()
+    ensures { PlansTellEvents }
+{}
+
+/// The plan of a run that goes naively is the text of the naive run, and none where the opening is refused.
+pub fn plans_tell_naively<Rule>()
+    ensures { PlansTellNaively Rule }
+{}
