@@ -9,7 +9,7 @@ use Rattle.just_text.specs.Tokens.{lexeme}
 use Rattle.just_text.specs.declared.os.Os.{Os}
 use Rattle.tree_attributes.specs.declared.attribute.AttributeKind.TheVariants.{Unix}
 use Rattle.tree_attributes.specs.declared.setting.Setting.{Setting}
-use Rattle.tree_attributes.specs.declared.setting.Setting.TheVariants.{AllowDuplicateRecipes, AllowDuplicateVariables, DefaultList, DefaultScript, DotenvCommand, DotenvFilename, DotenvLoad, DotenvOverride, DotenvPath, DotenvRequired, Export, Fallback, Guards, IgnoreComments, Indentation, Lazy, Lists, MinimumVersion, NoCd, NoExitMessage, PositionalArguments, Quiet, ScriptInterpreter, ShareSubsequents, Shell, Tempdir, Unstable, WindowsPowershell, WindowsShell, WorkingDirectory}
+use Rattle.tree_attributes.specs.declared.setting.Setting.TheVariants.{DotenvCommand, DotenvFilename, DotenvPath, Indentation, MinimumVersion, ScriptInterpreter, Shell, Tempdir, Truth, WindowsShell, WorkingDirectory}
 use Rattle.tree_attributes.specs.Settings.{value_shape}
 use Rattle.tree_attributes.specs.declared.attribute_set.AttributeSet.{AttributeSet}
 use Rattle.tree_attributes.specs.Sets.Order.{item_shape as attribute_shape}
@@ -43,34 +43,15 @@ said_by expansion name value = if bytes_eq name (codes "indentation") then strin
 
 -- the text of a setting of the indentation is what its string stands for
 setting_said : (expansion : Expansion) (value : Setting) → HasIndentationText expansion value → indentation_text value ≡ said_by expansion (setting_name value) value
-setting_said expansion (AllowDuplicateRecipes value) cooked = refl
-setting_said expansion (AllowDuplicateVariables value) cooked = refl
-setting_said expansion (DefaultList value) cooked = refl
-setting_said expansion (DefaultScript value) cooked = refl
+setting_said expansion (Truth which value) cooked = refl
 setting_said expansion (DotenvCommand value) cooked = refl
 setting_said expansion (DotenvFilename value) cooked = refl
-setting_said expansion (DotenvLoad value) cooked = refl
-setting_said expansion (DotenvOverride value) cooked = refl
 setting_said expansion (DotenvPath value) cooked = refl
-setting_said expansion (DotenvRequired value) cooked = refl
-setting_said expansion (Export value) cooked = refl
-setting_said expansion (Fallback value) cooked = refl
-setting_said expansion (Guards value) cooked = refl
-setting_said expansion (IgnoreComments value) cooked = refl
 setting_said expansion (Indentation text) cooked = ap (λ r. Some (text_or_none r)) (sym cooked)
-setting_said expansion (Lazy value) cooked = refl
-setting_said expansion (Lists value) cooked = refl
 setting_said expansion (MinimumVersion value) cooked = refl
-setting_said expansion (NoCd value) cooked = refl
-setting_said expansion (NoExitMessage value) cooked = refl
-setting_said expansion (PositionalArguments value) cooked = refl
-setting_said expansion (Quiet value) cooked = refl
 setting_said expansion (ScriptInterpreter value) cooked = refl
-setting_said expansion (ShareSubsequents value) cooked = refl
 setting_said expansion (Shell value) cooked = refl
 setting_said expansion (Tempdir value) cooked = refl
-setting_said expansion (Unstable value) cooked = refl
-setting_said expansion (WindowsPowershell value) cooked = refl
 setting_said expansion (WindowsShell value) cooked = refl
 setting_said expansion (WorkingDirectory value) cooked = refl
 

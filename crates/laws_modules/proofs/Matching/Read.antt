@@ -57,34 +57,15 @@ module _ (origin : Origin) where
       by_attribute (attributes.WorkingDirectory s) h = tt
 
   setting_held : (value : Setting) → IsCookedSetting origin value → HasIndentationText origin.expansion value
-  setting_held (settings.AllowDuplicateRecipes value) h = tt
-  setting_held (settings.AllowDuplicateVariables value) h = tt
-  setting_held (settings.DefaultList value) h = tt
-  setting_held (settings.DefaultScript value) h = tt
+  setting_held (settings.Truth which value) h = tt
   setting_held (settings.DotenvCommand value) h = tt
   setting_held (settings.DotenvFilename value) h = tt
-  setting_held (settings.DotenvLoad value) h = tt
-  setting_held (settings.DotenvOverride value) h = tt
   setting_held (settings.DotenvPath value) h = tt
-  setting_held (settings.DotenvRequired value) h = tt
-  setting_held (settings.Export value) h = tt
-  setting_held (settings.Fallback value) h = tt
-  setting_held (settings.Guards value) h = tt
-  setting_held (settings.IgnoreComments value) h = tt
   setting_held (settings.Indentation value) h = h.text
-  setting_held (settings.Lazy value) h = tt
-  setting_held (settings.Lists value) h = tt
   setting_held (settings.MinimumVersion value) h = tt
-  setting_held (settings.NoCd value) h = tt
-  setting_held (settings.NoExitMessage value) h = tt
-  setting_held (settings.PositionalArguments value) h = tt
-  setting_held (settings.Quiet value) h = tt
   setting_held (settings.ScriptInterpreter value) h = tt
-  setting_held (settings.ShareSubsequents value) h = tt
   setting_held (settings.Shell value) h = tt
   setting_held (settings.Tempdir value) h = tt
-  setting_held (settings.Unstable value) h = tt
-  setting_held (settings.WindowsPowershell value) h = tt
   setting_held (settings.WindowsShell value) h = tt
   setting_held (settings.WorkingDirectory value) h = tt
 

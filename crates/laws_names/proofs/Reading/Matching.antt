@@ -114,27 +114,8 @@ module _ (expansion : Expansion) where
       All-cons (HasDocText expansion) y ys (from_stands y.attribute stands) (docs_kept xs ys later (All-tail (HasDocText expansion) x xs h))
 
   setting_kept : (old new : Setting) → IsSameSetting old new → HasIndentationText expansion old → HasIndentationText expansion new
-  setting_kept (settings.AllowDuplicateRecipes value) new same h = subst (HasIndentationText expansion) (sym same) h
-  setting_kept (settings.AllowDuplicateVariables value) new same h = subst (HasIndentationText expansion) (sym same) h
-  setting_kept (settings.DefaultList value) new same h = subst (HasIndentationText expansion) (sym same) h
-  setting_kept (settings.DefaultScript value) new same h = subst (HasIndentationText expansion) (sym same) h
-  setting_kept (settings.DotenvLoad value) new same h = subst (HasIndentationText expansion) (sym same) h
-  setting_kept (settings.DotenvOverride value) new same h = subst (HasIndentationText expansion) (sym same) h
-  setting_kept (settings.DotenvRequired value) new same h = subst (HasIndentationText expansion) (sym same) h
-  setting_kept (settings.Export value) new same h = subst (HasIndentationText expansion) (sym same) h
-  setting_kept (settings.Fallback value) new same h = subst (HasIndentationText expansion) (sym same) h
-  setting_kept (settings.Guards value) new same h = subst (HasIndentationText expansion) (sym same) h
-  setting_kept (settings.IgnoreComments value) new same h = subst (HasIndentationText expansion) (sym same) h
-  setting_kept (settings.Lazy value) new same h = subst (HasIndentationText expansion) (sym same) h
-  setting_kept (settings.Lists value) new same h = subst (HasIndentationText expansion) (sym same) h
+  setting_kept (settings.Truth which value) new same h = subst (HasIndentationText expansion) (sym same) h
   setting_kept (settings.MinimumVersion value) new same h = subst (HasIndentationText expansion) (sym same) h
-  setting_kept (settings.NoCd value) new same h = subst (HasIndentationText expansion) (sym same) h
-  setting_kept (settings.NoExitMessage value) new same h = subst (HasIndentationText expansion) (sym same) h
-  setting_kept (settings.PositionalArguments value) new same h = subst (HasIndentationText expansion) (sym same) h
-  setting_kept (settings.Quiet value) new same h = subst (HasIndentationText expansion) (sym same) h
-  setting_kept (settings.ShareSubsequents value) new same h = subst (HasIndentationText expansion) (sym same) h
-  setting_kept (settings.Unstable value) new same h = subst (HasIndentationText expansion) (sym same) h
-  setting_kept (settings.WindowsPowershell value) new same h = subst (HasIndentationText expansion) (sym same) h
   setting_kept (settings.Indentation value) new same h = subst (HasIndentationText expansion) (sym same) h
   setting_kept (settings.DotenvCommand value) new same h = subst (HasIndentationText expansion) (sym same.1) tt
   setting_kept (settings.DotenvFilename value) new same h = subst (HasIndentationText expansion) (sym same.1) tt
