@@ -43,6 +43,8 @@ use Rattle.laws_modules.proofs.Modules.Rounds.{no_round}
 use Rattle.laws_modules.specs.Names.Meant.{AreFilesCooked, IsMeantWhole}
 use Rattle.laws_modules.specs.Names.Names.{AreSetOnce, AreSingle, HasNode, IsOfWorld, views}
 use Rattle.laws_modules.proofs.Names.Aliases.{leading_aliases_are_known, other_aliases_are_unknown}
+use Rattle.meaning_rules.specs.Worlds.Matching.{MatchSources}
+use Rattle.laws_modules.proofs.Matching.Read.{read_file_matches}
 use Rattle.just_modules.specs.Aliases.{AllAliasesLead, IsAliasUnknown}
 use Rattle.just_modules.specs.Keeping.{AreFilled}
 use Rattle.just_modules.specs.Worlds.{HasWorld}
@@ -128,6 +130,12 @@ module _ {Y Z : Type 0} (sources : BTreeMap (String Y) (String Z)) (expansion : 
           other_aliases_are_unknown w compilation of_world single (are_said sources expansion version os unstable start root loaded are w stands) o h.place u.alias
               (record { node = h.node; here = h.there; i = h.unknown.i; place = h.unknown.at; listed = h.unknown.there; there = u.there }) u.nowhere,
         )
+
+  -- the files that were loaded are told
+  pub files_told : (loaded compilation : Compilation) → AreLoaded sources expansion version os start true root loaded → AreFilled os unstable loaded compilation → MatchSources (given_of sources os unstable expansion version root) compilation
+  files_told loaded compilation are filled k file e =
+      let r = each_read sources expansion version os start loaded.files.items loaded.modules.items are.modules are.linked.covered k file (subst (λ fs. slice_get fs k ≡ Some file) filled.files e) in
+      read_file_matches (given_of sources os unstable expansion version root) file (r.1.text, r.1.there, r.1.says) r.1.whole.own r.1.whole.cooked
 
   -- there is a world that what was loaded stands for
   pub has_world : SaysAtMostOne → FaultsSayNothing → (loaded : Compilation) → AreLoaded sources expansion version os start true root loaded → HasWorld os unstable sources expansion version root

@@ -1,7 +1,9 @@
 //! From texts to modules.
 ghost use Rattle.std.specs.Prelude.{[], ◌≡◌, ◌≢◌, ◌≤◌, ◌&&◌, ◌||◌, ℕ, Bool, true, List, IfErr, IfOk, OnOk, Ok, Err, Some, None, bytes_eq, length, slice_get};
 ghost use Rattle.just_value.specs.Constants.{constant_rows};
+ghost use Rattle.meaning_rules.specs.Worlds.Views.{given_of};
 ghost use Rattle.laws_modules.specs.Names.Meant.{IsMeantWhole};
+ghost use Rattle.meaning_rules.specs.Worlds.Matching.{MatchSources};
 ghost use Rattle.modules_compilation.specs.declared.compilation.Compilation.{Compilation};
 ghost use Rattle.modules_compilation.specs.declared.module_node.ModuleNode.{ModuleNode};
 ghost use Rattle.modules_definitions.specs.Keeping.{AreInOrder, AreKept};
@@ -427,6 +429,7 @@ impl Compiler {
         ensures filled { IfOk result (λ compilation. (start : Numbers) (is_read : Bool) → (is_read ≡ true → IsRootRead sources.now (E.expansion expander.now) config.now.version start root.now parsed.entry) → IsSettled config.now.os config.now.unstable sources.now (E.expansion expander.now) config.now.version start is_read root.now compilation) }
         ensures made { IfOk result (λ compilation. (start : Numbers) → IsRootRead sources.now (E.expansion expander.now) config.now.version start root.now parsed.entry → InEachWorld config.now.os config.now.unstable sources.now (E.expansion expander.now) config.now.version root.now (IsCompilationOf compilation)) }
         ensures meant { IfOk result (λ compilation. (start : Numbers) → length constant_rows ≤ start.bindings → IsRootRead sources.now (E.expansion expander.now) config.now.version start root.now parsed.entry → InEachWorld config.now.os config.now.unstable sources.now (E.expansion expander.now) config.now.version root.now (λ w. IsMeantWhole w compilation)) }
+        ensures told { IfOk result (λ compilation. (start : Numbers) → IsRootRead sources.now (E.expansion expander.now) config.now.version start root.now parsed.entry → MatchSources (given_of sources.now config.now.os config.now.unstable (E.expansion expander.now) config.now.version root.now) compilation) }
         ensures there { OnOk result ((start : Numbers) → IsRootRead sources.now (E.expansion expander.now) config.now.version start root.now parsed.entry → HasWorld config.now.os config.now.unstable sources.now (E.expansion expander.now) config.now.version root.now) }
         ensures clear { OnOk result ((start : Numbers) → IsRootRead sources.now (E.expansion expander.now) config.now.version start root.now parsed.entry → InEachWorld config.now.os config.now.unstable sources.now (E.expansion expander.now) config.now.version root.now BreaksNone) }
         ensures broken { IfErr result (λ error. (start : Numbers) → IsRootRead sources.now (E.expansion expander.now) config.now.version start root.now parsed.entry → InEachWorld config.now.os config.now.unstable sources.now (E.expansion expander.now) config.now.version root.now (BreaksTold error)) }

@@ -3,6 +3,7 @@ ghost use Rattle.std.specs.Prelude.{◌≡◌, refl};
 ghost use Rattle.std.proofs.Common.{◌∙◌};
 ghost use Rattle.just_host.specs.Follows.{Follows, questions};
 ghost use Rattle.just_host.specs.Steps.{idle, questions-join, then};
+ghost use Rattle.run_plan.specs.Answered.{AreWellAnswered, answered_then};
 ghost use Rattle.just_host.specs.declared.host.Confirmation.TheVariants.{Yes};
 ghost use Rattle.just_host.specs.declared.host.Status.TheVariants.{Code};
 
@@ -20,15 +21,15 @@ pub struct Planning<'a, G> {
 }
 
 impl<G: RunHost + Drop> Host for Planning<'_, G> {
-    ghost goes = { λ a piece b. (b.caller.ghost_name ≡ a.caller.ghost_name) × Follows G.goes a.caller.now (questions piece) b.caller.now };
+    ghost goes = { λ a piece b. (b.caller.ghost_name ≡ a.caller.ghost_name) × Follows G.goes a.caller.now (questions piece) b.caller.now × AreWellAnswered piece };
 
     fn ask(&mut self, question: &Question) -> Answer {
         self.caller.ask(question)
     }
 
-    ghost nothing = { λ a. (refl, idle G.goes G.nothing a.caller.now) };
+    ghost nothing = { λ a. (refl, idle G.goes G.nothing a.caller.now, tt) };
 
-    ghost joins = { λ a b c p q first second. (second.0 ∙ first.0, questions-join (Follows G.goes) (then G.goes G.joins) a.caller.now b.caller.now c.caller.now p q first.1 second.1) };
+    ghost joins = { λ a b c p q first second. (second.0 ∙ first.0, questions-join (Follows G.goes) (then G.goes G.joins) a.caller.now b.caller.now c.caller.now p q first.1 second.1, answered_then p q first.2 second.2) };
 }
 
 impl<G: RunHost + Drop> RunHost for Planning<'_, G> {

@@ -8,7 +8,7 @@ use Rattle.just_modules.specs.Refused.{IsRefused}
 use Rattle.just_modules.proofs.Refusing.{refused_by_either, refused_under}
 use Rattle.just_modules.proofs.ByName.{all_by_name, fresh_of}
 use Rattle.meaning_rules.specs.Rules.{Broken}
-use Rattle.just_modules.proofs.Compiling.{has_world, meant, none_broken, refused_told, told_unless}
+use Rattle.just_modules.proofs.Compiling.{files_told, has_world, meant, none_broken, refused_told, told_unless}
 use Rattle.just_modules.proofs.Made.{made}
 use Rattle.just_modules.proofs.Keeping.{filled_whole, kept_both, kept_gives, kept_says, ok_holds, refusal_gives}
 use Rattle.just_modules.proofs.compiler.Compiler.compile_parsed.Goals as goal
@@ -92,3 +92,13 @@ returns-clause-clear g c = kept_says c.settled.result c.settled.ensures.filled (
 pub returns-clause-broken : goal.returns-clause-broken
 returns-clause-broken g c = refusal_gives c.settled.result (returns-clause-refused g c) (λ e refused start read w stands o. told_unless (Broken w o) e (λ n.
     refused_told c.args.sources.now (g.E.Expander.expansion c.args.expander.now) c.args.config.now.version c.args.config.now.os c.args.config.now.unstable start c.args.root.now w stands o e (refused n start true (λ is. read))))
+
+pub returns-clause-told : goal.returns-clause-told
+returns-clause-told g c = kept_gives c.settled.result c.settled.ensures.filled (λ compilation h start read.
+    let sources = c.args.sources.now in
+    let expansion = g.E.Expander.expansion c.args.expander.now in
+    let version = c.args.config.now.version in
+    let os = c.args.config.now.os in
+    let loaded = ok_holds (λ (loaded : Compilation). (start : Numbers) (is_read : Bool) → (is_read ≡ true → IsRootRead sources expansion version start c.args.root.now c.args.parsed) → AreLoaded sources expansion version os start is_read c.args.root.now loaded)
+    c.load_modules-loaded.result h.0 h.1 c.load_modules-loaded.ensures.loaded in
+    files_told sources expansion version os c.args.config.now.unstable start c.args.root.now h.0 compilation (loaded start true (λ e. read)) h.2)
