@@ -20,6 +20,8 @@ use Rattle.meaning_rules.specs.Worlds.Reformatted.{FormatsSome, IsFormattedAt, I
 use Rattle.laws_printing.proofs.Reformatted.Texts.{stand_alike}
 use Rattle.meaning_rules.specs.Worlds.Views.{given_of}
 use Rattle.run_tasks.specs.declared.action.Action.{Action}
+use Rattle.laws_printing.specs.Formatted.Formatted.{PrintsBack}
+use Rattle.just_run.proofs.TellsAlike.{tells_too}
 use Rattle.just_run.specs.Drives.{Drives, State}
 use Rattle.just_run.specs.Named.{Left}
 use Rattle.just_run.specs.Root.{Inputs, IsNoJustfile, IsUnread, Reader, inputs_of, reader_of, text_at}
@@ -115,10 +117,10 @@ module _ (faultless : FaultsSayNothing) (i : Inputs) (source : List ℕ → Opti
   unread_too (roots.MissingRoot path) h = (h.0, missing_too path.now h.1)
   unread_too (roots.Syntax error) h = refused_too error.kind h
 
-  module _ (one : SaysAtMostOne) (given given' : Text → Given) (same : (path : Text) → IsReformatted (given path) (given' path)) where
+  module _ (one : SaysAtMostOne) (back : PrintsBack) (given given' : Text → Given) (same : (path : Text) → IsReformatted (given path) (given' path)) where
     sources_too : (asked : Asked) (left : Left) (result : Result Outcome Fault) → AnswersSources given i asked left result → AnswersSources given' other asked left result
     sources_too asked left result (unread fault is told) = unread fault is (unread_too fault told)
-    sources_too asked left result (read path rooted each) = read path rooted (λ w stands. each w ((stand_alike one faultless (given path) (given' path) (same path) w).1 stands))
+    sources_too asked left result (read path rooted there each) = read path rooted (there.0, (stand_alike one faultless (given path) (given' path) (same path) there.0).0 there.1) (λ w stands. tells_too back one (given path) (given' path) (same path) w path left result asked (each w ((stand_alike one faultless (given path) (given' path) (same path) w).1 stands)))
 
     drives_too : {H : Type 0} (goes : H → List Entry → H → Type 0) (config : Config) (action : Action) (old : State H) (result : Result Outcome Fault) (new : State H) → Drives goes i given config action old result new → Drives goes other given' config action old result new
     drives_too goes config action old result new d = record {
@@ -132,7 +134,7 @@ module _ (faultless : FaultsSayNothing) (i : Inputs) (source : List ℕ → Opti
     }
 
 -- So it is over maps.
-module _ {A B C D E : Type 0} (one : SaysAtMostOne) (faultless : FaultsSayNothing) (expansion : Expansion) (sources other : BTreeMap (String A) (String B)) (roots : BTreeMap (Option (String C)) (String D)) (words : List (String E)) (config : Config)
+module _ {A B C D E : Type 0} (one : SaysAtMostOne) (faultless : FaultsSayNothing) (back : PrintsBack) (expansion : Expansion) (sources other : BTreeMap (String A) (String B)) (roots : BTreeMap (Option (String C)) (String D)) (words : List (String E)) (config : Config)
     (formats : FormatsSome expansion config.version (source_of sources) (source_of other)) where
   abbrev inputs : Inputs
   inputs = inputs_of (reader_of expansion config.version) sources roots words
@@ -141,5 +143,5 @@ module _ {A B C D E : Type 0} (one : SaysAtMostOne) (faultless : FaultsSayNothin
       → Drives goes inputs (given_of sources config.os config.unstable expansion config.version) config action old result new
       → Drives goes (inputs_of (reader_of expansion config.version) other roots words) (given_of other config.os config.unstable expansion config.version) config action old result new
   formatted_drives goes action old result new d =
-      drives_too faultless inputs (text_at other) (formats_at expansion config.version sources other formats) one (given_of sources config.os config.unstable expansion config.version) (given_of other config.os config.unstable expansion config.version)
+      drives_too faultless inputs (text_at other) (formats_at expansion config.version sources other formats) one back (given_of sources config.os config.unstable expansion config.version) (given_of other config.os config.unstable expansion config.version)
       (λ path. record { same_os = refl; same_unstable = refl; same_expansion = refl; same_version = refl; same_root = refl; formats = formats }) goes config action old result new d

@@ -4,7 +4,10 @@ mod Early
 mod Failed
 mod Formatted
 mod Planned
+mod PlansTold
 mod Ran
+mod RootTexts
 mod Roots
 mod Sources
+mod TellsAlike
 mod Told

@@ -71,6 +71,11 @@ use Rattle.laws_agreement.proofs.Known.Invoked.{invoked_are_known}
 use Rattle.laws_agreement.proofs.Known.Known.{defined_are_known, kept_are_known}
 use Rattle.laws_agreement.proofs.Known.Ordered.{worlds_are_in_order}
 use Rattle.just_meaning.specs.Determined.{nothing}
+use Rattle.laws_naive.proofs.Naive.Ranks.{dependencies_fall}
+use Rattle.laws_naive.proofs.Naive.Worlds.{invoked_go_naively}
+use Rattle.laws_naive.proofs.Inputs.Reached.{reached_go_naively}
+use Rattle.just_meaning.specs.Clear.{IsClear}
+use Rattle.laws_naive.proofs.Reach.Worlds.{reach_decides}
 use Rattle.laws_agreement.proofs.Repeated.Repeated.{runs_go_alike}
 use Rattle.laws_agreement.proofs.Unique.Unique.{definitions_are_one}
 use Rattle.std.specs.List.{AllByRecursion}
@@ -87,12 +92,18 @@ use Rattle.laws_runs.specs.Running.Told.{IsThere}
 use Rattle.laws_modules.specs.Names.Names.{AreSingle, IsOfWorld}
 use Rattle.resolve_analysis.specs.declared.module_lists.ModuleLists.{ModuleLists}
 use Rattle.std.proofs.lemmas.Option.{same_Some}
-use Rattle.just_run.specs.Named.{CommandTo, End, GoesAlike, GoesNamed, IsCertainEnd, IfCommanded, IfRan, IfTold, IsListed, Left, PlansNamed, RunsBetween, RunsNamed, ValuesTo, as_run}
+use Rattle.just_run.specs.Named.{CommandTo, End, GoesAlike, GoesAsReached, GoesNamed, IsCertainEnd, IfCommanded, IfRan, IfTold, IsListed, IsMeant, IsMeantAsReached, Left, PlanTold, PlansNamed, RunsBetween, RunsNamed, ValuesTo, as_run}
 use Rattle.just_run.specs.Named as named
+use Rattle.just_run.proofs.PlansTold.{if_ran_more, plan_told}
 use Rattle.just_run.specs.Passed.{task_fault}
 use Rattle.just_run.specs.Ran.{Answers, EndsTask, GoesPlaced, PlanEnds, PlansTask, does, plan_answer, plans, tells, unwritten, written}
 use Rattle.just_run.specs.Sources.{Asked, TellsDefined, TellsPlaced, TellsWords, broken, clear}
+use Rattle.just_run.specs.Texts.{TellsRoot}
 use Rattle.just_run.specs.Writes.{Writes}
+use Rattle.just_run.proofs.RootTexts.{told_answered, told_dumped, told_listed}
+use Rattle.justfile_syntax.specs.Laws.{SaysAtMostOne}
+use Rattle.meaning_rules.specs.Worlds.Matching.{MatchSources}
+use Rattle.meaning_texts.specs.Laws.{IsCompiledFrom}
 use Rattle.just_run.specs.declared.fault.Fault.{Fault}
 use Rattle.just_run.specs.declared.fault.Fault.TheVariants as results
 use Rattle.just_run.specs.declared.outcome.Outcome.{Outcome}
@@ -264,23 +275,64 @@ module _ (source : Given) (w : World) (stands : StandsFor source w) (clear_of_fi
     alike_run c words left result invocations invoke old new t end run = λ f agrees others also old' new' t' end' other too.
         runs_go_alike ⊥ w o no_rule read (worlds_are_in_order source w stands) base working defined defined are are rows_there c words invocations others invoke also f old new t end run agrees old' new' t' end' other too
 
+    -- the input of the call breaks no rule
+    own_input : IsClear w o base working defined
+    own_input = record { none = no_rule; read = read; order = worlds_are_in_order source w stands; are = are; rows = rows_there }
+
+    -- by answers that it agrees with a run goes as they mean
+    meant_run : (c : Configuration) (words : List (List ℕ)) (left : Left) (result : Result Outcome Fault) (invocations : List (RecipeName × List (List (List ℕ)))) → Invoke (menu_of defined) words invocations
+        → (old new : List Entry) (t : Tally) (end : End) (run : Runs c defined (map call_in invocations) old nothing new t end) → IsMeant c defined words left result run
+    meant_run c words left result invocations invoke old new t end run = λ f agrees.
+        invoked_go_naively dependencies_fall ⊥ w o no_rule read (worlds_are_in_order source w stands) base working defined are rows_there c words invocations invoke f old new t end run agrees
+
+    -- each run of the same calls by an input that agrees on what is reached goes alike
+    reached_run : (c : Configuration) (words : List (List ℕ)) (left : Left) (result : Result Outcome Fault) (invocations : List (RecipeName × List (List (List ℕ)))) → Invoke (menu_of defined) words invocations
+        → (old new : List Entry) (t : Tally) (end : End) (run : Runs c defined (map call_in invocations) old nothing new t end) → GoesAsReached c defined words left result invocations run
+    reached_run c words left result invocations invoke old new t end run = λ f agrees w' o' base' working' other clear' others also agree old' new' t' end' run' agrees'.
+        reach_decides ⊥ w w' o o' base working base' working' defined other own_input clear' c words others invocations invoke also agree f old new t end run agrees old' new' t' end' run' agrees'
+
+    -- and this run goes as answers mean by each such input
+    meant_as_reached : (c : Configuration) (words : List (List ℕ)) (left : Left) (result : Result Outcome Fault) (invocations : List (RecipeName × List (List (List ℕ)))) → Invoke (menu_of defined) words invocations
+        → (old new : List Entry) (t : Tally) (end : End) (run : Runs c defined (map call_in invocations) old nothing new t end) → IsMeantAsReached c defined words left result invocations run
+    meant_as_reached c words left result invocations invoke old new t end run = λ f agrees w' o' base' working' other clear' others also agree.
+        reached_go_naively ⊥ w w' o o' base working base' working' defined other own_input clear' c words others invocations invoke also agree f old new t end run agrees
+
     -- so what words invoke runs, from one record to another
     between : (c : Configuration) (words : List (List ℕ)) (left : Left) (result : Result Outcome Fault) (invocations : List (RecipeName × List (List (List ℕ)))) → Invoke (menu_of defined) words invocations
         → (old new : List Entry) (t : Tally) (end : End) → Runs c defined (map call_in invocations) old nothing new t end → RunsBetween c defined words left result old new invocations end
-    between c words left result invocations invoke old new t end run =
-        (certain_run c words invocations invoke old new t end run, (t, run, alike_run c words left result invocations invoke old new t end run))
+    between c words left result invocations invoke old new t end run = (
+      certain_run c words invocations invoke old new t end run,
+      (
+        t,
+        run,
+        alike_run c words left result invocations invoke old new t end run,
+        meant_run c words left result invocations invoke old new t end run,
+        reached_run c words left result invocations invoke old new t end run,
+        meant_as_reached c words left result invocations invoke old new t end run,
+      ),
+    )
 
     -- what the world defines is one
     defined_once : (other : Definitions) → AreDefined w o base working other → other ≡ defined
     defined_once other too = definitions_are_one w o base working other defined too are
 
 module _ (source : Given) (w : World) (stands : StandsFor source w) (clear_of_files : files.BreaksNone w) (compilation : Compilation) (resolvable : IsResolvable w compilation) (asked : Asked) (root : List ℕ) (left : Left) (result : Result Outcome Fault) (analysis : Analysis)
-    (clear_of_names : names.BreaksNone w (overrides_of asked.words.overrides)) (known : IsAnalysis compilation (string_bytes asked.config.base) asked.words.overrides analysis) where
+    (one : SaysAtMostOne) (files_told : MatchSources source compilation) (same_os : source.os ≡ asked.config.os) (clear_of_names : names.BreaksNone w (overrides_of asked.words.overrides)) (known : IsAnalysis compilation (string_bytes asked.config.base) asked.words.overrides analysis) where
   abbrev Defined : Type 0
   Defined = IsDefinedBy w compilation asked.words.overrides (string_bytes asked.config.base) (string_bytes asked.config.working_directory) analysis asked.words.arguments
 
   abbrev configuration : Configuration
   configuration = configuration_of asked.config root w.expansion
+
+  -- what is known of the files, and what is told of a text of the root
+  told_whole : IsCompiledFrom source w compilation
+  told_whole = record { same_root = stands.same_root; of = resolvable.numbered.of; single = resolvable.numbered.single; sources = files_told }
+
+  abbrev TellsText : RootText → Type 0
+  TellsText text = TellsRoot compilation asked.config.os root text left.sent result left.sends
+
+  listed_so : TellsText texts.List → IsListed source w root left result
+  listed_so h = told_listed one source w compilation told_whole asked.config.os same_os root left result h
 
   -- what the action and the words ask for
   abbrev AskedFor : Action → Request → Type 0
@@ -325,7 +377,7 @@ module _ (source : Given) (w : World) (stands : StandsFor source w) (clear_of_fi
 
     -- ---- runs
 
-    run_done : (calls : Vec Call) → Invokes calls → EndsTask left result (of_task.Run calls) (Performs (of_task.Run calls) left.before left.behind) → Begins (of_task.Run calls) left.before left.behind → RunsNamed configuration d.defined asked.words.arguments left result
+    run_done : (calls : Vec Call) → Invokes calls → EndsTask left result (of_task.Run calls) (Performs (of_task.Run calls) left.before left.behind) → Begins (of_task.Run calls) left.before left.behind → RunsNamed source w root configuration d.defined asked.words.arguments left result
     run_done calls invokes ends begun =
         let told = run_told left result calls ends.performed ends.ended.0 ends.answers in
         named.runs _ (d.invokes (rows calls.items) invokes)
@@ -333,13 +385,13 @@ module _ (source : Given) (w : World) (stands : StandsFor source w) (clear_of_fi
         (ended_so left.exhausted calls (Performs (of_task.Run calls) left.before left.behind) (Goes left.before left.behind calls) (λ end so goes. named_run calls invokes left.before left.behind end so goes) ends.performed ends.ended))
         (named_begun calls invokes left.before left.behind begun) told.1
 
-    run_so : (task : Task) → AskedFor requested.Run (requests.Task task) → EndsTask left result task (Performs task left.before left.behind) → Begins task left.before left.behind → RunsNamed configuration d.defined asked.words.arguments left result
+    run_so : (task : Task) → AskedFor requested.Run (requests.Task task) → EndsTask left result task (Performs task left.before left.behind) → Begins task left.before left.behind → RunsNamed source w root configuration d.defined asked.words.arguments left result
     run_so (of_task.Run calls) h ends begun = run_done calls (subst (InvokesAt compilation analysis.table.value analysis.values.value.settings.items asked.words.arguments) (sym h.2) h.1) ends begun
     run_so (of_task.Evaluate target) h ends begun = absurd h.2
     run_so (of_task.Command words) h ends begun = absurd h.2
 
-    run_listed : (text : RootText) → AskedFor requested.Run (requests.Text text) → left.behind ≡ left.before → (text ≡ texts.List → IsListed left result) → RunsNamed configuration d.defined asked.words.arguments left result
-    run_listed texts.List h same listed = named.none (d.invokes [] (subst (InvokesAt compilation analysis.table.value analysis.values.value.settings.items asked.words.arguments) h.2 h.1)) same (listed refl)
+    run_listed : (text : RootText) → AskedFor requested.Run (requests.Text text) → left.behind ≡ left.before → TellsText text → RunsNamed source w root configuration d.defined asked.words.arguments left result
+    run_listed texts.List h same listed = named.none (d.invokes [] (subst (InvokesAt compilation analysis.table.value analysis.values.value.settings.items asked.words.arguments) h.2 h.1)) same (listed_so listed)
     run_listed texts.Dump h same listed = absurd h.2
     run_listed texts.Format h same listed = absurd h.2
 
@@ -352,13 +404,23 @@ module _ (source : Given) (w : World) (stands : StandsFor source w) (clear_of_fi
     plan_ran calls invokes entries performed (unwritten (inl is)) = subst (λ r. IfRan false r (Goes [] entries calls)) (sym (ap as_run is)) tt
     plan_ran calls invokes entries performed (unwritten (inr is)) = subst (λ r. IfRan false r (Goes [] entries calls)) (sym (ap as_run is)) tt
 
-    plan_so : (calls : Vec Call) → AskedFor requested.Plan (requests.Plan calls) → PlansTask left result (of_task.Run calls) (Performs (of_task.Run calls) []) (Begins (of_task.Run calls) []) → PlansNamed configuration d.defined asked.words.arguments left result
+    plan_so : (calls : Vec Call) → AskedFor requested.Plan (requests.Plan calls) → PlansTask left result (of_task.Run calls) (Performs (of_task.Run calls) []) (Begins (of_task.Run calls) []) → PlansNamed source w root configuration d.defined asked.words.arguments left result
     plan_so calls h p =
         let invokes = subst (InvokesAt compilation analysis.table.value analysis.values.value.settings.items asked.words.arguments) (sym h.2) h.1 in
-        named.plans _ (d.invokes (rows calls.items) invokes) (record { entries = p.entries; asked = p.asked; written = p.written; ran = plan_ran calls invokes p.entries p.performed p.ended; begun = named_begun calls invokes [] p.entries p.begun })
+        let ran = plan_ran calls invokes p.entries p.performed p.ended in
+        named.plans _ (d.invokes (rows calls.items) invokes) (record {
+          entries = p.entries;
+          asked = p.asked;
+          written = p.written;
+          ran = ran;
+          begun = named_begun calls invokes [] p.entries p.begun;
+          answered = p.answered;
+          told = if_ran_more false (Goes [] p.entries calls) (PlanTold configuration d.defined asked.words.arguments left result p.entries (map (named_call compilation analysis) (rows calls.items)))
+              (λ end goes. plan_told configuration d.defined asked.words.arguments left result p.entries (map (named_call compilation analysis) (rows calls.items)) end goes) (as_run result) ran;
+        })
 
-    plan_listed : (text : RootText) → AskedFor requested.Plan (requests.Text text) → left.behind ≡ left.before → (text ≡ texts.List → IsListed left result) → PlansNamed configuration d.defined asked.words.arguments left result
-    plan_listed texts.List h same listed = named.none (d.invokes [] (subst (InvokesAt compilation analysis.table.value analysis.values.value.settings.items asked.words.arguments) h.2 h.1)) same (listed refl)
+    plan_listed : (text : RootText) → AskedFor requested.Plan (requests.Text text) → left.behind ≡ left.before → TellsText text → PlansNamed source w root configuration d.defined asked.words.arguments left result
+    plan_listed texts.List h same listed = named.none (d.invokes [] (subst (InvokesAt compilation analysis.table.value analysis.values.value.settings.items asked.words.arguments) h.2 h.1)) same (listed_so listed)
     plan_listed texts.Dump h same listed = absurd h.2
     plan_listed texts.Format h same listed = absurd h.2
 
@@ -405,7 +467,7 @@ module _ (source : Given) (w : World) (stands : StandsFor source w) (clear_of_fi
 
     -- ---- whatever is asked for
 
-    goes_so : (action : Action) → GoesPlaced compilation analysis asked.config root asked.words.arguments left result action → GoesNamed configuration d.defined asked.words.arguments left result action
+    goes_so : (action : Action) → GoesPlaced compilation analysis asked.config root asked.words.arguments left result action → GoesNamed source w root configuration d.defined asked.words.arguments left result action
     goes_so requested.Run (does task h ends begun) = run_so task h ends begun
     goes_so requested.Run (plans calls h p) = absurd h.2
     goes_so requested.Run (tells text h same listed) = run_listed text h same listed
@@ -418,18 +480,22 @@ module _ (source : Given) (w : World) (stands : StandsFor source w) (clear_of_fi
     goes_so requested.Command (does task h ends begun) = command_done task h ends begun
     goes_so requested.Command (plans calls h p) = absurd h
     goes_so requested.Command (tells text h same listed) = absurd h
-    goes_so requested.Dump g = tt
-    goes_so requested.Format g = tt
+    goes_so requested.Dump (does task h ends begun) = absurd (cc h.1)
+    goes_so requested.Dump (plans calls h p) = absurd (cc h.1)
+    goes_so requested.Dump (tells text h same told) = let is : text ≡ texts.Dump = cc h.1 in told_dumped one source w compilation told_whole asked.config.os same_os root left result (subst TellsText is told)
+    goes_so requested.Format (does task h ends begun) = absurd (cc h.1)
+    goes_so requested.Format (plans calls h p) = absurd (cc h.1)
+    goes_so requested.Format (tells text h same told) = let is : text ≡ texts.Format = cc h.1 in told_answered one source w compilation told_whole asked.config.os same_os root left result (subst TellsText is told)
     goes_so requested.List (does task h ends begun) = absurd (cc h.1)
     goes_so requested.List (plans calls h p) = absurd (cc h.1)
-    goes_so requested.List (tells text h same listed) = listed (cc h.1)
+    goes_so requested.List (tells text h same told) = let is : text ≡ texts.List = cc h.1 in listed_so (subst TellsText is told)
 
-    told_words : TellsPlaced compilation analysis asked root left result → TellsWords asked root left result w d.defined
+    told_words : TellsPlaced compilation analysis asked root left result → TellsWords source asked root left result w d.defined
     told_words (broken fault is breaks) = broken fault is (d.breaks asked.action fault breaks)
     told_words (clear means other goes) = clear (d.means asked.action means) other (goes_so asked.action goes)
 
   -- where the justfile's analysis has what is defined in the world
-  pub told_defined : Defined → TellsPlaced compilation analysis asked root left result → TellsDefined asked root left result w
+  pub told_defined : Defined → TellsPlaced compilation analysis asked root left result → TellsDefined source asked root left result w
   told_defined d told = record {
     defined = d.defined;
     are = d.are;

@@ -1,5 +1,5 @@
 -- A run of the calls that words invoke, by the paths and names of their recipes.
-use Rattle.std.specs.Prelude.{◌≡◌, ◌≢◌, ◌++◌, ℕ, Bool, true, false, List, [], map, Result, Ok, Err}
+use Rattle.std.specs.Prelude.{◌≡◌, ◌≢◌, ◌++◌, ℕ, Bool, true, false, List, [], map, Option, Result, Ok, Err}
 use Rattle.just_text.specs.Tokens.{lexeme}
 use Rattle.just_host.specs.Follows.{questions}
 use Rattle.just_host.specs.Out.{IsPartOf, Sent}
@@ -25,10 +25,20 @@ use Rattle.just_meaning.specs.Runs.{Runs, call_in}
 use Rattle.just_meaning.specs.Runs as named
 use Rattle.just_meaning.specs.Certain.{IsCertainActionEnd, IsCertainFailure, IsCertainOpeningFailure}
 use Rattle.just_meaning.specs.Determined.{GoAlike, nothing}
+use Rattle.just_meaning.specs.Naively.{GoesNaively}
+use Rattle.just_meaning.specs.Planned.{WritesNaively}
+use Rattle.just_meaning.specs.Reach.{AgreeOnCalls}
+use Rattle.just_meaning.specs.Clear.{IsClear}
+use Rattle.meaning_rules.specs.Worlds.Given.{Overrides, Text, World}
+use Rattle.run_plan.specs.Answered.{AreWellAnswered}
 use Rattle.run_plan.specs.Plans.{plan_text}
 use Rattle.run_tasks.specs.declared.action.Action.{Action}
 use Rattle.run_tasks.specs.declared.action.Action.TheVariants as asked
 use Rattle.just_run.specs.Plans.{IsWrittenPlan}
+use Rattle.meaning_rules.specs.Worlds.Given.{Given, Text, World}
+use Rattle.meaning_texts.specs.Listings.{IsListing}
+use Rattle.meaning_texts.specs.Texts.{IsAnswer, IsDump}
+use Rattle.just_run.specs.Texts.{IsFormatted}
 use Rattle.just_run.specs.Writes.{Writes}
 use Rattle.just_run.specs.declared.fault.Fault.{Fault}
 use Rattle.just_run.specs.declared.fault.Fault.TheVariants as faults
@@ -143,9 +153,19 @@ as_run (Ok other) = Ok other
 as_run (Err faults.Write) = Err faults.OutOfMemory
 as_run (Err fault) = Err fault
 
--- the list of recipes was written, or a beginning of it where a write failed
-abbrev pub IsListed : Left → Result Outcome Fault → Type 0
-IsListed left result = (text : List ℕ) × Writes left.sent text outcomes.Listed result left.sends
+-- By what the files of a call say, in a world that it stands for, and the path of the root.
+module _ (source : Given) (w : World) (root : Text) (left : Left) (result : Result Outcome Fault) where
+  -- the list of what the root offers was written, or a beginning of it where a write failed
+  abbrev pub IsListed : Type 0
+  IsListed = (text : Text) × IsListing source w w.root text × Writes left.sent text outcomes.Listed result left.sends
+
+  -- so was the root's text
+  abbrev pub IsDumped : Type 0
+  IsDumped = (text : Text) × IsDump source text × Writes left.sent text outcomes.Dumped result left.sends
+
+  -- the root's path and its text are answered, or the path is refused, exactly where it can't be printed; nothing is written
+  abbrev pub IsAnswered : Type 0
+  IsAnswered = (answer : Option Text) × IsAnswer source answer × IsFormatted root answer result × (left.sends.written ≡ left.sent.written)
 
 module _ (c : Configuration) (defined : Definitions) (words : List (List ℕ)) (left : Left) (result : Result Outcome Fault) where
   -- Each run of what the words invoke that agrees with answers that this one agrees with goes alike, whatever was recorded before it.
@@ -153,17 +173,40 @@ module _ (c : Configuration) (defined : Definitions) (words : List (List ℕ)) (
   GoesAlike {old = old} {new = new} {t = t} {end = end} run = (f : Answers) → AgreesRun f c defined run → (others : List (RecipeName × List (List (List ℕ)))) → Invoke (menu_of defined) words others
       → (old' new' : List Entry) (t' : Tally) (end' : End) (other : Runs c defined (map call_in others) old' nothing new' t' end') → AgreesRun f c defined other → GoAlike old new old' new' t t' end end'
 
-  -- Modules open, and the invocations run over what was opened, with nothing done at first, from one record to another; no evaluation ends with `internal`, and each such run goes alike.
+  -- By all answers that this run agrees with it goes as they mean: it is refused before any recipe exactly where they refuse its opening, and else, where all is steady, it hands over what the naive run does.
+  abbrev pub IsMeant : {calls : List Call} {old new : List Entry} {t : Tally} {end : End} → Runs c defined calls old nothing new t end → Type 0
+  IsMeant {calls = calls} {old = old} {new = new} {end = end} run = (f : Answers) → AgreesRun f c defined run → GoesNaively f c defined calls old new end
+
+  -- What holds of each input that breaks no rule, whose words invoke the same, and which agrees on what is reached.
+  abbrev pub ForReached : List (RecipeName × List (List (List ℕ))) → (Definitions → Type 0) → Type 0
+  ForReached invocations Holds = (w : World) (o : Overrides) (base working : Text) (other : Definitions) → IsClear w o base working other → (others : List (List ℕ)) → Invoke (menu_of other) others invocations
+      → AgreeOnCalls c (map call_in invocations) defined other → Holds other
+
+  -- Each run by such an input goes as this one where both agree with one set of answers, whatever was recorded before it.
+  abbrev pub GoesAsReached : (invocations : List (RecipeName × List (List (List ℕ)))) {old new : List Entry} {t : Tally} {end : End} → Runs c defined (map call_in invocations) old nothing new t end → Type 0
+  GoesAsReached invocations {old = old} {new = new} {t = t} {end = end} run = (f : Answers) → AgreesRun f c defined run → ForReached invocations (λ other.
+      (old' new' : List Entry) (t' : Tally) (end' : End) (run' : Runs c other (map call_in invocations) old' nothing new' t' end') → AgreesRun f c other run' → GoAlike old new old' new' t t' end end')
+
+  -- This run is refused before any recipe exactly where the answers refuse such an input's opening, and else, where that input's trees are steady, it hands over what that input's naive run does.
+  abbrev pub IsMeantAsReached : (invocations : List (RecipeName × List (List (List ℕ)))) {old new : List Entry} {t : Tally} {end : End} → Runs c defined (map call_in invocations) old nothing new t end → Type 0
+  IsMeantAsReached invocations {old = old} {new = new} {end = end} run = (f : Answers) → AgreesRun f c defined run → ForReached invocations (λ other. GoesNaively f c other (map call_in invocations) old new end)
+
+  -- Modules open, and the invocations run over what was opened, with nothing done at first, from one record to another; no evaluation ends with `internal`, each such run goes alike, it goes as answers mean, and so it does by each input that agrees on what is reached.
   abbrev pub RunsBetween : List Entry → List Entry → List (RecipeName × List (List (List ℕ))) → End → Type 0
-  RunsBetween old new invocations end = IsCertainEnd end × ((t : Tally) × (run : Runs c defined (map call_in invocations) old nothing new t end) × GoesAlike run)
+  RunsBetween old new invocations end = IsCertainEnd end × ((t : Tally) × (run : Runs c defined (map call_in invocations) old nothing new t end) × GoesAlike run × IsMeant run × GoesAsReached invocations run × IsMeantAsReached invocations run)
+
+  -- By all answers that the run of a plan agrees with, the text of what it recorded is that of the naive run: of its lines, scripts and confirmations, and of none where they refuse its opening.
+  -- It is that of each input that agrees on what is reached, and the text of each plan by such an input is the same.
+  pub record PlanTold (entries : List Entry) (invocations : List (RecipeName × List (List (List ℕ)))) (end : End) : Type 0 where
+    pub t : Tally
+    pub run : Runs c defined (map call_in invocations) [] nothing entries t end
+    pub naive : (f : Answers) → AgreesRun f c defined run → WritesNaively f c defined (map call_in invocations) (plan_text entries) end
+    pub reached : (f : Answers) → AgreesRun f c defined run → ForReached invocations (λ other. WritesNaively f c other (map call_in invocations) (plan_text entries) end)
+    pub same : (f : Answers) → AgreesRun f c defined run → ForReached invocations (λ other.
+        (entries' : List Entry) (t' : Tally) (end' : End) (run' : Runs c other (map call_in invocations) [] nothing entries' t' end') → AgreesRun f c other run' → plan_text entries ≡ plan_text entries')
 
   abbrev pub RunsTo : List (RecipeName × List (List (List ℕ))) → End → Type 0
   RunsTo = RunsBetween left.before left.behind
-
-  -- The words invoke nothing, nothing was asked, and the recipes are listed; or what they invoke runs, how that ended is answered, and nothing is written. However it ended, also where memory ran out, what was recorded is the beginning of what such a run records.
-  pub data RunsNamed : Type 0 where
-    none : Invoke (menu_of defined) words [] → left.behind ≡ left.before → IsListed left result → RunsNamed
-    runs : (invocations : List (RecipeName × List (List (List ℕ)))) → Invoke (menu_of defined) words invocations → IfRan left.exhausted result (RunsTo invocations) → BeginsRun c defined (map call_in invocations) left.before nothing left.behind → left.sends.written ≡ left.sent.written → RunsNamed
 
   -- What the words invoke runs under a host of which the caller's answers the questions alone; what was recorded there, which begins what such a run records however it ended, is written, and how the run ended is answered.
   pub record PlansRun (invocations : List (RecipeName × List (List (List ℕ)))) : Type 0 where
@@ -172,11 +215,9 @@ module _ (c : Configuration) (defined : Definitions) (words : List (List ℕ)) (
     pub written : IsWrittenPlan left.sent.written (plan_text entries) result left.sends.written
     pub ran : IfRan false (as_run result) (RunsBetween [] entries invocations)
     pub begun : BeginsRun c defined (map call_in invocations) [] nothing entries
-
-  -- the words invoke nothing, nothing was asked, and the recipes are listed; or the run of what they invoke is planned
-  pub data PlansNamed : Type 0 where
-    none : Invoke (menu_of defined) words [] → left.behind ≡ left.before → IsListed left result → PlansNamed
-    plans : (invocations : List (RecipeName × List (List (List ℕ)))) → Invoke (menu_of defined) words invocations → PlansRun invocations → PlansNamed
+    -- each command and script was answered by code 0, and each prompt by yes
+    pub answered : AreWellAnswered entries
+    pub told : IfRan false (as_run result) (PlanTold entries invocations)
 
   -- values are told, and no evaluation ends with `internal`
   abbrev pub ValuesTo : ActionEnd → Type 0
@@ -186,12 +227,23 @@ module _ (c : Configuration) (defined : Definitions) (words : List (List ℕ)) (
   abbrev pub CommandTo : ActionEnd → Type 0
   CommandTo end = IsCertainActionEnd end × CommandGoes c defined words left.before left.behind end
 
-  -- What an action does that goes by what is defined; what a text of the root says is not said here. However values and the command ended, what was recorded is the beginning of what they record.
+module _ (source : Given) (w : World) (root : Text) (c : Configuration) (defined : Definitions) (words : List (List ℕ)) (left : Left) (result : Result Outcome Fault) where
+  -- The words invoke nothing, nothing was asked, and the recipes are listed; or what they invoke runs, how that ended is answered, and nothing is written. However it ended, also where memory ran out, what was recorded is the beginning of what such a run records.
+  pub data RunsNamed : Type 0 where
+    none : Invoke (menu_of defined) words [] → left.behind ≡ left.before → IsListed source w root left result → RunsNamed
+    runs : (invocations : List (RecipeName × List (List (List ℕ)))) → Invoke (menu_of defined) words invocations → IfRan left.exhausted result (RunsTo c defined words left result invocations) → BeginsRun c defined (map call_in invocations) left.before nothing left.behind → left.sends.written ≡ left.sent.written → RunsNamed
+
+  -- the words invoke nothing, nothing was asked, and the recipes are listed; or the run of what they invoke is planned
+  pub data PlansNamed : Type 0 where
+    none : Invoke (menu_of defined) words [] → left.behind ≡ left.before → IsListed source w root left result → PlansNamed
+    plans : (invocations : List (RecipeName × List (List (List ℕ)))) → Invoke (menu_of defined) words invocations → PlansRun c defined words left result invocations → PlansNamed
+
+  -- What an action does that goes by what is defined; texts of the root are those that the files say. However values and the command ended, what was recorded is the beginning of what they record.
   abbrev pub GoesNamed : Action → Type 0
   GoesNamed asked.Run = RunsNamed
   GoesNamed asked.Plan = PlansNamed
-  GoesNamed asked.Evaluate = IfTold left result ValuesTo × BeginsEvaluate c defined left.before left.behind
-  GoesNamed asked.Command = IfCommanded left.exhausted result CommandTo × BeginsCommand c defined words left.before left.behind
-  GoesNamed asked.Dump = Unit {0}
-  GoesNamed asked.Format = Unit {0}
-  GoesNamed asked.List = IsListed left result
+  GoesNamed asked.Evaluate = IfTold left result (ValuesTo c defined words left result) × BeginsEvaluate c defined left.before left.behind
+  GoesNamed asked.Command = IfCommanded left.exhausted result (CommandTo c defined words left result) × BeginsCommand c defined words left.before left.behind
+  GoesNamed asked.Dump = IsDumped source w root left result
+  GoesNamed asked.Format = IsAnswered source w root left result
+  GoesNamed asked.List = IsListed source w root left result

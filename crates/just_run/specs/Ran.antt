@@ -8,6 +8,7 @@ use Rattle.just_host.specs.declared.entry.Entry.{Entry}
 use Rattle.modules_compilation.specs.declared.compilation.Compilation.{Compilation}
 use Rattle.resolve_analysis.specs.declared.analysis.Analysis.{Analysis}
 use Rattle.analyze_calls.specs.declared.call.Call.{Call}
+use Rattle.run_plan.specs.Answered.{AreWellAnswered}
 use Rattle.run_plan.specs.Plans.{plan_text}
 use Rattle.run_tasks.specs.Performed.{IfPerformed, TaskEnd}
 use Rattle.run_tasks.specs.declared.fault.TaskFault.{TaskFault}
@@ -21,10 +22,10 @@ use Rattle.run_tasks.specs.Requested.Asked.{IsAskedFor}
 use Rattle.run_tasks.specs.declared.action.Action.{Action}
 use Rattle.run_tasks.specs.declared.request.Request.TheVariants as requests
 use Rattle.run_tasks.specs.declared.request.RootText.{RootText}
-use Rattle.run_tasks.specs.declared.request.RootText.TheVariants as texts
-use Rattle.just_run.specs.Named.{IsListed, Left}
+use Rattle.just_run.specs.Named.{Left}
 use Rattle.just_run.specs.Passed.{task_fault}
 use Rattle.just_run.specs.Plans.{IsWrittenPlan}
+use Rattle.just_run.specs.Texts.{TellsRoot}
 use Rattle.just_run.specs.Writes.{Writes}
 use Rattle.just_run.specs.declared.fault.Fault.{Fault}
 use Rattle.just_run.specs.declared.fault.Fault.TheVariants as faults
@@ -65,10 +66,11 @@ pub record PlansTask (left : Left) (result : Result Outcome Fault) (task : Task)
   pub performed : Result Performed TaskFault
   pub ended : PlanEnds result task performed (Performs entries)
   pub begun : Begins entries
+  pub answered : AreWellAnswered entries
 
 module _ (compilation : Compilation) (analysis : Analysis) (config : Config) (root : List ℕ) (words : List (List ℕ)) (left : Left) (result : Result Outcome Fault) where
   -- what the action and the words ask for was done: a task, a plan, or a text of the root module; however a task ended, what was recorded is its beginning
   pub data GoesPlaced (action : Action) : Type 0 where
     does : (task : Task) → IsAskedFor compilation analysis words action (requests.Task task) → EndsTask left result task (PerformsTask compilation analysis config root task left.before left.behind) → BeginsTask compilation analysis config root task left.before left.behind → GoesPlaced action
     plans : (calls : Vec Call) → IsAskedFor compilation analysis words action (requests.Plan calls) → PlansTask left result (tasks.Run calls) (PerformsTask compilation analysis config root (tasks.Run calls) []) (BeginsTask compilation analysis config root (tasks.Run calls) []) → GoesPlaced action
-    tells : (text : RootText) → IsAskedFor compilation analysis words action (requests.Text text) → left.behind ≡ left.before → (text ≡ texts.List → IsListed left result) → GoesPlaced action
+    tells : (text : RootText) → IsAskedFor compilation analysis words action (requests.Text text) → left.behind ≡ left.before → TellsRoot compilation config.os root text left.sent result left.sends → GoesPlaced action

@@ -14,6 +14,7 @@ use Rattle.just_run.specs.Root.{Inputs, IsUnread}
 use Rattle.just_run.specs.declared.root.RootFault.{RootFault}
 use Rattle.meaning_rules.specs.Worlds.Given.{Given, Text, World}
 use Rattle.meaning_rules.specs.Worlds.Standing.{StandsFor}
+use Rattle.meaning_rules.specs.Worlds.Inhabited.{HasWorld}
 use Rattle.just_modules.specs.Worlds.{BreaksNone, BreaksTold}
 use Rattle.meaning_rules.specs.Overrides.{overrides_of}
 use Rattle.just_resolve.specs.Rules as names
@@ -38,12 +39,12 @@ pub record Asked : Type 0 where
 abbrev pub asked_of : Action → Positional → Config → Asked
 asked_of action words config = record { action = action; words = words; config = config }
 
-module _ (asked : Asked) (root : Text) (left : Left) (result : Result Outcome Fault) where
+module _ (source : Given) (asked : Asked) (root : Text) (left : Left) (result : Result Outcome Fault) where
   -- the words break a rule of what is asked for that the fault names, unless memory ran out; or they break none, a fault is of no rule, and what is asked for is done by what is defined
   pub data TellsWords (w : World) (defined : Definitions) : Type 0 where
     broken : (fault : WordFault) → result ≡ Err (word_fault fault) → BreaksNamed defined asked.words.arguments asked.action fault → TellsWords w defined
     clear : MeansNamed defined asked.words.arguments asked.action → IfErr result IsOfNoRule
-        → GoesNamed (configuration_of asked.config root w.expansion) defined asked.words.arguments left result asked.action → TellsWords w defined
+        → GoesNamed source w root (configuration_of asked.config root w.expansion) defined asked.words.arguments left result asked.action → TellsWords w defined
 
   -- so it is by what the world defines, which is one, whose files are read and whose modules have rows
   pub record TellsDefined (w : World) : Type 0 where
@@ -64,10 +65,10 @@ module _ (asked : Asked) (root : Text) (left : Left) (result : Result Outcome Fa
     broken : (error : Error) → result ≡ Err (file_fault error) → BreaksTold error w → TellsSources w
     clear : BreaksNone w → TellsNames w → TellsSources w
 
--- The root file can't be read, and the fault names why; or it is read, and so it is in each world that the sources stand for.
+-- The root file can't be read, and the fault names why; or it is read: the sources stand for a world, and so it is in each that they stand for.
 pub data AnswersSources (given : Text → Given) (i : Inputs) (asked : Asked) (left : Left) (result : Result Outcome Fault) : Type 0 where
   unread : (fault : RootFault) → result ≡ Err (root_fault fault) → IsUnread i fault → AnswersSources given i asked left result
-  read : (path : List ℕ) → i.root ≡ Some path → ((w : World) → StandsFor (given path) w → TellsSources asked path left result w) → AnswersSources given i asked left result
+  read : (path : List ℕ) → i.root ≡ Some path → HasWorld (given path) → ((w : World) → StandsFor (given path) w → TellsSources (given path) asked path left result w) → AnswersSources given i asked left result
 
 -- ---- by places
 

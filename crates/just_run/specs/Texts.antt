@@ -16,6 +16,11 @@ use Rattle.modules_compilation.specs.declared.module_node.File.{File}
 use Rattle.modules_compilation.specs.declared.module_node.ModuleNode.{ModuleNode}
 use Rattle.run_tasks.specs.declared.task.Performed.{Performed}
 use Rattle.run_tasks.specs.declared.task.Performed.TheVariants.{Ran, Evaluated}
+use Rattle.just_host.specs.Out.{Sent}
+use Rattle.justfile_analyzer.specs.Listings.{listing}
+use Rattle.run_tasks.specs.declared.request.RootText.{RootText}
+use Rattle.run_tasks.specs.declared.request.RootText.TheVariants as texts
+use Rattle.just_run.specs.Writes.{Writes}
 use Rattle.just_run.specs.declared.fault.Fault.{Fault}
 use Rattle.just_run.specs.declared.fault.Fault.TheVariants.{OutOfMemory, NotPrintable}
 use Rattle.just_run.specs.declared.outcome.Outcome.{Outcome}
@@ -72,3 +77,9 @@ IsReadAgain (Some file) (Ok (outcomes.Formatted path text)) =
     (expansion : Expansion) (version : Version) (source : List ℕ) → IsUtf8 source → Reads expansion version source (item_shapes file.ast.items.items)
     → Reads expansion version text (normal (item_shapes file.ast.items.items))
 IsReadAgain file result = Unit {0}
+
+-- what is written or answered of a text of the root, by places
+abbrev pub TellsRoot : Compilation → Os → List ℕ → RootText → Sent → Result Outcome Fault → Sent → Type 0
+TellsRoot compilation os root texts.List sent result sends = Writes sent (listing compilation 0) outcomes.Listed result sends
+TellsRoot compilation os root texts.Dump sent result sends = Writes sent (dumped_text os (root_file compilation)) outcomes.Dumped result sends
+TellsRoot compilation os root texts.Format sent result sends = IsFormatted root (answered_text os (root_file compilation)) result × (sends.written ≡ sent.written)

@@ -7,6 +7,7 @@ ghost use Rattle.just_value.specs.Constants.{constant_rows};
 ghost use Rattle.just_modules.specs.Worlds.{BreaksNone, InEachWorld};
 ghost use Rattle.just_resolve.specs.Rules.{IsResolvable};
 ghost use Rattle.laws_modules.specs.Names.Meant.{IsMeantWhole};
+ghost use Rattle.meaning_rules.specs.Worlds.Matching.{MatchSources};
 ghost use Rattle.meaning_rules.specs.Worlds.Given.{Given, World};
 ghost use Rattle.meaning_rules.specs.Worlds.Standing.{StandsFor};
 ghost use Rattle.resolve_recipes.specs.Named.{AllByName};
@@ -40,6 +41,8 @@ use just_resolve::{Analysis, Analyzer, number_variables};
 use just_value::Positional;
 use justfile_syntax::Expander;
 use justfile_syntax::file_law::file_law;
+use laws_printing::law::formatted::formatted_texts_say_the_same;
+use laws_reading::law::worlds::worlds_are_given;
 use run_tasks::{Action, Request, Task, perform_task, request_of};
 use std::alloc::Global;
 use std::collections::BTreeMap;
@@ -157,8 +160,9 @@ fn drive_modules<'src, H: RunHost + Drop, O: Out>(
     ensures early { IfErr result (λ fault. IsEarly fault host.old (O.written out.old) host.new (O.written out.new)) }
     ensures silent { IsText action → host.new ≡ host.old }
     ensures asks { AsksFor action config.now.dry_run H.goes host.old host.new }
-    ensures names { (source : Given) (w : World) → StandsFor source w → BreaksNone w → IsResolvable w compilation.now → TellsNames (asked_of action words.now config.now) root.now (left_of host.old (O.written out.old) (O.failed out.old) host.new (O.written out.new) (O.failed out.new)) result w }
+    ensures names { (source : Given) (w : World) → StandsFor source w → source.os ≡ config.now.os → BreaksNone w → IsResolvable w compilation.now → MatchSources source compilation.now → TellsNames source (asked_of action words.now config.now) root.now (left_of host.old (O.written out.old) (O.failed out.old) host.new (O.written out.new) (O.failed out.new)) result w }
 {
+    file_law();
     let overrides = words.overrides.as_slice();
     match Analyzer::analyze(alloc, compilation, config, overrides) {
         Ok(analysis) => {
@@ -198,7 +202,7 @@ fn drive_compilation<'src, H: RunHost + Drop, O: Out>(
     ensures early { IfErr result (λ fault. IsEarly fault host.old (O.written out.old) host.new (O.written out.new)) }
     ensures silent { IsText action → host.new ≡ host.old }
     ensures asks { AsksFor action config.now.dry_run H.goes host.old host.new }
-    ensures names { AllByName compilation.entry → (source : Given) (w : World) → StandsFor source w → BreaksNone w → IsMeantWhole w compilation.entry → TellsNames (asked_of action words.now config.now) root.now (left_of host.old (O.written out.old) (O.failed out.old) host.new (O.written out.new) (O.failed out.new)) result w }
+    ensures names { AllByName compilation.entry → (source : Given) (w : World) → StandsFor source w → source.os ≡ config.now.os → BreaksNone w → IsMeantWhole w compilation.entry → MatchSources source compilation.entry → TellsNames source (asked_of action words.now config.now) root.now (left_of host.old (O.written out.old) (O.failed out.old) host.new (O.written out.new) (O.failed out.new)) result w }
 {
     match number_variables(alloc, &mut compilation) {
         Ok(()) => {
@@ -240,7 +244,7 @@ fn drive_files<'src, E: Expander, H: RunHost + Drop, O: Out>(
     ensures early { IfErr result (λ fault. IsEarly fault host.old (O.written out.old) host.new (O.written out.new)) }
     ensures silent { IsText action → host.new ≡ host.old }
     ensures asks { AsksFor action config.now.dry_run H.goes host.old host.new }
-    ensures sources { (start : Numbers) → length constant_rows ≤ start.bindings → IsRootRead sources.now (E.expansion expander.now) config.now.version start path.now parsed.entry → InEachWorld config.now.os config.now.unstable sources.now (E.expansion expander.now) config.now.version path.now (TellsSources (asked_of action words.now config.now) path.now (left_of host.old (O.written out.old) (O.failed out.old) host.new (O.written out.new) (O.failed out.new)) result) }
+    ensures sources { (start : Numbers) → length constant_rows ≤ start.bindings → IsRootRead sources.now (E.expansion expander.now) config.now.version start path.now parsed.entry → InEachWorld config.now.os config.now.unstable sources.now (E.expansion expander.now) config.now.version path.now (TellsSources (given_of sources.now config.now.os config.now.unstable (E.expansion expander.now) config.now.version path.now) (asked_of action words.now config.now) path.now (left_of host.old (O.written out.old) (O.failed out.old) host.new (O.written out.new) (O.failed out.new)) result) }
 {
     match Compiler::compile_parsed(alloc, config, expander, sources, path, parsed) {
         Ok(compilation) => drive_compilation(
@@ -273,7 +277,7 @@ fn drive_words<'src, E: Expander, H: RunHost + Drop, O: Out>(
 ) -> Result<Outcome, Fault<'src>>
     // Whatever is asked for: a fault that is none of a run or of the output names a rule that is broken; then nothing was asked, handed over or written.
     ensures early { IfErr result (λ fault. IsEarly fault host.old (O.written out.old) host.new (O.written out.new)) }
-    // The call is refused by a rule of files, modules, definitions, names or words exactly where one is broken, and else what is done goes by what is defined by name.
+    // The sources stand for a world. The call is refused by a rule of files, modules, definitions, names or words exactly where one is broken in it, and else what is done goes by what is defined by name.
     ensures sources { AnswersSources (given_of sources.now config.now.os config.now.unstable (E.expansion expander.now) config.now.version) (inputs_of (reader_of (E.expansion expander.now) config.now.version) sources.now roots.now words.now) (asked_of action (inputs_of (reader_of (E.expansion expander.now) config.now.version) sources.now roots.now words.now).words config.now) (left_of host.old (O.written out.old) (O.failed out.old) host.new (O.written out.new) (O.failed out.new)) result }
     // Where the text of the root file or the list of recipes is asked for, nothing is asked and nothing handed over.
     ensures silent { IsText action → host.new ≡ host.old }
@@ -286,6 +290,8 @@ fn drive_words<'src, E: Expander, H: RunHost + Drop, O: Out>(
     // Whatever is asked for: the record has grown by just what was asked, by entries that the action may add alone, and the host went along by it.
     ensures asked { (kinds : Entry → Bool) → MayAdd action config.now.dry_run kinds → IsAsked (Only kinds H.goes) host.old host.new }
 {
+    file_law();
+    worlds_are_given();
     let words = Positional::from_values(alloc, words)?;
     let root = read_root(alloc, &words, sources, roots, expander, &config.version)?;
     let Root { path, parsed } = root;
@@ -326,6 +332,7 @@ pub fn drive<'src, E: Expander, H: RunHost + Drop, O: Out>(
     ensures formatted { InEachFormatted (E.expansion expander.now) config.now.version sources.now (λ other. Drives H.goes (inputs_of (reader_of (E.expansion expander.now) config.now.version) other roots.now words.now) (given_of other config.now.os config.now.unstable (E.expansion expander.now) config.now.version) config.now action (record { host = host.old; written = O.written out.old; failed = O.failed out.old }) result (record { host = host.new; written = O.written out.new; failed = O.failed out.new })) }
 {
     file_law();
+    formatted_texts_say_the_same();
     drive_words(
         alloc,
         config,
@@ -362,6 +369,7 @@ pub fn drive_and_leak<'src, E: Expander, H: RunHost + Drop, O: Out>(
     ensures formatted { InEachFormatted (E.expansion expander.now) config.now.version sources.now (λ other. Drives H.goes (inputs_of (reader_of (E.expansion expander.now) config.now.version) other roots.now words.now) (given_of other config.now.os config.now.unstable (E.expansion expander.now) config.now.version) config.now action (record { host = host.old; written = O.written out.old; failed = O.failed out.old }) result (record { host = host.new; written = O.written out.new; failed = O.failed out.new })) }
 {
     file_law();
+    formatted_texts_say_the_same();
     drive_words(
         alloc,
         config,

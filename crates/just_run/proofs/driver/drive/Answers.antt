@@ -14,4 +14,4 @@ returns-clause-drives g c = record {
 
 pub returns-clause-formatted : goal.returns-clause-formatted
 returns-clause-formatted g c = λ other formats.
-    formatted_drives c.file_law.ensures.texts c.file_law.ensures.faults (g.E.Expander.expansion c.args.expander.now) c.args.sources.now other c.args.roots.now c.args.words.now c.args.config.now formats g.H.Host.goes c.args.action _ c.drive_words.result _ (returns-clause-drives g c)
+    formatted_drives c.file_law.ensures.texts c.file_law.ensures.faults c.formatted_texts_say_the_same.ensures.prints (g.E.Expander.expansion c.args.expander.now) c.args.sources.now other c.args.roots.now c.args.words.now c.args.config.now formats g.H.Host.goes c.args.action _ c.drive_words.result _ (returns-clause-drives g c)

@@ -9,6 +9,7 @@ use Rattle.just_run.proofs.Early.{late_are_unruled, planned_is_unruled}
 use Rattle.run_tasks.specs.declared.request.Request.TheVariants as requests
 use Rattle.just_run.proofs.Added.{for_task, questions_asked}
 use Rattle.just_run.specs.Ran.{does, plans, tells}
+use Rattle.just_run.proofs.RootTexts.{told_by}
 use Rattle.just_run.proofs.driver.drive_analysis.Goals as goal
 
 pub returns-in-Task-clause-asks : goal.returns-in-Task-clause-asks
@@ -45,4 +46,6 @@ returns-in-Text-clause-words g c = λ same all.
     let asked = (subst (λ words. IsAskedFor c.args.compilation.now c.args.analysis.now words c.args.action c.in_ok-request.request) c.as_slice-words.ensures (c.in_ok-request.ensures.meant same all)) in
     clear (asked_means c.args.compilation.now c.args.analysis.now c.args.words.now.arguments c.args.action c.in_ok-request.request asked)
     c.tell.ensures.unruled
-    (tells c.in-Text.text (subst (IsAskedFor c.args.compilation.now c.args.analysis.now c.args.words.now.arguments c.args.action) c.in-Text.is asked) refl (λ list. (_, c.tell.ensures.listed list)))
+    (tells c.in-Text.text (subst (IsAskedFor c.args.compilation.now c.args.analysis.now c.args.words.now.arguments c.args.action) c.in-Text.is asked) refl
+    (told_by c.args.compilation.now c.args.config.now.os c.args.root.now c.in-Text.text (record { written = g.O.Out.written c.args.out.now; failed = g.O.Out.failed c.args.out.now }) c.tell.result (record { written = g.O.Out.written c.tell.new.out; failed = g.O.Out.failed c.tell.new.out })
+    c.tell.ensures.listed c.tell.ensures.dumped (λ format. (c.tell.ensures.formatted format, c.tell.ensures.unwritten format))))

@@ -10,7 +10,7 @@ use Rattle.just_run.proofs.plan.drive_plan.Goals as goal
 
 pub returns-clause-planned : goal.returns-clause-planned
 returns-clause-planned g c =
-    let run = every_run _ c.new-planned.result c.perform_task-performed.new.host c.args.config.now.dry_run c.args.calls (λ a. (refl, idle g.H.Host.goes g.met.H.Host.nothing a.caller.now)) c.perform_task-performed.ensures.asks in
+    let run = every_run _ c.new-planned.result c.perform_task-performed.new.host c.args.config.now.dry_run c.args.calls (λ a. (refl, idle g.H.Host.goes g.met.H.Host.nothing a.caller.now, tt)) c.perform_task-performed.ensures.asks in
     let step = run.followed in
     let begun = ap (λ r. r.host.caller.now) c.new-planned.ensures in
     let named = step.host.went.0 ∙ ap (λ r. r.host.caller.ghost_name) c.new-planned.ensures in
@@ -27,7 +27,7 @@ returns-clause-unfailed g c = c.write_plan.ensures.unfailed c.ended.ensures.end
 
 pub returns-clause-ends : goal.returns-clause-ends
 returns-clause-ends g c =
-    let run = every_run _ c.new-planned.result c.perform_task-performed.new.host c.args.config.now.dry_run c.args.calls (λ a. (refl, idle g.H.Host.goes g.met.H.Host.nothing a.caller.now)) c.perform_task-performed.ensures.asks in
+    let run = every_run _ c.new-planned.result c.perform_task-performed.new.host c.args.config.now.dry_run c.args.calls (λ a. (refl, idle g.H.Host.goes g.met.H.Host.nothing a.caller.now, tt)) c.perform_task-performed.ensures.asks in
     let step = run.followed in
     let begun = ap (λ r. r.host.caller.now) c.new-planned.ensures in
     let named = step.host.went.0 ∙ ap (λ r. r.host.caller.ghost_name) c.new-planned.ensures in
@@ -43,4 +43,5 @@ returns-clause-ends g c =
       ended = plan_ends c.text_of-text.result c.ended.result c.write_plan.result (tasks.Run c.args.calls) c.perform_task-performed.result c.perform_task-performed.new.host.exhausted _ c.ended.ensures.told (sufficed_where c.text_of-text.result c.text_of-text.ensures.sufficed) c.write_plan.ensures.sent
           (from_nothing c.args.compilation.now c.args.analysis.now c.args.config.now c.args.root.now (tasks.Run c.args.calls) c.perform_task-performed.new.host.exhausted c.perform_task-performed.result _ _ step.part start grown c.perform_task-performed.ensures.performs);
       begun = begun_from_nothing c.args.compilation.now c.args.analysis.now c.args.config.now c.args.root.now (tasks.Run c.args.calls) _ _ step.part start grown c.perform_task-performed.ensures.begun;
+      answered = step.host.went.2;
     }
