@@ -304,6 +304,68 @@ all_put {meant} before after met rest wanted none so =
     let all : met ≡ wanted.keys = sym (append-nil met) ∙ ap (λ ks. met ++ ks) (sym none) ∙ so.names in
     gains_same before after (λ name. ap (λ ks. cond (is_before ks name) (meant name) None) all) so.gains
 
+-- ---- names of recipes so far
+
+-- one of these places has the name
+abbrev pub is_kept : Compilation → List Place → List ℕ → Bool
+is_kept compilation places name = list_any (λ place. bytes_eq (text_at compilation place) name) places
+
+-- what the names of these places mean that are wanted
+abbrev pub kept_meant : Compilation → BTreeSet (Bor (List ℕ)) → List Place → (List ℕ → Option Meaning) → List ℕ → Option Meaning
+kept_meant compilation wanted places meant name = cond (has_name wanted name) (cond (is_kept compilation places name) (meant name) None) None
+
+put_row : (wanted here before : Bool) (m : Option Meaning) → (here ≡ true → wanted ≡ true) → option_or (cond here m None) (cond wanted (cond before m None) None) ≡ cond wanted (cond (before || (here || false)) m None) None
+put_row true here before m all = one_or_more here before m
+put_row false true before m all = let e : false ≡ true = all refl in absurd (cc e)
+put_row false false before m all = refl
+
+left_row : (wanted here before : Bool) (m : Option Meaning) → (here ≡ true → wanted ≡ false) → cond wanted (cond before m None) None ≡ cond wanted (cond (before || (here || false)) m None) None
+left_row true true before m none = let e : true ≡ false = none refl in absurd (cc e)
+left_row true false true m none = refl
+left_row true false false m none = refl
+left_row false here before m none = refl
+
+module _ (compilation : Compilation) (wanted : BTreeSet (Bor (List ℕ))) (places : List Place) (i : ℕ) (d : Place) (key : List ℕ) (lt : i < length places) (reads : key ≡ text_at compilation (get_or places i d)) where
+  has_it : (name : List ℕ) → bytes_eq (text_at compilation (get_or places i d)) name ≡ true → has_name wanted name ≡ has_name wanted key
+  has_it name same = ap (has_name wanted) (sym (reads ∙ same_text (text_at compilation (get_or places i d)) name same))
+
+  one_more : (name : List ℕ) → (is_kept compilation (take i places) name || (bytes_eq (text_at compilation (get_or places i d)) name || false)) ≡ is_kept compilation (take (i + 1) places) name
+  one_more name = sym (ap (λ row. is_kept compilation row name) (take_more places i d lt) ∙ list_any-append (λ place. bytes_eq (text_at compilation place) name) (take i places) (get_or places i d ∷ []))
+
+  -- a name more that is wanted
+  pub kept_put : (meant : List ℕ → Option Meaning) (before between after : Menu) → has_name wanted key ≡ true
+      → Gains (kept_meant compilation wanted (take i places) meant) before between → Gains (λ name. cond (bytes_eq name key) (meant name) None) between after
+      → Gains (kept_meant compilation wanted (take (i + 1) places) meant) before after
+  kept_put meant before between after here so gained = gains_then before between after (λ name.
+      ap (λ b. option_or (cond b (meant name) None) (kept_meant compilation wanted (take i places) meant name)) (text_turned name key ∙ ap (λ t. bytes_eq t name) reads)
+      ∙ put_row (has_name wanted name) (bytes_eq (text_at compilation (get_or places i d)) name) (is_kept compilation (take i places) name) (meant name) (λ same. has_it name same ∙ here)
+      ∙ ap (λ b. cond (has_name wanted name) (cond b (meant name) None) None) (one_more name))
+      so gained
+
+  -- and one that isn't
+  pub kept_left : (meant : List ℕ → Option Meaning) (before after : Menu) → has_name wanted key ≡ false → Gains (kept_meant compilation wanted (take i places) meant) before after → Gains (kept_meant compilation wanted (take (i + 1) places) meant) before after
+  kept_left meant before after here so = gains_same before after (λ name.
+      left_row (has_name wanted name) (bytes_eq (text_at compilation (get_or places i d)) name) (is_kept compilation (take i places) name) (meant name) (λ same. has_it name same ∙ here)
+      ∙ ap (λ b. cond (has_name wanted name) (cond b (meant name) None) None) (one_more name))
+      so
+
+found_case : {X : Type 0} (f : Option X → Option Meaning) (here there : Bool) (x : X) (rest : Option X) → cond there (f rest) None ≡ f rest → cond (here || there) (f (cond here (Some x) rest)) None ≡ f (cond here (Some x) rest)
+found_case f true there x rest e = refl
+found_case f false there x rest e = e
+
+-- what a test finds passes it
+found_there : {X : Type 0} (test : X → Bool) (f : Option X → Option Meaning) (xs : List X) → f None ≡ None → cond (list_any test xs) (f (find test xs)) None ≡ f (find test xs)
+found_there test f [] none = sym none
+found_there test f (x ∷ xs) none = found_case f (test x) (list_any test xs) x (find test xs) (found_there test f xs none)
+
+-- a module keeps recipes under the names alone that they have
+pub kept_all : (compilation : Compilation) (table : RecipeTable) (wanted : BTreeSet (Bor (List ℕ))) (node : ModuleNode) (i : ℕ) (before after : Menu) → length node.recipes.items ≤ i
+    → Gains (kept_meant compilation wanted (take i node.recipes.items) (recipe_meant compilation table node)) before after → Gains (λ name. cond (has_name wanted name) (recipe_meant compilation table node name) None) before after
+kept_all compilation table wanted node i before after le so = gains_same before after (λ name.
+    ap (λ places. kept_meant compilation wanted places (recipe_meant compilation table node) name) (take_all i node.recipes.items le)
+    ∙ ap (λ m. cond (has_name wanted name) m None) (found_there (λ place. bytes_eq (text_at compilation place) name) (λ p. option_map Recipe (option_and_then (rank_at table) p)) node.recipes.items refl))
+    so
+
 -- ---- a module's menu
 
 or_none : (a : Option Meaning) → option_or a None ≡ a

@@ -198,8 +198,9 @@ fn put_named<'a, 'src>(
     }
 }
 
-/// Puts the recipes on the menu that the module keeps under the names that are wanted.
-fn put_recipes<'a, 'src>(
+/// Puts the recipes on the menu that the module keeps under the names that are wanted, going over
+/// these names.
+fn put_wanted<'a, 'src>(
     compilation: &'a Compilation<'src>,
     table: &RecipeTable,
     wanted: &BTreeSet<&str>,
@@ -212,6 +213,43 @@ fn put_recipes<'a, 'src>(
         put_named(compilation, table, menu, node, name)?;
     }
     Ok(())
+}
+
+/// Puts the recipes on the menu that the module keeps under the names that are wanted, going over
+/// the module's recipes.
+fn put_kept<'a, 'src>(
+    compilation: &'a Compilation<'src>,
+    table: &RecipeTable,
+    wanted: &BTreeSet<&str>,
+    menu: &mut Menu<'a>,
+    node: &ModuleNode<'src>,
+) -> Result<(), AllocError>
+    ensures { OnOk result (IsByName compilation.now node.now → Gains (λ name. cond (spec.has_name wanted.now name) (spec.recipe_meant compilation.now table.now node.now name) None) menu.old menu.new) }
+{
+    for place in node.recipes.as_slice() {
+        let name = name_text(compilation, *place);
+        if wanted.contains(name) {
+            put_named(compilation, table, menu, node, name)?;
+        }
+    }
+    Ok(())
+}
+
+/// Puts the recipes on the menu that the module keeps under the names that are wanted: looks up the
+/// names, or the module's recipes among them where these are fewer.
+fn put_recipes<'a, 'src>(
+    compilation: &'a Compilation<'src>,
+    table: &RecipeTable,
+    wanted: &BTreeSet<&str>,
+    menu: &mut Menu<'a>,
+    node: &ModuleNode<'src>,
+) -> Result<(), AllocError>
+    ensures { OnOk result (IsByName compilation.now node.now → Gains (λ name. cond (spec.has_name wanted.now name) (spec.recipe_meant compilation.now table.now node.now name) None) menu.old menu.new) }
+{
+    if node.recipes.len() < wanted.len() {
+        return put_kept(compilation, table, wanted, menu, node);
+    }
+    put_wanted(compilation, table, wanted, menu, node)
 }
 
 /// Puts the alias on the menu where its name is wanted.

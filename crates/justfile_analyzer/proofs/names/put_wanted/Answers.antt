@@ -1,7 +1,7 @@
 -- A name more.
 use Rattle.std.proofs.Common.{map}
 use Rattle.justfile_analyzer.proofs.MenuRows.{all_put, none_put, one_put}
-use Rattle.justfile_analyzer.proofs.names.put_recipes.Goals as goal
+use Rattle.justfile_analyzer.proofs.names.put_wanted.Goals as goal
 
 pub loop-name-init : goal.loop-name-init
 loop-name-init c = λ by_name. none_put c.args.menu.now _ c.args.wanted.now.keys c.into_iter-name-iterator.ensures.into_iter_gives.0
