@@ -41,9 +41,14 @@ same_enabled os set =
 abbrev said_by : Expansion → List ℕ → Setting → Option (List ℕ)
 said_by expansion name value = if bytes_eq name (codes "indentation") then string_said expansion (value_shape value) else None
 
+-- a choice between one and the same
+either_way : (b : Bool) (said : Option (List ℕ)) → said ≡ (if b then said else said)
+either_way true said = refl
+either_way false said = refl
+
 -- the text of a setting of the indentation is what its string stands for
 setting_said : (expansion : Expansion) (value : Setting) → HasIndentationText expansion value → indentation_text value ≡ said_by expansion (setting_name value) value
-setting_said expansion (Truth which value) cooked = refl
+setting_said expansion (Truth which value) cooked = either_way (bytes_eq (setting_name (Truth which value)) (codes "indentation")) None
 setting_said expansion (DotenvCommand value) cooked = refl
 setting_said expansion (DotenvFilename value) cooked = refl
 setting_said expansion (DotenvPath value) cooked = refl
