@@ -39,5 +39,5 @@ returns-in_err-root-clause-sources g c =
 
 pub returns-clause-sources : goal.returns-clause-sources
 returns-clause-sources g c = rw (sym c.in_ok-words.ensures)
-    (told_of_root (c.worlds_are_given.ensures c.file_law.ensures.files) c.args.sources.now c.args.roots.now c.in_ok-words.words (g.E.Expander.expansion c.args.expander.now) c.args.config.now.version c.args.config.now.os c.args.config.now.unstable (asked_of c.args.action c.in_ok-words.words c.args.config.now) c.in_ok-root.root.path.now c.in_ok-root.root.parsed
+    (told_of_root c.args.sources.now c.args.roots.now c.in_ok-words.words (g.E.Expander.expansion c.args.expander.now) c.args.config.now.version (c.worlds_are_given.ensures c.file_law.ensures.files) c.args.config.now.os c.args.config.now.unstable (asked_of c.args.action c.in_ok-words.words c.args.config.now) c.in_ok-root.root.path.now c.in_ok-root.root.parsed
     (left_of c.args.host.now (g.O.Out.written c.args.out.now) (g.O.Out.failed c.args.out.now) c.drive_files.new.host (g.O.Out.written c.drive_files.new.out) (g.O.Out.failed c.drive_files.new.out)) c.drive_files.result c.in_ok-root.ensures.read c.drive_files.ensures.sources)
