@@ -303,7 +303,10 @@ def recipe(words, attributes, scanner):
     parameters = parameters_of(words)
     words.expect(":")
     priors = dependencies_of(words)
-    subsequents = dependencies_of(words) if words.accept("&&") else ()
+    is_followed = words.accept("&&") is not None
+    subsequents = dependencies_of(words) if is_followed else ()
+    if is_followed and not subsequents:
+        raise Unread("nothing behind `&&`")
     words.end()
     body = tuple(tuple(piece if isinstance(piece, str) else whole(piece) for piece in line) for line in scanner.body())
     return Recipe(token.line, attributes, token.text, parameters, priors, subsequents, body)

@@ -35,7 +35,7 @@ fn told_entries(alloc: Global, telling: Telling, entries: &[Entry]) -> Result<St
     }
 }
 
-/// The entries, the output and the answer.
+/// The entries, whether the record is exhausted, the output and the answer.
 fn told_of(
     alloc: Global,
     way: Way<'_>,
@@ -45,9 +45,23 @@ fn told_of(
 ) -> Result<String, AllocError> {
     let answer = answer_text(alloc, way.is_placed, answer)?;
     let mut text = told_entries(alloc, way.telling, host.entries())?;
+    if host.exhausted() {
+        text.push_str("exhausted; ")?;
+    }
     text.push_str(std::str::from_utf8(written).unwrap_or("not text"))?;
     text.push_str(answer.as_str())?;
     Ok(text)
+}
+
+/// The blocks, in bytes, by which what refuses memory sees where the call begins and where it ends.
+const BEGINS: usize = 7_340_033;
+
+const ENDS: usize = 7_340_035;
+
+/// Takes a block of that size and frees it, unused.
+fn mark(alloc: Global, size: usize) {
+    let block: Result<Vec<u8>, AllocError> = Vec::with_capacity(alloc, size);
+    drop(block);
 }
 
 /// What comes of the call with this output.
@@ -58,7 +72,8 @@ pub(crate) fn drive_into<'g, O: Out>(
     host: &mut Recorded<Scripted<'_>>,
     out: &mut O,
 ) -> Result<Outcome, Fault<'g>> {
-    drive(
+    mark(alloc, BEGINS);
+    let answer = drive(
         alloc,
         &given.config,
         &Unchanged,
@@ -68,7 +83,9 @@ pub(crate) fn drive_into<'g, O: Out>(
         way.action,
         host,
         out,
-    )
+    );
+    mark(alloc, ENDS);
+    answer
 }
 
 /// A host that answers in this way.

@@ -7,7 +7,7 @@ use just_run::{
 use justfile_syntax::{Sequence, Text};
 use std::alloc::{AllocError, Global};
 
-/// How a question or event fails: a command that ends with code 3 or by signal 2, or that doesn't
+/// How a question or event fails: a command that ends with code 3 or by signal 9, or that doesn't
 /// start; and what only a question can come to.
 #[derive(Clone, Copy, Debug)]
 pub enum Failing {
@@ -24,7 +24,7 @@ impl Failing {
     fn fault(self, alloc: Global) -> HostFault {
         match self {
             Failing::Code => HostFault::Code(3),
-            Failing::Signal => HostFault::Signal(2),
+            Failing::Signal => HostFault::Signal(9),
             Failing::NotStarted => HostFault::NotStarted,
             Failing::NotUnicode => HostFault::NotUnicode(text(alloc)),
             Failing::Io => HostFault::Io(text(alloc)),
@@ -36,7 +36,7 @@ impl Failing {
     fn status(self) -> Status {
         match self {
             Failing::Code => Status::Code(3),
-            Failing::Signal => Status::Signal(2),
+            Failing::Signal => Status::Signal(9),
             _ => Status::NotStarted,
         }
     }
@@ -52,7 +52,7 @@ impl Failing {
 
 /// The text of a fault, which is empty where memory is refused.
 fn text(alloc: Global) -> Text {
-    match Text::from_text(alloc, "torn") {
+    match Text::from_text(alloc, "x") {
         Ok(text) => text,
         Err(_) => Text::from_string(String::new(alloc)),
     }
