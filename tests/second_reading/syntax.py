@@ -441,7 +441,7 @@ def items_of(text):
     scanner = Scanner(text)
     items = []
     while not scanner.is_over():
-        if BLANK_LINE.match(text, scanner.at):
+        if BLANK_LINE.match(scanner.text, scanner.at):
             scanner.take(BLANK_LINE)
         else:
             items.append(item_of(scanner))

@@ -37,12 +37,14 @@ class Token:
 
 
 class Scanner:
-    """A text, of which tokens and lines are taken from the front."""
+    """A text, of which tokens and lines are taken from the front.
+
+    A carriage return before a line end belongs to it; elsewhere only strings, commands, comments and texts of bodies
+    have one.
+    """
 
     def __init__(self, text):
-        if "\r" in text:
-            raise Unread("a carriage return")
-        self.text = text
+        self.text = text.replace("\r\n", "\n")
         self.at = 0
 
     def is_over(self):
@@ -157,7 +159,7 @@ class Scanner:
 
 def unindented(text):
     """The text without the indentation that its lines share (tree_expressions, Indentation: `unindented`)."""
-    lines = text.splitlines(keepends=True)
+    lines = re.findall(r"[^\n]*\n|[^\n]+", text)
     runs = [line[:len(line) - len(line.lstrip(" \t"))] for line in lines if line.strip(" \t\n")]
     shared = min(runs, key=len, default="")
     while not all(run.startswith(shared) for run in runs):
